@@ -1,0 +1,7 @@
+pub mod Number
+pub mod Fault
+pub mod Value
+pub mod Line
+pub mod Format
+pub mod Reader
+pub mod Writer

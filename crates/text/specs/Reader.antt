@@ -1,0 +1,219 @@
+-- What the reader answers to any list of bytes.
+use Prim.Native.Nat.{ℕ, zero, suc, _+_, _-_, _^_}
+use mathlib.Core.List.{List, [], _∷_, _++_}
+use mathlib.Core.Option.{Option, none, some}
+use mathlib.Core.Bool.{Bool, true, false, _&&_, _||_, not}
+use lib.Dec.{ltb, leb, eqb}
+use lib.ListN.{length, getD, set, take, replicate}
+use Rattle.table.specs.Mask.{pick, bit, members}
+use Rattle.table.specs.Table.{noSlot, noTask, noSem, noQueue, noProc, noSlots, noTable, taskAt, queueAt, procAt, nodeIn, nodeAt, removed, argAt, argList, arcs, isAbsent}
+use Rattle.table.specs.declared.Args.{Args}
+use Rattle.table.specs.declared.Node.{Node}
+use Rattle.table.specs.declared.Node.the-variants.{Absent, Start, Set, Test, Read, Call, Wait, Signal, Send, Recv, Assert, Out, Return}
+use Rattle.table.specs.declared.Slot.{Slot}
+use Rattle.table.specs.declared.Task.{Task}
+use Rattle.table.specs.declared.Sem.{Sem}
+use Rattle.table.specs.declared.Queue.{Queue}
+use Rattle.table.specs.declared.Proc.{Proc}
+use Rattle.table.specs.declared.Table.{Table}
+use Rattle.text.specs.declared.Reading.{Reading}
+use Rattle.text.specs.Number.{bytes}
+use Rattle.text.specs.Fault.{Fault, long, ended, arguments, closing, number}
+use Rattle.text.specs.Value.{unless, orElse}
+use Rattle.text.specs.Line.{Line, Vals, Outcome, took, refused, Parser, onto, _>>=_, give, After, at, differs, broken, after, line}
+use Rattle.text.specs.Format.{headLine, countsLine, taskLine, semLine, queueLine, procLine, Scope, nodeLine, fields, setOf, nodeOf}
+
+-- ---- "Reader, lines in order, each left to right": faults 2 to 5
+
+-- so many lines, or groups of lines, counted up from i, each put into its place of l
+unfoldable pub rows : {A : Type 0} → (ℕ → Parser A) → ℕ → ℕ → List A → Parser (List A)
+rows f zero i l = give l
+rows f (suc n) i l = f i >>= λ a. rows f n (suc i) (set l i a)
+
+abbrev pub taskRow : ℕ → ℕ → Parser Task
+taskRow procs i = line (taskLine procs i) >>= λ w. give (record { top = w .1 .0 })
+
+abbrev pub semRow : ℕ → Parser Sem
+semRow i = line (semLine i) >>= λ w. give (record { count = w .1 .0 })
+
+abbrev pub queueOf : (closed : Bool) (i : ℕ) → Vals (queueLine closed i) → Queue
+queueOf false i w = record { cap = w .1 .0; blank = false }
+queueOf true i w = record { cap = w .1 .0; blank = w .1 .1 .0 }
+
+abbrev pub queueRow : Bool → ℕ → Parser Queue
+queueRow closed i = line (queueLine closed i) >>= λ w. give (queueOf closed i w)
+
+-- a node line's number and node
+pub record Numbered : Type 0 where
+  pub at : ℕ
+  pub node : Node
+
+abbrev pub nodeRow : Scope → ℕ → ℕ → Parser Numbered
+nodeRow c lo n = line (nodeLine c lo n) >>= λ w. give (record { at = w .0; node = nodeOf c (w .1 .0) (w .1 .1) })
+
+abbrev pub slotOf : Numbered → Slot
+slotOf x = record { node = x .node }
+
+-- open: n lines whose numbers count up from 0
+abbrev pub openNodes : Scope → Parser (List Slot)
+openNodes c = rows (λ j. nodeRow c j (suc j) >>= λ x. give (slotOf x)) (c .nodes) 0 noSlots
+
+abbrev pub ifKey : {A : Type 0} → After → Parser A → Parser A → Parser A
+ifKey (at r) p q = p
+ifKey differs p q = q
+ifKey broken p q = q
+
+-- "each further line beginning `node=` belongs to the procedure before it"; numbers "ascend strictly and stay below n".
+-- So n is enough for the first argument, the count of lines looked at
+unfoldable pub furtherNodes : Scope → ℕ → ℕ → List Slot → Parser (List Slot)
+furtherNodes c zero last l = give l
+furtherNodes c (suc f) last l =
+    λ k s. ifKey (after (bytes "node=") s) (nodeRow c (suc last) (c .nodes) >>= λ x. furtherNodes c f (x .at) (set l (x .at) (slotOf x))) (give l) k s
+
+-- closed: the first line's number is 0
+abbrev pub closedNodes : Scope → Parser (List Slot)
+closedNodes c = nodeRow c 0 1 >>= λ x. furtherNodes c (c .nodes) 0 (set noSlots 0 (slotOf x))
+
+abbrev pub nodesOf : Scope → Bool → Parser (List Slot)
+nodesOf c false = openNodes c
+nodesOf c true = closedNodes c
+
+abbrev pub droppedBy : (closed : Bool) (i : ℕ) → Vals (procLine closed i) → ℕ
+droppedBy false i w = 0
+droppedBy true i w = setOf (w .1 .1 .1 .1 .0)
+
+abbrev pub procOf : (closed : Bool) (i : ℕ) → Vals (procLine closed i) → List Slot → Proc
+procOf closed i w l = record { params = w .1 .0; vars = w .1 .1 .0; nodes = w .1 .1 .1 .0; drop = droppedBy closed i w; slots = l }
+
+abbrev pub scopeOf : (closed : Bool) (procs sems queues i : ℕ) → Vals (procLine closed i) → Scope
+scopeOf closed procs sems queues i w = record { closed = closed; procs = procs; sems = sems; queues = queues; vars = w .1 .1 .0; nodes = w .1 .1 .1 .0 }
+
+-- a procedure's line and its node lines
+abbrev pub procRow : Bool → ℕ → ℕ → ℕ → ℕ → Parser Proc
+procRow closed procs sems queues i =
+    line (procLine closed i) >>= λ w.
+    nodesOf (scopeOf closed procs sems queues i w) closed >>= λ l.
+    give (procOf closed i w l)
+
+abbrev pub atEnd : Parser (Unit {0})
+atEnd l [] = took tt l []
+atEnd l (b ∷ s) = refused ended l
+
+-- the lines behind the first two
+unfoldable pub body : (trap : ℕ) (closed : Bool) (tasks procs sems queues : ℕ) → Parser Table
+body trap closed tasks procs sems queues =
+    rows (taskRow procs) tasks 0 (replicate 4 noTask) >>= λ ts.
+    rows semRow sems 0 (replicate 8 noSem) >>= λ ss.
+    rows (queueRow closed) queues 0 (replicate 8 noQueue) >>= λ qs.
+    rows (procRow closed procs sems queues) procs 0 (replicate 8 noProc) >>= λ ps.
+    atEnd >>= λ u.
+    give (record { trap = trap; closed = closed; tasks = tasks; procs = procs; sems = sems; queues = queues; task = ts; sem = ss; queue = qs; proc = ps })
+
+unfoldable pub table : Parser Table
+table =
+    line headLine >>= λ h.
+    line countsLine >>= λ c.
+    body (h .0) (h .1 .0) (c .0) (c .1 .0) (c .1 .1 .0) (c .1 .1 .1 .0)
+
+-- ---- "Reader, after all lines, by line": faults 6 and 7
+
+-- all of the n numbers from 0 pass the test
+unfoldable pub allBelow : ℕ → (ℕ → Bool) → Bool
+allBelow zero f = true
+allBelow (suc n) f = f n && allBelow n f
+
+unfoldable pub allPresent : Proc → List ℕ → Bool
+allPresent q [] = true
+allPresent q (m ∷ ms) = not (isAbsent (nodeIn q m)) && allPresent q ms
+
+abbrev pub isRemoved : ℕ → Bool
+isRemoved v = eqb v removed
+
+abbrev pub iff : Bool → Bool → Bool
+iff true b = b
+iff false b = not b
+
+-- "argument count differs from the callee's"
+unfoldable pub countRight : Table → Node → Bool
+countRight t Absent = true
+countRight t (Start to) = true
+countRight t (Set v o a b to) = true
+countRight t (Test o a b y n) = true
+countRight t (Read v to) = true
+countRight t (Call q xs to) = eqb (xs .len) (procAt t q .params)
+countRight t (Wait s to) = true
+countRight t (Signal s to) = true
+countRight t (Send q v to) = true
+countRight t (Recv q v to) = true
+countRight t (Assert v to) = true
+countRight t (Out v to) = true
+countRight t Return = true
+
+-- `-` "in `send` and `recv` if and only if the queue is blank, in `args` if and only if the parameter is dropped, in `assert` and `out` freely"
+unfoldable pub removedRight : Table → Node → Bool
+removedRight t Absent = true
+removedRight t (Start to) = true
+removedRight t (Set v o a b to) = true
+removedRight t (Test o a b y n) = true
+removedRight t (Read v to) = true
+removedRight t (Call q xs to) = allBelow (xs .len) (λ i. iff (isRemoved (argAt xs i)) (bit i (procAt t q .drop)))
+removedRight t (Wait s to) = true
+removedRight t (Signal s to) = true
+removedRight t (Send q v to) = iff (isRemoved v) (queueAt t q .blank)
+removedRight t (Recv q v to) = iff (isRemoved v) (queueAt t q .blank)
+removedRight t (Assert v to) = true
+removedRight t (Out v to) = true
+removedRight t Return = true
+
+-- a node line of procedure q
+abbrev pub nodeFault : Table → Proc → Node → Option Fault
+nodeFault t q x = orElse (unless (countRight t x) arguments) (unless (not (t .closed) || (allPresent q (arcs x) && removedRight t x)) closing)
+
+-- "A task's top procedure there drops all parameters"
+abbrev pub taskFault : Table → ℕ → Option Fault
+taskFault t i = let q = procAt t (taskAt t i .top) in unless (not (t .closed) || allBelow (q .params) (λ j. bit j (q .drop))) closing
+
+-- what each of n things says, from i on, one list after another
+unfoldable pub concat : {A : Type 0} → (ℕ → List A) → ℕ → ℕ → List A
+concat f zero i = []
+concat f (suc n) i = f i ++ concat f n (suc i)
+
+abbrev pub nodeLate : Table → Proc → Node → List (Option Fault)
+nodeLate t q x = pick (isAbsent x) [] (nodeFault t q x ∷ [])
+
+abbrev pub procLate : Table → ℕ → List (Option Fault)
+procLate t p = none ∷ concat (λ n. nodeLate t (procAt t p) (nodeAt t p n)) (procAt t p .nodes) 0
+
+-- the late fault of each line, or none, from line 1 on
+unfoldable pub late : Table → List (Option Fault)
+late t =
+    none ∷ none ∷ (concat (λ i. taskFault t i ∷ []) (t .tasks) 0
+    ++ (replicate (t .sems) none ++ (replicate (t .queues) none ++ concat (procLate t) (t .procs) 0)))
+
+-- ---- the answer
+
+pub data Result : Type 0 where
+  good : Table → Result
+  bad : Fault → ℕ → Result
+
+-- the first fault of some lines, counted from l, or the table
+unfoldable pub firstLate : Table → ℕ → List (Option Fault) → Result
+firstLate t l [] = good t
+firstLate t l (none ∷ fs) = firstLate t (suc l) fs
+firstLate t l (some f ∷ fs) = bad f l
+
+abbrev pub resultOf : Outcome Table → Result
+resultOf (took t l s) = firstLate t 1 (late t)
+resultOf (refused f l) = bad f l
+
+-- what the lines of a text say, or the first of their faults 2 to 7
+unfoldable pub readLines : List ℕ → Result
+readLines s = resultOf (table 1 s)
+
+abbrev pub reading : Result → Reading
+reading (good t) = record { number = 0; line = 0; table = t }
+reading (bad f l) = record { number = number f; line = l; table = noTable }
+
+-- "Reader, first: text over 65,536 bytes"; "1 gives line 0"
+unfoldable pub read : List ℕ → Reading
+read s = elim (ltb 65536 (length s)) [ true ↦ reading (bad long 0) | false ↦ reading (readLines s) ]

@@ -1,0 +1,306 @@
+-- The values that stand behind the keys: for each kind of value how one is spelt, what bytes say, and which fault it has.
+use Prim.Native.Nat.{ℕ, zero, suc, _+_}
+use mathlib.Core.List.{List, [], _∷_, _++_, map}
+use mathlib.Core.Option.{Option, none, some}
+use mathlib.Core.Bool.{Bool, true, false, _&&_, _||_, not}
+use lib.Dec.{ltb, leb, eqb}
+use lib.IntN.{ℤ, pos, negsuc}
+use Rattle.table.specs.Mask.{pick}
+use Rattle.table.specs.declared.Operand.{Operand}
+use Rattle.table.specs.declared.Operand.the-variants.{Var, Const}
+use Rattle.table.specs.declared.Op.{Op}
+use Rattle.table.specs.declared.Op.the-variants.{Add, Sub, And, Or, Xor, Shr, Lt, Eq}
+use Rattle.text.specs.Number.{bytes, digits, spelt, value}
+use Rattle.text.specs.Fault.{Fault, form, misspelt, range, index, reference}
+
+-- the kinds of nodes, by their words
+pub data Sort : Type 0 where
+  start set test read call wait signal send recv assert out return : Sort
+
+pub data Kind : Type 0 where
+  -- a number at least the first and below the second; outside, the fault
+  number : ℕ → ℕ → Fault → Kind
+  -- one of two words: the first for false, the second for true
+  choice : List ℕ → List ℕ → Kind
+  -- the kind of node j, in closed form or not
+  sort : Bool → ℕ → Kind
+  -- an operation; in a test or not
+  operation : Bool → Kind
+  -- an operand, with so many variables declared
+  operand : ℕ → Kind
+  -- a variable, with so many declared; in closed form it may be `-`
+  variable : Bool → ℕ → Kind
+  -- a list that ascends strictly, of numbers at least the first and below the second; of one number or of any count
+  ascending : Bool → ℕ → ℕ → Kind
+  -- a call's variables, with so many declared; in closed form each may be `-`
+  arguments : Bool → ℕ → Kind
+
+-- the values of a kind; a variable that is `none` is `-`
+abbrev pub Of : Kind → Type 0
+Of (number lo n f) = ℕ
+Of (choice a b) = Bool
+Of (sort c j) = Sort
+Of (operation t) = Op
+Of (operand n) = Operand
+Of (variable c n) = Option ℕ
+Of (ascending one lo n) = List ℕ
+Of (arguments c n) = List (Option ℕ)
+
+-- a number from lo to hi, else 3; the index i, else 4; a reference to one of n, else 5
+abbrev pub from : ℕ → ℕ → Kind
+from lo hi = number lo (hi + 1) range
+
+abbrev pub due : ℕ → Kind
+due i = number i (i + 1) index
+
+abbrev pub oneOf : ℕ → Kind
+oneOf n = number 0 n reference
+
+-- ---- words
+
+abbrev pub sortWord : Sort → List ℕ
+sortWord start = bytes "start"
+sortWord set = bytes "set"
+sortWord test = bytes "test"
+sortWord read = bytes "read"
+sortWord call = bytes "call"
+sortWord wait = bytes "wait"
+sortWord signal = bytes "signal"
+sortWord send = bytes "send"
+sortWord recv = bytes "recv"
+sortWord assert = bytes "assert"
+sortWord out = bytes "out"
+sortWord return = bytes "return"
+
+abbrev pub sorts : List Sort
+sorts = start ∷ set ∷ test ∷ read ∷ call ∷ wait ∷ signal ∷ send ∷ recv ∷ assert ∷ out ∷ return ∷ []
+
+abbrev pub opWord : Op → List ℕ
+opWord Add = bytes "add"
+opWord Sub = bytes "sub"
+opWord And = bytes "and"
+opWord Or = bytes "or"
+opWord Xor = bytes "xor"
+opWord Shr = bytes "shr"
+opWord Lt = bytes "lt"
+opWord Eq = bytes "eq"
+
+abbrev pub ops : List Op
+ops = Add ∷ Sub ∷ And ∷ Or ∷ Xor ∷ Shr ∷ Lt ∷ Eq ∷ []
+
+unfoldable pub same : List ℕ → List ℕ → Bool
+same [] [] = true
+same [] (y ∷ ys) = false
+same (x ∷ xs) [] = false
+same (x ∷ xs) (y ∷ ys) = eqb x y && same xs ys
+
+-- the first of some things whose word the bytes are
+unfoldable pub named : {A : Type 0} → (A → List ℕ) → List A → List ℕ → Option A
+named word [] s = none
+named word (a ∷ as′) s = pick (same (word a) s) (some a) (named word as′ s)
+
+abbrev pub chosen : List ℕ → List ℕ → Bool → List ℕ
+chosen a b false = a
+chosen a b true = b
+
+-- ---- numbers and lists
+
+abbrev pub numeral : List ℕ → Option ℕ
+numeral s = pick (spelt s) (some (value s)) none
+
+-- `-` or a number
+abbrev pub spellVariable : Option ℕ → List ℕ
+spellVariable none = bytes "-"
+spellVariable (some v) = digits v
+
+abbrev pub asVariable : Option ℕ → Option (Option ℕ)
+asVariable none = none
+asVariable (some v) = some (some v)
+
+abbrev pub saidVariable : List ℕ → Option (Option ℕ)
+saidVariable s = pick (same (bytes "-") s) (some none) (asVariable (numeral s))
+
+-- "an operand is a variable or a constant: `v` with its number, or a signed 32-bit number"; "`-0` is misspelt"
+abbrev pub spellOperand : Operand → List ℕ
+spellOperand (Var v) = bytes "v" ++ digits v
+spellOperand (Const (pos n)) = digits n
+spellOperand (Const (negsuc n)) = bytes "-" ++ digits (suc n)
+
+abbrev pub asVar : Option ℕ → Option Operand
+asVar none = none
+asVar (some v) = some (Var v)
+
+abbrev pub asConst : Option ℕ → Option Operand
+asConst none = none
+asConst (some n) = some (Const (pos n))
+
+abbrev pub asNegative : Option ℕ → Option Operand
+asNegative none = none
+asNegative (some zero) = none
+asNegative (some (suc n)) = some (Const (negsuc n))
+
+unfoldable pub saidOperand : List ℕ → Option Operand
+saidOperand [] = none
+saidOperand (b ∷ s) = pick (eqb b 118) (asVar (numeral s)) (pick (eqb b 45) (asNegative (numeral s)) (asConst (numeral (b ∷ s))))
+
+-- "Lists are separated by commas; an empty list is `none`"
+unfoldable pub commas : List (List ℕ) → List ℕ
+commas [] = []
+commas (x ∷ []) = x
+commas (x ∷ y ∷ xs) = x ++ (44 ∷ commas (y ∷ xs))
+
+abbrev pub spellList : List (List ℕ) → List ℕ
+spellList [] = bytes "none"
+spellList (x ∷ xs) = commas (x ∷ xs)
+
+abbrev pub before : ℕ → List (List ℕ) → List (List ℕ)
+before b [] = (b ∷ []) ∷ []
+before b (x ∷ xs) = (b ∷ x) ∷ xs
+
+-- what stands between the commas
+unfoldable pub split : List ℕ → List (List ℕ)
+split [] = [] ∷ []
+split (b ∷ s) = pick (eqb b 44) ([] ∷ split s) (before b (split s))
+
+abbrev pub followed : {A : Type 0} → Option A → Option (List A) → Option (List A)
+followed none xs = none
+followed (some x) none = none
+followed (some x) (some xs) = some (x ∷ xs)
+
+-- what each of some bytes say, where all say something
+unfoldable pub each : {A : Type 0} → (List ℕ → Option A) → List (List ℕ) → Option (List A)
+each f [] = some []
+each f (s ∷ ss) = followed (f s) (each f ss)
+
+abbrev pub saidList : {A : Type 0} → (List ℕ → Option A) → List ℕ → Option (List A)
+saidList f s = pick (same (bytes "none") s) (some []) (each f (split s))
+
+-- ---- spelling, and what bytes say
+
+unfoldable pub spell : (k : Kind) → Of k → List ℕ
+spell (number lo n f) v = digits v
+spell (choice a b) v = chosen a b v
+spell (sort c j) v = sortWord v
+spell (operation t) v = opWord v
+spell (operand n) v = spellOperand v
+spell (variable c n) v = spellVariable v
+spell (ascending one lo n) v = spellList (map digits v)
+spell (arguments c n) v = spellList (map spellVariable v)
+
+unfoldable pub said : (k : Kind) → List ℕ → Option (Of k)
+said (number lo n f) s = numeral s
+said (choice a b) s = named (chosen a b) (false ∷ true ∷ []) s
+said (sort c j) s = named sortWord sorts s
+said (operation t) s = named opWord ops s
+said (operand n) s = saidOperand s
+said (variable c n) s = saidVariable s
+said (ascending one lo n) s = saidList numeral s
+said (arguments c n) s = saidList saidVariable s
+
+-- the fault of bytes that say nothing of a kind
+unfoldable pub unsaid : Kind → Fault
+unsaid (number lo n f) = misspelt
+unsaid (choice a b) = form
+unsaid (sort c j) = form
+unsaid (operation t) = form
+unsaid (operand n) = misspelt
+unsaid (variable c n) = misspelt
+unsaid (ascending one lo n) = misspelt
+unsaid (arguments c n) = misspelt
+
+-- ---- faults of a value
+
+abbrev pub unless : Bool → Fault → Option Fault
+unless true f = none
+unless false f = some f
+
+-- the first fault of two
+abbrev pub orElse : Option Fault → Option Fault → Option Fault
+orElse (some f) g = some f
+orElse none g = g
+
+-- a closed table has no `read`; node 0 is the only `start`
+abbrev pub sortFault : Bool → ℕ → Sort → Option Fault
+sortFault c zero start = none
+sortFault c (suc j) start = some index
+sortFault c zero set = some index
+sortFault c (suc j) set = none
+sortFault c zero test = some index
+sortFault c (suc j) test = none
+sortFault false zero read = some index
+sortFault false (suc j) read = none
+sortFault true j read = some form
+sortFault c zero call = some index
+sortFault c (suc j) call = none
+sortFault c zero wait = some index
+sortFault c (suc j) wait = none
+sortFault c zero signal = some index
+sortFault c (suc j) signal = none
+sortFault c zero send = some index
+sortFault c (suc j) send = none
+sortFault c zero recv = some index
+sortFault c (suc j) recv = none
+sortFault c zero assert = some index
+sortFault c (suc j) assert = none
+sortFault c zero out = some index
+sortFault c (suc j) out = none
+sortFault c zero return = some index
+sortFault c (suc j) return = none
+
+-- "A test has lt or eq"
+abbrev pub opFault : Bool → Op → Option Fault
+opFault false o = none
+opFault true Add = some form
+opFault true Sub = some form
+opFault true And = some form
+opFault true Or = some form
+opFault true Xor = some form
+opFault true Shr = some form
+opFault true Lt = none
+opFault true Eq = none
+
+-- a constant lies in the signed 32-bit range
+abbrev pub operandFault : ℕ → Operand → Option Fault
+operandFault n (Var v) = unless (ltb v n) reference
+operandFault n (Const (pos x)) = unless (leb x 2147483647) range
+operandFault n (Const (negsuc x)) = unless (leb x 2147483647) range
+
+abbrev pub variableFault : Bool → ℕ → Option ℕ → Option Fault
+variableFault c n none = unless c misspelt
+variableFault c n (some v) = unless (ltb v n) reference
+
+-- "target and drop lists ascend strictly"
+unfoldable pub ascends : List ℕ → Bool
+ascends [] = true
+ascends (x ∷ []) = true
+ascends (x ∷ y ∷ xs) = ltb x y && ascends (y ∷ xs)
+
+unfoldable pub within : ℕ → ℕ → List ℕ → Bool
+within lo n [] = true
+within lo n (x ∷ xs) = leb lo x && ltb x n && within lo n xs
+
+abbrev pub isOne : List ℕ → Bool
+isOne [] = false
+isOne (x ∷ []) = true
+isOne (x ∷ y ∷ xs) = false
+
+unfoldable pub noneRemoved : List (Option ℕ) → Bool
+noneRemoved [] = true
+noneRemoved (none ∷ xs) = false
+noneRemoved (some v ∷ xs) = noneRemoved xs
+
+unfoldable pub allDeclared : ℕ → List (Option ℕ) → Bool
+allDeclared n [] = true
+allDeclared n (none ∷ xs) = allDeclared n xs
+allDeclared n (some v ∷ xs) = ltb v n && allDeclared n xs
+
+-- a whole list is one value: its spelling, its order and its count come before any item's range
+unfoldable pub check : (k : Kind) → Of k → Option Fault
+check (number lo n f) v = unless (leb lo v && ltb v n) f
+check (choice a b) v = none
+check (sort c j) v = sortFault c j v
+check (operation t) v = opFault t v
+check (operand n) v = operandFault n v
+check (variable c n) v = variableFault c n v
+check (ascending one lo n) v = orElse (unless (ascends v && (not one || isOne v)) misspelt) (unless (within lo n v) reference)
+check (arguments c n) v = orElse (unless (c || noneRemoved v) misspelt) (unless (allDeclared n v) reference)
