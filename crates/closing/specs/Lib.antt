@@ -1,0 +1,6 @@
+pub mod Reach
+pub mod ReachLaws
+pub mod Dirty
+pub mod Closing
+pub mod Close
+pub mod Program
