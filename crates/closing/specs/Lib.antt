@@ -4,3 +4,5 @@ pub mod Dirty
 pub mod Closing
 pub mod Close
 pub mod Program
+pub mod Computing
+pub mod Examples

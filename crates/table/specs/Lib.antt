@@ -1,3 +1,4 @@
 pub mod Mask
 pub mod Values
 pub mod Table
+pub mod Computing

@@ -5,3 +5,4 @@ pub mod Line
 pub mod Format
 pub mod Reader
 pub mod Writer
+pub mod Computing
