@@ -2,5 +2,8 @@ pub mod Reach
 pub mod ReachLaws
 pub mod Dirty
 pub mod Closing
+pub mod ListLaws
+pub mod DirtyLaws
+pub mod KeptLaws
 pub mod Close
 pub mod Program
