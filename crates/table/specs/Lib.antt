@@ -1,3 +1,4 @@
 pub mod Mask
+pub mod MaskLaws
 pub mod Values
 pub mod Table
