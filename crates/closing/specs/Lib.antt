@@ -6,4 +6,6 @@ pub mod ListLaws
 pub mod DirtyLaws
 pub mod KeptLaws
 pub mod Close
+pub mod ArcLaws
+pub mod CloseLaws
 pub mod Program
