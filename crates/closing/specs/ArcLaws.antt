@@ -20,7 +20,7 @@ use Rattle.closing.specs.Close.{unkeptArcs, keptAmong, newArc}
 use Rattle.closing.specs.ListLaws.{All, all-nil, all-map, all-each, in-each, in-upTo}
 use Rattle.closing.specs.KeptLaws.{unkept-is}
 
--- a target has a place in a mask
+-- a member has a place in a mask
 member-below : {k : ℕ} (m : ℕ) → List·Memᴰ k (members m) → k < 32
 member-below {k} m d = members-is k m .0 d .1
 
@@ -55,6 +55,7 @@ module _ (t : Table) (p : ℕ) where
   leads-reach ms k (target d) = source d
   leads-reach ms k (through n u d l) = edge (arcs-in n k u d) (leads-reach ms n l)
 
+  -- every target has a place in a mask, so what an arc leads to has one
   leads-below : (m k : ℕ) → Leads t p (members m) k → k < 32
   leads-below m k (target d) = member-below m d
   leads-below m k (through n u d l) = go (List·Memᴰ·append-cases (members (arcTo (nodeAt t p n))) d)
@@ -63,6 +64,7 @@ module _ (t : Table) (p : ℕ) where
       go (inl e) = member-below _ e
       go (inr e) = member-below _ e
 
+  -- the new arc of an arc m
   pub arc-is : (m k : ℕ) → (bit k (newArc t (dirty t) p (unkeptArcs t (dirty t) p) m) ≡ true) ↔ (Leads t p (members m) k × (kept (dirty t) p k (nodeAt t p k) ≡ true))
   unfolding newArc keptAmong
   arc-is m k = (out, λ h. bit-maskOf 32 k passes (leads-below m k (h .0)) ∙ rw (closure-complete eqb eqb-true (λ x. eq-eqb x x refl) (members m) es k (leads-reach (members m) k (h .0)), h .1))

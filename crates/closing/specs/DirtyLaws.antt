@@ -56,6 +56,7 @@ setsVar-other (some w) v h = ne-eqb w v (λ e. h (ap some e))
 module _ (t : Table) where
   -- ---- every edge is a rule
 
+  -- an edge takes what is dirty to what is dirty
   abbrev Keeps : Edge → Type 0
   Keeps e = Dirty t (e .0) → Dirty t (e .1)
 
@@ -69,14 +70,17 @@ module _ (t : Table) where
   use-on s a (from-node m j l e b c d) = from-node m j l e b (clear-on c s a) d
   use-on s a (from-entry l c d) = from-entry l (clear-on c s a) d
 
+  -- the arguments us of a call, which begin at parameter k
   passed-sound : (p n q k to : ℕ) (xs : Args) (us : List ℕ) → nodeAt t p n ≡ Call q xs to → ((i : ℕ) → getElem? (argList xs) (k + i) ≡ getElem? us i) → All Keeps (passedTo t p n q k us)
   unfolding passedTo
   passed-sound p n q k to xs [] e h = all-nil Keeps
-  passed-sound p n q k to xs (u ∷ us) e h = all-append Keeps (pick (ltb k (procAt t q .params)) ((useAt p n u, dropped q k) ∷ []) []) (passedTo t p n q (suc k) us)
-      (cases (ltb k (procAt t q .params))
-          (λ l. rw l (all-cons Keeps (useAt p n u, dropped q k) [] (λ d. passed p n u to xs (ltb-true k _ l) e (rw add-zero at (h zero)) d) (all-nil Keeps)))
-          (λ l. rw l (all-nil Keeps)))
+  passed-sound p n q k to xs (u ∷ us) e h = all-append Keeps (pick (ltb k (procAt t q .params)) ((useAt p n u, dropped q k) ∷ []) []) (passedTo t p n q (suc k) us) first
       (passed-sound p n q (suc k) to xs us e (λ i. rw suc-add (rw (← add-suc k i) (h (suc i)))))
+    where
+      first : All Keeps (pick (ltb k (procAt t q .params)) ((useAt p n u, dropped q k) ∷ []) [])
+      first = cases (ltb k (procAt t q .params))
+          (λ l. rw l (all-cons Keeps (useAt p n u, dropped q k) [] (λ d. passed p n u to xs (ltb-true k _ l) e (rw add-zero at (h zero)) d) (all-nil Keeps)))
+          (λ l. rw l (all-nil Keeps))
 
   node-sound : (p n : ℕ) (x : Node) → nodeAt t p n ≡ x → All Keeps (nodeEdges t p n x)
   unfolding nodeEdges
@@ -107,13 +111,14 @@ module _ (t : Table) where
       (λ k. rw (k, alongEdges) (all-nil Keeps))
       (λ k. rw (k, alongEdges) (all-map Keeps (λ m. (useAt p n v, useAt p m v)) (arcs (nodeAt t p n)) (λ m j d. use-on (setsVar-false (sets (nodeAt t p n)) v k) j d)))
 
+  path-sound : (p n : ℕ) → All Keeps (pathEdges t p n)
+  unfolding pathEdges
+  path-sound p n = all-append Keeps _ _ (after-sound p n (sets (nodeAt t p n)) refl) (all-each Keeps _ _ (λ v _. along-sound p n v))
+
   edges-sound : All Keeps (edges t)
-  unfolding edges overNodes pathEdges entryEdges
+  unfolding edges overNodes entryEdges
   edges-sound = all-append Keeps _ _
-      (all-each Keeps _ _ (λ p _. all-each Keeps _ _ (λ n _.
-          all-append Keeps _ _ (node-sound p n (nodeAt t p n) refl)
-          (all-append Keeps _ _ (after-sound p n (sets (nodeAt t p n)) refl)
-          (all-each Keeps _ _ (λ v _. along-sound p n v))))))
+      (all-each Keeps _ _ (λ p _. all-each Keeps _ _ (λ n _. all-append Keeps _ _ (node-sound p n (nodeAt t p n) refl) (path-sound p n))))
       (all-each Keeps _ _ (λ p _. all-map Keeps _ _ (λ i m d. from-entry (upTo-lt (procAt t p .vars) i m) here d)))
 
   read-sound : (p n : ℕ) (x : Node) → nodeAt t p n ≡ x → All (Dirty t) (readSource p n x)
@@ -138,27 +143,34 @@ module _ (t : Table) where
       (all-each (Dirty t) _ _ (λ k m. all-map (Dirty t) _ _ (λ i j. top k (upTo-lt _ i j) (upTo-lt _ k m) refl)))
       (all-each (Dirty t) _ _ (λ p _. all-each (Dirty t) _ _ (λ n _. read-sound p n (nodeAt t p n) refl)))
 
+  -- what is reached is dirty
   reach-dirty : (f : Fact) → Reach (sources t) (edges t) f → Dirty t f
   reach-dirty f (source m) = sources-sound f m
   reach-dirty f (edge {a = g} m r) = edges-sound (g, f) m (reach-dirty g r)
 
+  -- what the computed set holds is dirty
   pub dirty-sound : (f : Fact) → mem same f (dirty t) ≡ true → Dirty t f
   unfolding dirty
   dirty-sound f h = reach-dirty f (closure-sound same same-eq same-refl (sources t) (edges t) f h)
 
   -- ---- every rule is an edge
 
+  -- what a function of the nodes gives at a node that is present, it gives over the table
   in-over : {B : Type 0} (f : ℕ → ℕ → List B) (p n : ℕ) (y : B) → (nodeAt t p n ≡ Absent → f p n ≡ []) → List·Memᴰ y (f p n) → List·Memᴰ y (overNodes t f)
   unfolding overNodes
   in-over f p n y empty m = cases (ltb p (length (t .proc)))
-      (λ k. cases (ltb n (length (procAt t p .slots)))
-          (λ j. in-each _ p y (upTo (length (t .proc))) (in-upTo p _ (ltb-true p _ k)) (in-each (f p) n y (upTo (length (procAt t p .slots))) (in-upTo n _ (ltb-true n _ j)) m))
-          (λ j. gone (ap (λ (x : Slot). x .node) (List·getD-eq-default (procAt t p .slots) noSlot (ltb-false n _ j)))))
+      (λ k. node (ltb-true p _ k))
       (λ k. gone (ap (λ (r : Proc). getD (r .slots) n noSlot .node) (List·getD-eq-default (t .proc) outside (ltb-false p _ k))))
     where
       gone : {C : Type 0} → nodeAt t p n ≡ Absent → C
       gone e = absurd (List·Memᴰ·not-nil (rw (empty e) at m))
 
+      node : p < length (t .proc) → List·Memᴰ y (overNodes t f)
+      node l = cases (ltb n (length (procAt t p .slots)))
+          (λ k. in-each _ p y (upTo (length (t .proc))) (in-upTo p _ l) (in-each (f p) n y (upTo (length (procAt t p .slots))) (in-upTo n _ (ltb-true n _ k)) m))
+          (λ k. gone (ap (λ (x : Slot). x .node) (List·getD-eq-default (procAt t p .slots) noSlot (ltb-false n _ k))))
+
+  -- an absent node has no edges
   path-empty : (p n : ℕ) → nodeAt t p n ≡ Absent → pathEdges t p n ≡ []
   unfolding pathEdges afterEdges sets arcTo arcNo membersFrom bit forEach alongEdges
   path-empty p n e = rw e (none-each (upTo (procAt t p .vars)))
@@ -171,6 +183,7 @@ module _ (t : Table) where
   unfolding nodeEdges
   node-empty p n e = rw (path-empty p n e, e)
 
+  -- the edges of a node, by kind, are among all edges
   in-node : (p n : ℕ) (e : Edge) → List·Memᴰ e (nodeEdges t p n (nodeAt t p n) ++ pathEdges t p n) → List·Memᴰ e (edges t)
   unfolding edges
   in-node p n e m = Memᴰ·append-left _ (in-over (λ p n. nodeEdges t p n (nodeAt t p n) ++ pathEdges t p n) p n e (node-empty p n) m)
@@ -186,24 +199,27 @@ module _ (t : Table) where
   unfolding pathEdges
   in-along p n v e l m = in-node p n e (Memᴰ·append-right (nodeEdges t p n (nodeAt t p n)) (Memᴰ·append-right (afterEdges (procAt t p .vars) p n (sets (nodeAt t p n)) (arcs (nodeAt t p n))) (in-each (alongEdges p n (sets (nodeAt t p n)) (arcs (nodeAt t p n))) v e (upTo (procAt t p .vars)) (in-upTo v _ l) m)))
 
+  -- of the arguments us, which begin at parameter k, the one for parameter k + i
   in-passed : (p n q k i u : ℕ) (us : List ℕ) → k + i < procAt t q .params → getElem? us i ≡ some u → List·Memᴰ (useAt p n u, dropped q (k + i)) (passedTo t p n q k us)
   unfolding passedTo
   in-passed p n q k i u [] l e = let z : _≡_ {A = ℕ} 0 1 = cc in absurd (omega arith)
   in-passed p n q k zero u (w ∷ us) l e = let z : w ≡ u = cc in rw (z, add-zero, lt-ltb k (procAt t q .params) (omega arith)) (List·Memᴰ·head refl)
   in-passed p n q k (suc i) u (w ∷ us) l e = Memᴰ·append-right (pick (ltb k (procAt t q .params)) ((useAt p n w, dropped q k) ∷ []) []) (rw (add-suc, ← suc-add k i) (in-passed p n q (suc k) i u us (omega arith) e))
 
+  -- past the last procedure there is no variable
   below-procs : (p i : ℕ) → i < procAt t p .vars → p < length (t .proc)
   below-procs p i l = cases (ltb p (length (t .proc)))
       (λ k. ltb-true p _ k)
       (λ k. absurd (omega (arith, rw (List·getD-eq-default (t .proc) outside (ltb-false p _ k)) at l)))
 
-  -- the edges along a clear path
+  -- from a clear path's start to its end by edges
   clear-reach : {p v n m : ℕ} → v < procAt t p .vars → Clear t p v n m → Reach (sources t) (edges t) (useAt p m v) → Reach (sources t) (edges t) (useAt p n v)
   unfolding alongEdges
   clear-reach l here r = r
   clear-reach {p} {v} l (on {m = m} k s a c) r = clear-reach l c
       (edge (in-along p m v (useAt p m v, useAt p k v) l (rw (setsVar-other (sets (nodeAt t p m)) v s, alongEdges) (Memᴰ·map (λ j. (useAt p m v, useAt p j v)) a))) r)
 
+  -- what is dirty is reached
   dirty-reach : (f : Fact) → Dirty t f → Reach (sources t) (edges t) f
   unfolding sources readSource topSource edges nodeEdges entryEdges afterEdges
   dirty-reach f (by-read {p} {n} v to e) = source (Memᴰ·append-right (forEach (upTo (t .tasks)) (topSource t)) (in-over (λ p n. readSource p n (nodeAt t p n)) p n (settingAt p n) (λ k. ap (readSource p n) k) (rw e (List·Memᴰ·head refl))))
@@ -217,11 +233,13 @@ module _ (t : Table) where
   dirty-reach f (passed {q} {i} p n u to xs l e m d) = edge (in-act p n (useAt p n u, dropped q i) (rw (e, ← zero-add i) (in-passed p n q zero i u (argList xs) (rw zero-add l) m))) (dirty-reach (useAt p n u) d)
   dirty-reach f (sent {q} p n v to e d) = edge (in-act p n (useAt p n v, blank q) (rw e (List·Memᴰ·head refl))) (dirty-reach (useAt p n v) d)
 
+  -- what is dirty the computed set holds
   pub dirty-complete : (f : Fact) → Dirty t f → mem same f (dirty t) ≡ true
   unfolding dirty
   dirty-complete f d = closure-complete same same-eq same-refl (sources t) (edges t) f (dirty-reach f d)
 
-  -- ---- so the set decides
+  -- ---- so the set decides what is dirty
+
   pub dirty-is : (f : Fact) → (isDirty (dirty t) f ≡ true) ↔ Dirty t f
   unfolding isDirty
   dirty-is f = (dirty-sound f, dirty-complete f)

@@ -13,6 +13,7 @@ use Rattle.closing.specs.Closing.{dirty, isDirty, anyDirty, keptBy, kept
 use Rattle.closing.specs.DirtyLaws.{dirty-is}
 
 module _ (d : List Fact) (p n : ℕ) where
+  -- one of some uses is dirty: which
   any-out : (us : List ℕ) → anyDirty d p n us ≡ true → (u : ℕ) × List·Memᴰ u us × (isDirty d (useAt p n u) ≡ true)
   unfolding anyDirty
   any-out [] h = absurd (false≢true h)
@@ -20,6 +21,7 @@ module _ (d : List Fact) (p n : ℕ) where
       (λ e. (u, List·Memᴰ·head refl, e))
       (λ e. let r = any-out us (rw e at h) in (r .0, List·Memᴰ·tail (r .1), r .2))
 
+  -- and back
   any-in : (u : ℕ) (us : List ℕ) → List·Memᴰ u us → isDirty d (useAt p n u) ≡ true → anyDirty d p n us ≡ true
   unfolding anyDirty
   any-in u us (List·Memᴰ·head e) h = rw (← e, h)
@@ -27,6 +29,7 @@ module _ (d : List Fact) (p n : ℕ) where
       (λ e. rw e)
       (λ e. rw e (any-in u r m h))
 
+-- a node is not kept in the closed table if and only if it is a `read`, or a `set` or `test` with a dirty use (or absent)
 pub unkept-is : (t : Table) (p n : ℕ) → (kept (dirty t) p n (nodeAt t p n) ≡ false) ↔ Unkept t p n
 unfolding kept
 unkept-is t p n = (out (keeping (nodeAt t p n)) refl, back)

@@ -31,6 +31,7 @@ bit-below k n m l =
 
 -- ---- the mask of a test
 
+-- it has its n places and no more
 pub maskOf-lt : (n : ℕ) (f : ℕ → Bool) → maskOf n f < 2 ^ n
 unfolding maskOf
 maskOf-lt zero f = omega arith
@@ -40,6 +41,7 @@ maskOf-lt (suc n) f = go (f n) (maskOf-lt n f)
     go true l = omega arith
     go false l = omega (arith, pow-pos n)
 
+-- below n it holds what passes,
 pub bit-maskOf : (n k : ℕ) (f : ℕ → Bool) → k < n → bit k (maskOf n f) ≡ f k
 unfolding maskOf
 bit-maskOf zero k f l = absurd (omega arith)
@@ -57,11 +59,13 @@ bit-maskOf (suc n) k f l = go (eqb k n) refl (λ j. bit-maskOf n k f j)
     go true e h = rw (eqb-true k n e) (last (f n))
     go false e h = let j : k < n = omega (arith, eqb-false k n e) in other (f n) j ∙ h j
 
+-- from n on nothing
 pub bit-maskOf-above : (n k : ℕ) (f : ℕ → Bool) → n ≤ k → bit k (maskOf n f) ≡ false
 bit-maskOf-above n k f l = bit-above k (maskOf n f) (lt-of-lt-of-le (maskOf-lt n f) (pow-mono l))
 
 -- ---- the list of the members
 
+-- of the n numbers from j on, those in m are listed, and no others
 from-in : (n j k m : ℕ) → j ≤ k → k < j + n → bit k m ≡ true → List·Memᴰ k (membersFrom n j m)
 unfolding membersFrom
 from-in zero j k m l u h = absurd (omega arith)
@@ -88,5 +92,6 @@ from-out (suc n) j k m d = go (bit j m) refl d (λ d. from-out n (suc j) k m d)
     go true e (List·Memᴰ·tail d) f = up (f d)
     go false e d f = up (f d)
 
+-- a number is listed if and only if it is in the mask and has one of the 32 places
 pub members-is : (k m : ℕ) → List·Memᴰ k (members m) ↔ ((bit k m ≡ true) × (k < 32))
 members-is k m = (from-out 32 0 k m, λ h. from-in 32 0 k m (omega arith) (h .1) (h .0))
