@@ -78,28 +78,30 @@ module _ (t : Table) (d : List Fact) where
   -- ---- the lines: "Node numbers and counts remain"
 
   unfoldable pub closedProc : ℕ → Proc → Proc
-  closedProc p q = record
-    { params = q .params
-    ; vars = q .vars
-    ; nodes = q .nodes
-    ; drop = maskOf (q .params) (λ i. isDirty d (dropped p i))
-    ; slots = mapFrom (closedSlot p (unkeptArcs p)) 0 (q .slots) }
+  closedProc p q = record {
+    params = q .params;
+    vars = q .vars;
+    nodes = q .nodes;
+    drop = maskOf (q .params) (λ i. isDirty d (dropped p i));
+    slots = mapFrom (closedSlot p (unkeptArcs p)) 0 (q .slots);
+  }
 
   abbrev pub closedQueue : ℕ → Queue → Queue
   closedQueue i q = record { cap = q .cap; blank = isDirty d (blank i) }
 
   unfoldable pub closedWith : Table
-  closedWith = record
-    { trap = t .trap
-    ; closed = true
-    ; tasks = t .tasks
-    ; procs = t .procs
-    ; sems = t .sems
-    ; queues = t .queues
-    ; task = t .task
-    ; sem = t .sem
-    ; queue = mapFrom closedQueue 0 (t .queue)
-    ; proc = mapFrom closedProc 0 (t .proc) }
+  closedWith = record {
+    trap = t .trap;
+    closed = true;
+    tasks = t .tasks;
+    procs = t .procs;
+    sems = t .sems;
+    queues = t .queues;
+    task = t .task;
+    sem = t .sem;
+    queue = mapFrom closedQueue 0 (t .queue);
+    proc = mapFrom closedProc 0 (t .proc);
+  }
 
 -- the closed table of an open one
 unfoldable pub closeTable : Table → Table
@@ -118,4 +120,3 @@ answer t (suc n) c = refusal (suc n)
 
 unfoldable pub close : Table → Closing
 close t = answer t (fault t) (t .closed)
-

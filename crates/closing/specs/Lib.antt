@@ -2,7 +2,12 @@ pub mod Reach
 pub mod ReachLaws
 pub mod Dirty
 pub mod Closing
+pub mod ListLaws
+pub mod DirtyLaws
+pub mod KeptLaws
 pub mod Close
+pub mod ArcLaws
+pub mod CloseLaws
 pub mod Program
 pub mod Computing
 pub mod Examples

@@ -110,7 +110,7 @@ module _ {A : Type 0} (same : A → A → Bool) (same-eq : (x y : A) → same x 
   sweeps-closed (suc d) s es e l m h = cases (stuck same s es)
       (λ k. absurd (false≢true (sym (stuck-all s es e k m) ∙ (rw (k, sweeps) at h))))
       (λ k. rw (k, sweeps) (left k (grown-or-rest s es e m)
-          (λ m′. sweeps-closed d (grown same s es) (rest same s es) e (omega (arith, rest-lt s es k)) m′ (rw (k, sweeps) at h))))
+      (λ m′. sweeps-closed d (grown same s es) (rest same s es) e (omega (arith, rest-lt s es k)) m′ (rw (k, sweeps) at h))))
     where
       left : stuck same s es ≡ false → (mem same (e .1) (grown same s es) ≡ true) ⊎ List·Memᴰ e (rest same s es) → (List·Memᴰ e (rest same s es) → mem same (e .1) (sweeps same d (grown same s es) (rest same s es)) ≡ true) → mem same (e .1) (sweeps same d (grown same s es) (rest same s es)) ≡ true
       left k (inl x) f = sweeps-keeps d (grown same s es) (rest same s es) (e .1) x
@@ -123,8 +123,8 @@ module _ {A : Type 0} (same : A → A → Bool) (same-eq : (x y : A) → same x 
     add-sound y s py f x h = cases (mem same y s)
         (λ k. f x (rw (k, add) at h))
         (λ k. cases (same x y)
-            (λ j. rw (same-eq x y j) py)
-            (λ j. f x (rw (j, mem) at (rw (k, add) at h))))
+        (λ j. rw (same-eq x y j) py)
+        (λ j. f x (rw (j, mem) at (rw (k, add) at h))))
 
     grown-sound : (s : List A) (es : List (A × A)) → ((e : A × A) → List·Memᴰ e es → P (e .0) → P (e .1)) → ((x : A) → mem same x s ≡ true → P x) → (x : A) → mem same x (grown same s es) ≡ true → P x
     unfolding grown

@@ -1,4 +1,5 @@
 pub mod Mask
+pub mod MaskLaws
 pub mod Values
 pub mod Table
 pub mod Computing

@@ -39,17 +39,18 @@ noProc = record { params = 0; vars = 0; nodes = 0; drop = 0; slots = noSlots }
 
 -- "a place for one is all 0"
 abbrev pub noTable : Table
-noTable = record
-  { trap = 0
-  ; closed = false
-  ; tasks = 0
-  ; procs = 0
-  ; sems = 0
-  ; queues = 0
-  ; task = replicate 4 noTask
-  ; sem = replicate 8 noSem
-  ; queue = replicate 8 noQueue
-  ; proc = replicate 8 noProc }
+noTable = record {
+  trap = 0;
+  closed = false;
+  tasks = 0;
+  procs = 0;
+  sems = 0;
+  queues = 0;
+  task = replicate 4 noTask;
+  sem = replicate 8 noSem;
+  queue = replicate 8 noQueue;
+  proc = replicate 8 noProc;
+}
 
 -- ---- look-ups; past a list's end stands what is 0
 

@@ -1,0 +1,79 @@
+-- Reading the closed table: each of its places is the closing of the open one's.
+use Prim.Native.Nat.{ℕ, zero, suc, _+_, _<_, _≤_}
+use native.Mathlib.Omega.{arith}
+use native.Mathlib.Nat.{add-zero, zero-add, add-suc, suc-add}
+use mathlib.Core.Path.{_≡_, refl, sym, _∙_, ap}
+use mathlib.Core.List.{List, [], _∷_}
+use lib.ListN.{length, getD}
+use Rattle.table.specs.Mask.{bit, maskOf}
+use Rattle.table.specs.MaskLaws.{bit-maskOf}
+use Rattle.table.specs.Table.{nodeAt, procAt, queueAt, noSlot, noQueue, outside, keeping}
+use Rattle.table.specs.declared.Slot.{Slot}
+use Rattle.table.specs.declared.Queue.{Queue}
+use Rattle.table.specs.declared.Proc.{Proc}
+use Rattle.table.specs.declared.Table.{Table}
+use Rattle.closing.specs.Dirty.{dropped, blank}
+use Rattle.closing.specs.Closing.{dirty, isDirty, kept}
+use Rattle.closing.specs.Close.{mapFrom, unkeptArcs, closedSlot, closedProc, closedQueue, closedWith, closeTable}
+
+-- place k of a list that `mapFrom` made; past the list's end the two defaults must agree
+mapFrom-at : {A B : Type 0} (f : ℕ → A → B) (i k : ℕ) (xs : List A) (a : A) (b : B) → (length xs ≤ k → f (i + k) a ≡ b) → getD (mapFrom f i xs) k b ≡ f (i + k) (getD xs k a)
+unfolding mapFrom
+mapFrom-at f i k [] a b h = sym (h (omega arith))
+mapFrom-at f i zero (x ∷ xs) a b h = rw add-zero
+mapFrom-at f i (suc k) (x ∷ xs) a b h = rw (add-suc, ← suc-add i k) (mapFrom-at f (suc i) k xs a b (λ l. rw (suc-add, ← add-suc i k) (h (omega arith))))
+
+-- the same of a list counted from 0
+map-at : {A B : Type 0} (f : ℕ → A → B) (k : ℕ) (xs : List A) (a : A) (b : B) → (length xs ≤ k → f k a ≡ b) → getD (mapFrom f zero xs) k b ≡ f k (getD xs k a)
+map-at f k xs a b h = rw zero-add at (mapFrom-at f zero k xs a b (λ l. rw zero-add (h l)))
+
+module _ (t : Table) where
+  -- ---- procedures
+
+  -- a closed procedure is the closing of the open one
+  pub close-proc : (p : ℕ) → procAt (closeTable t) p ≡ closedProc t (dirty t) p (procAt t p)
+  unfolding closeTable closedWith closedProc maskOf mapFrom
+  close-proc p = map-at (closedProc t (dirty t)) p (t .proc) outside outside (λ _. refl)
+
+  -- "Node numbers and counts remain"
+  pub close-params : (p : ℕ) → procAt (closeTable t) p .params ≡ procAt t p .params
+  unfolding closedProc
+  close-params p = ap (λ (q : Proc). q .params) (close-proc p)
+
+  pub close-vars : (p : ℕ) → procAt (closeTable t) p .vars ≡ procAt t p .vars
+  unfolding closedProc
+  close-vars p = ap (λ (q : Proc). q .vars) (close-proc p)
+
+  pub close-nodes : (p : ℕ) → procAt (closeTable t) p .nodes ≡ procAt t p .nodes
+  unfolding closedProc
+  close-nodes p = ap (λ (q : Proc). q .nodes) (close-proc p)
+
+  -- `drop` holds the dropped parameters
+  pub close-drop : (p i : ℕ) → i < procAt t p .params → bit i (procAt (closeTable t) p .drop) ≡ isDirty (dirty t) (dropped p i)
+  unfolding closedProc
+  close-drop p i l = ap (λ (q : Proc). bit i (q .drop)) (close-proc p) ∙ bit-maskOf (procAt t p .params) i (λ j. isDirty (dirty t) (dropped p j)) l
+
+  -- ---- nodes
+
+  -- a closed node is the closing of the open one
+  pub close-node : (p n : ℕ) → nodeAt (closeTable t) p n ≡ closedSlot t (dirty t) p (unkeptArcs t (dirty t) p) n (record { node = nodeAt t p n }) .node
+  unfolding closedProc closedSlot kept keeping
+  close-node p n = ap (λ (q : Proc). getD (q .slots) n noSlot .node) (close-proc p)
+      ∙ ap (λ (x : Slot). x .node) (map-at (closedSlot t (dirty t) p (unkeptArcs t (dirty t) p)) n (procAt t p .slots) noSlot noSlot (λ _. refl))
+
+  -- ---- queues
+
+  -- a capacity remains
+  pub close-cap : (q : ℕ) → queueAt (closeTable t) q .cap ≡ queueAt t q .cap
+  unfolding closeTable closedWith mapFrom
+  close-cap q = go zero q (t .queue)
+    where
+      go : (i q : ℕ) (qs : List Queue) → getD (mapFrom (closedQueue t (dirty t)) i qs) q noQueue .cap ≡ getD qs q noQueue .cap
+      go i q [] = refl
+      go i zero (x ∷ qs) = refl
+      go i (suc q) (x ∷ qs) = go (suc i) q qs
+
+  -- a queue's mark says whether it is blank (past the list's end no queue is marked)
+  pub close-blank : (q : ℕ) → q < length (t .queue) → queueAt (closeTable t) q .blank ≡ isDirty (dirty t) (blank q)
+  unfolding closeTable closedWith
+  close-blank q l = ap (λ (x : Queue). x .blank) (map-at (closedQueue t (dirty t)) q (t .queue) noQueue noQueue (λ j. absurd (omega arith)))
