@@ -5,7 +5,7 @@ use mathlib.Core.List.{List, [], _∷_}
 use mathlib.Core.Option.{Option, none, some}
 use lib.ListN.{length}
 use lib.Seq.{sets}
-use lib.Dec.{leb, ltb}
+use lib.Dec.{ltb}
 use lib.IntN.{ℤ}
 use mir.Syntax.{w32}
 use mir.Val.{ofZ}
@@ -37,22 +37,23 @@ pub record Ran : Type 0 where
 abbrev pub ended : ℕ → List ℤ → ℕ → State → List ℤ → List ℕ → Ran
 ended stop all steps s rest log = record { answer = record { steps = steps; used = length all - length rest; stop = stop; state = s }; log = log }
 
-module _ (t : Table) (keep : Kept) (most : ℕ) (all : List ℤ) where
+module _ (t : Table) (keep : Kept) (most : ℕ) where
   -- "no such task", then "fewer than 8 log bytes left", then what the step says
-  abbrev pub turn : ℕ → ℕ → State → List ℤ → List ℕ → Step
+  unfoldable pub turn : ℕ → ℕ → State → List ℤ → List ℕ → Step
   turn k steps s rest log = elim (ltb k (t .tasks))
     [ true ↦ elim (ltb (length log) (8 * steps + 8)) [ true ↦ stopped logFull | false ↦ step t keep most s k rest ]
     | false ↦ stopped noTask ]
 
-  -- after a step the rest of the schedule; "A stopped step leaves state, log and used count as before it"
-  abbrev pub afterStep : (ℕ → State → List ℤ → List ℕ → Ran) → ℕ → State → List ℤ → List ℕ → Step → Ran
-  afterStep go steps s rest log (stopped c) = ended (stopNumber c) all steps s rest log
-  afterStep go steps s rest log (stepped e ns s′ rest′) = go (suc steps) s′ rest′ (sets log (8 * steps) (entryBytes e))
+  module _ (all : List ℤ) where
+    -- after a step the rest of the schedule; "A stopped step leaves state, log and used count as before it"
+    abbrev pub afterStep : (ℕ → State → List ℤ → List ℕ → Ran) → ℕ → State → List ℤ → List ℕ → Step → Ran
+    afterStep go steps s rest log (stopped c) = ended (stopNumber c) all steps s rest log
+    afterStep go steps s rest log (stepped e ns s′ rest′) = go (suc steps) s′ rest′ (sets log (8 * steps) (entryBytes e))
 
-  -- "It runs the first task number of the schedule, then the rest of the schedule."
-  unfoldable pub runFrom : List ℕ → ℕ → State → List ℤ → List ℕ → Ran
-  runFrom [] steps s rest log = ended 0 all steps s rest log
-  runFrom (k ∷ ks) steps s rest log = afterStep (λ n s′ r l. runFrom ks n s′ r l) steps s rest log (turn k steps s rest log)
+    -- "It runs the first task number of the schedule, then the rest of the schedule."
+    unfoldable pub runFrom : List ℕ → ℕ → State → List ℤ → List ℕ → Ran
+    runFrom [] steps s rest log = ended 0 all steps s rest log
+    runFrom (k ∷ ks) steps s rest log = afterStep (λ n s′ r l. runFrom ks n s′ r l) steps s rest log (turn k steps s rest log)
 
 -- "15 at the start comes before every step's faults and leaves all locals 0 and 0 used"
 abbrev pub runBegun : Table → List ℕ → List ℤ → ℕ → List ℕ → Begun → Ran

@@ -1,0 +1,113 @@
+-- Demand 3, stated: every completed run of an open table has a completed run of its closed table beside it.
+-- Its proof is in Simulation; this file is read by itself, with document 01's "Demand 3 is one claim about a whole run".
+use Prim.Native.Nat.{ℕ, zero, suc, _+_, _*_, _<_, _≤_}
+use mathlib.Core.Path.{_≡_}
+use mathlib.Core.Bool.{Bool, true, false}
+use mathlib.Core.List.{List}
+use mathlib.Core.Option.{Option, none, some}
+use lib.ListN.{length, getD, take}
+use lib.IntN.{ℤ, pos}
+use Rattle.table.specs.Table.{procAt, removed}
+use Rattle.table.specs.declared.Table.{Table}
+use Rattle.table.specs.declared.Node.the-variants.{Assert}
+use Rattle.closing.specs.Dirty.{Dirty, settingAt, dropped, blank}
+use Rattle.closing.specs.Close.{close}
+use Rattle.machine.specs.declared.State.{State}
+use Rattle.machine.specs.State.{openFrames, isLost, frameAt, topmost, semCount, entriesAt, varAt, standsBefore, standstill}
+use Rattle.machine.specs.Step.{failing}
+use Rattle.machine.specs.Run.{Ran, run}
+use Rattle.machine.specs.History.{History, history, lastSetting}
+
+-- ---- what agrees
+
+-- "Kept nodes executed are read off the logs, task, procedure and node, entry by entry; a log carries a value where its flag is 1":
+-- the first n entries of the open log and of the closed one
+pub record SameLog (n : ℕ) (log log′ : List ℕ) : Type 0 where
+  pub task : (i : ℕ) → i < n → getD log (8 * i) 0 ≡ getD log′ (8 * i) 0
+  pub proc : (i : ℕ) → i < n → getD log (8 * i + 1) 0 ≡ getD log′ (8 * i + 1) 0
+  pub node : (i : ℕ) → i < n → getD log (8 * i + 2) 0 ≡ getD log′ (8 * i + 2) 0
+  pub flag : (i : ℕ) → i < n → getD log′ (8 * i + 3) 0 ≡ 1 → getD log (8 * i + 3) 0 ≡ 1
+  pub value : (i b : ℕ) → i < n → b < 4 → getD log′ (8 * i + 3) 0 ≡ 1 → getD log (8 * i + 4 + b) 0 ≡ getD log′ (8 * i + 4 + b) 0
+
+-- "it is clean if not among the dirty settings"; the entry is a dirty setting of a dropped parameter
+abbrev pub CleanSetting : Table → ℕ → ℕ → Option ℕ → Type 0
+CleanSetting t p v none = Dirty t (dropped p v) → ⊥
+CleanSetting t p v (some n) = Dirty t (settingAt p n) → ⊥
+
+-- a state s of the open run of table t, in which h has been executed, and the state s′ of the closed run
+pub record SameState (t : Table) (h : History) (s s′ : State) : Type 0 where
+  -- "Frames are the same if each task has as many, each of the same procedure and, below the topmost, at the same call node"
+  pub frames : (k : ℕ) → k < t .tasks → openFrames s k ≡ openFrames s′ k
+  pub procs : (k j : ℕ) → k < t .tasks → j < openFrames s k → frameAt s k j .proc ≡ frameAt s′ k j .proc
+  pub calls : (k j : ℕ) → k < t .tasks → suc j < openFrames s k → frameAt s k j .node ≡ frameAt s′ k j .node
+  -- "each task before the same next node"; no task is lost
+  pub next : (k : ℕ) → k < t .tasks → topmost s k .node ≡ topmost s′ k .node
+  pub open-stands : (k : ℕ) → k < t .tasks → isLost s k ≡ false
+  pub closed-stands : (k : ℕ) → k < t .tasks → isLost s′ k ≡ false
+  -- "equal semaphore counts and queue lengths, equal entries of queues that keep values"
+  pub sems : (i : ℕ) → i < t .sems → semCount (s .sems) i ≡ semCount (s′ .sems) i
+  pub lengths : (q : ℕ) → q < t .queues → entriesAt (s .queues) q .len ≡ entriesAt (s′ .queues) q .len
+  pub entries : (q i : ℕ) → q < t .queues → (Dirty t (blank q) → ⊥) → i < entriesAt (s .queues) q .len
+      → getD (entriesAt (s .queues) q .items) i (pos 0) ≡ getD (entriesAt (s′ .queues) q .items) i (pos 0)
+  -- "equal values of each variable whose last setting in its frame is clean"
+  pub vars : (k j v : ℕ) → k < t .tasks → j < openFrames s k → v < procAt t (frameAt s k j .proc) .vars
+      → CleanSetting t (frameAt s k j .proc) v (lastSetting t (frameAt s k j .proc) v none (h k j))
+      → varAt (frameAt s k j .vars) v ≡ varAt (frameAt s′ k j .vars) v
+
+-- the runs of the first n task numbers: both complete, n steps each
+pub record SameRun (t : Table) (h : History) (n : ℕ) (r r′ : Ran) : Type 0 where
+  pub open-completes : r .answer .stop ≡ 0
+  pub closed-completes : r′ .answer .stop ≡ 0
+  pub open-steps : r .answer .steps ≡ n
+  pub closed-steps : r′ .answer .steps ≡ n
+  pub logs : SameLog n (r .log) (r′ .log)
+  pub states : SameState t h (r .answer .state) (r′ .answer .state)
+
+-- ---- the claim, for a table t, inputs vs, task numbers ks, counts of dropped nodes allowed and log buffers
+module _ (t : Table) (vs : List ℤ) (ks : List ℕ) (most most′ : ℕ) (log log′ : List ℕ) where
+  abbrev pub openRun : ℕ → Ran
+  openRun n = run t (take n ks) vs most log
+
+  -- with the tosses ts
+  abbrev pub closedRun : List ℤ → ℕ → Ran
+  closedRun ts n = run (close t .table) (take n ks) ts most′ log′
+
+  pub record Partner (ts : List ℤ) : Type 0 where
+    -- "one list of tosses lets the closed run with the same task numbers complete and is used up"
+    pub completes : run (close t .table) ks ts most′ log′ .answer .stop ≡ 0
+    pub used-up : run (close t .table) ks ts most′ log′ .answer .used ≡ length ts
+    -- "At the start and after each step the two agree"
+    pub agree : (n : ℕ) → n ≤ length ks → SameRun t (history t (take n ks) vs most log) n (openRun n) (closedRun ts n)
+
+-- "For every table that the closer accepts, .. for every list of inputs and every list of task numbers, empty ones too: if the open run completes, .."
+abbrev pub Demand3 : Type 0
+Demand3 =
+    (t : Table) → close t .number ≡ 0
+    → (vs : List ℤ) (ks : List ℕ) (most most′ : ℕ) (log log′ : List ℕ) → length log′ ≡ length log
+    → run t ks vs most log .answer .stop ≡ 0
+    → (ts : List ℤ) × Partner t vs ks most most′ log log′ ts
+
+-- ---- its consequences, for such a pair of runs after n steps
+
+-- "So the one is at a standstill exactly when the other is"
+abbrev pub SameStandstill : Type 0
+SameStandstill =
+    (t : Table) → close t .number ≡ 0
+    → (vs : List ℤ) (ks : List ℕ) (most most′ : ℕ) (log log′ : List ℕ) → length log′ ≡ length log
+    → run t ks vs most log .answer .stop ≡ 0
+    → (ts : List ℤ) → Partner t vs ks most most′ log log′ ts
+    → (n : ℕ) → n ≤ length ks
+    → standstill t (openRun t vs ks most most′ log log′ n .answer .state)
+    ≡ standstill (close t .table) (closedRun t vs ks most most′ log log′ ts n .answer .state)
+
+-- "and an assertion that keeps its variable fails in the one exactly when it fails in the other": in the closed run task k stands before it
+abbrev pub SameFailure : Type 0
+SameFailure =
+    (t : Table) → close t .number ≡ 0
+    → (vs : List ℤ) (ks : List ℕ) (most most′ : ℕ) (log log′ : List ℕ) → length log′ ≡ length log
+    → run t ks vs most log .answer .stop ≡ 0
+    → (ts : List ℤ) → Partner t vs ks most most′ log log′ ts
+    → (n k v to : ℕ) → n ≤ length ks → k < t .tasks
+    → standsBefore (close t .table) (closedRun t vs ks most most′ log log′ ts n .answer .state) k ≡ Assert v to → (v ≡ removed → ⊥)
+    → failing t (openRun t vs ks most most′ log log′ n .answer .state) k
+    ≡ failing (close t .table) (closedRun t vs ks most most′ log log′ ts n .answer .state) k
