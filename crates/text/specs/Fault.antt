@@ -1,28 +1,18 @@
--- The faults of a text and of a table, and document 01's number for each.
+-- Document 01's number for each fault. Three faults share the number 2: a wrong word or spacing, a misspelt value, a text broken off
+-- or carried on; so does an unused place.
 use Prim.Native.Nat.{ℕ}
-
-pub data Fault : Type 0 where
-  long : Fault  -- text over 65,536 bytes
-  form : Fault  -- not the stated form: a wrong key, key order, kind, other word or spacing
-  misspelt : Fault  -- a misspelt number, operand or list, one out of order included
-  ended : Fault  -- early end; bytes after the end
-  range : Fault  -- number outside its range
-  index : Fault  -- index not the one due; node 0 not start, or start elsewhere
-  reference : Fault  -- reference to an undeclared item, or a target outside 1 to n-1
-  arguments : Fault  -- argument count differs from the callee's
-  closing : Fault  -- closed: absent target, wrong `-`, top parameter not dropped
-  unused : Fault  -- an unused place that isn't 0
-  short : Fault  -- buffer shorter than the text
+use Rattle.text.specs.declared.Fault.{Fault}
+use Rattle.text.specs.declared.Fault.the-variants.{Long, Form, Misspelt, Ended, Range, Index, Reference, Arguments, Closing, Unused, Short}
 
 unfoldable pub number : Fault → ℕ
-number long = 1
-number form = 2
-number misspelt = 2
-number ended = 2
-number range = 3
-number index = 4
-number reference = 5
-number arguments = 6
-number closing = 7
-number unused = 2
-number short = 8
+number Long = 1
+number Form = 2
+number Misspelt = 2
+number Ended = 2
+number Range = 3
+number Index = 4
+number Reference = 5
+number Arguments = 6
+number Closing = 7
+number Unused = 2
+number Short = 8

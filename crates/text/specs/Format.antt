@@ -11,7 +11,7 @@ use Rattle.table.specs.declared.Args.{Args}
 use Rattle.table.specs.declared.Node.{Node}
 use Rattle.table.specs.declared.Node.the-variants.{Absent, Start, Set, Test, Read, Call, Wait, Signal, Send, Recv, Assert, Out, Return}
 use Rattle.text.specs.Number.{bytes}
-use Rattle.text.specs.Fault.{index, reference}
+use Rattle.text.specs.declared.Fault.the-variants.{Index, Reference}
 use Rattle.text.specs.Value.{Sort, start, set, test, read, call, wait, signal, send, recv, assert, out, return, Kind, number, choice, sort, operation, operand, variable, ascending, arguments, from, due, oneOf}
 use Rattle.text.specs.Line.{Line, end, field, Vals}
 
@@ -145,7 +145,7 @@ fields c return = end
 -- a node line whose number is at least lo and below n, else 4: `node=j kind=` and what the kind has
 abbrev pub nodeLine : Scope → ℕ → ℕ → Line
 nodeLine c lo n =
-    field (bytes "node=") (number lo n index) λ j.
+    field (bytes "node=") (number lo n Index) λ j.
     field (bytes " kind=") (sort (c .closed) j) λ k.
     fields c k
 

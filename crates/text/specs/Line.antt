@@ -6,7 +6,8 @@ use mathlib.Core.Bool.{Bool, true, false, _||_}
 use lib.Dec.{ltb, eqb}
 use lib.ListN.{length, take, drop}
 use Rattle.table.specs.Mask.{pick}
-use Rattle.text.specs.Fault.{Fault, form, ended}
+use Rattle.text.specs.declared.Fault.{Fault}
+use Rattle.text.specs.declared.Fault.the-variants.{Form, Ended}
 use Rattle.text.specs.Value.{Kind, Of, spell, said, unsaid, check}
 
 pub data Line : Type 0 where
@@ -75,12 +76,12 @@ judged k (some v) = verdict v (check k v)
 
 -- "one that the text's end breaks off is an early end", whatever it is
 abbrev pub valueOf : (k : Kind) → Parser (Of k)
-valueOf k = λ l s. pick (ltb (run s) (length s)) (judged k (said k (take (run s) s)) l (drop (run s) s)) (refused ended l)
+valueOf k = λ l s. pick (ltb (run s) (length s)) (judged k (said k (take (run s) s)) l (drop (run s) s)) (refused Ended l)
 
 abbrev pub afterKey : {A : Type 0} → After → Parser A → ℕ → Outcome A
 afterKey (at s) p l = p l s
-afterKey differs p l = refused form l
-afterKey broken p l = refused ended l
+afterKey differs p l = refused Form l
+afterKey broken p l = refused Ended l
 
 -- one field: its key, then its value
 unfoldable pub fieldOf : List ℕ → (k : Kind) → Parser (Of k)

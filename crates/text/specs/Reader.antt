@@ -18,7 +18,9 @@ use Rattle.table.specs.declared.Proc.{Proc}
 use Rattle.table.specs.declared.Table.{Table}
 use Rattle.text.specs.declared.Reading.{Reading}
 use Rattle.text.specs.Number.{bytes}
-use Rattle.text.specs.Fault.{Fault, long, ended, arguments, closing, number}
+use Rattle.text.specs.declared.Fault.{Fault}
+use Rattle.text.specs.declared.Fault.the-variants.{Long, Ended, Arguments, Closing}
+use Rattle.text.specs.Fault.{number}
 use Rattle.text.specs.Value.{unless, orElse}
 use Rattle.text.specs.Line.{Line, Vals, Outcome, took, refused, Parser, onto, _>>=_, give, After, at, differs, broken, after, line}
 use Rattle.text.specs.Format.{headLine, countsLine, taskLine, semLine, queueLine, procLine, Scope, nodeLine, fields, setOf, nodeOf}
@@ -97,7 +99,7 @@ procRow closed procs sems queues i =
 
 abbrev pub atEnd : Parser (Unit {0})
 atEnd l [] = took tt l []
-atEnd l (b ∷ s) = refused ended l
+atEnd l (b ∷ s) = refused Ended l
 
 -- the lines behind the first two
 unfoldable pub body : (trap : ℕ) (closed : Bool) (tasks procs sems queues : ℕ) → Parser Table
@@ -167,11 +169,11 @@ removedRight t Return = true
 
 -- a node line of procedure q
 abbrev pub nodeFault : Table → Proc → Node → Option Fault
-nodeFault t q x = orElse (unless (countRight t x) arguments) (unless (not (t .closed) || (allPresent q (arcs x) && removedRight t x)) closing)
+nodeFault t q x = orElse (unless (countRight t x) Arguments) (unless (not (t .closed) || (allPresent q (arcs x) && removedRight t x)) Closing)
 
 -- "A task's top procedure there drops all parameters"
 abbrev pub taskFault : Table → ℕ → Option Fault
-taskFault t i = let q = procAt t (taskAt t i .top) in unless (not (t .closed) || allBelow (q .params) (λ j. bit j (q .drop))) closing
+taskFault t i = let q = procAt t (taskAt t i .top) in unless (not (t .closed) || allBelow (q .params) (λ j. bit j (q .drop))) Closing
 
 -- what each of n things says, from i on, one list after another
 unfoldable pub concat : {A : Type 0} → (ℕ → List A) → ℕ → ℕ → List A
@@ -216,4 +218,4 @@ reading (bad f l) = record { number = number f; line = l; table = noTable }
 
 -- "Reader, first: text over 65,536 bytes"; "1 gives line 0"
 unfoldable pub read : List ℕ → Reading
-read s = elim (ltb 65536 (length s)) [ true ↦ reading (bad long 0) | false ↦ reading (readLines s) ]
+read s = elim (ltb 65536 (length s)) [ true ↦ reading (bad Long 0) | false ↦ reading (readLines s) ]

@@ -11,7 +11,8 @@ use Rattle.table.specs.declared.Operand.the-variants.{Var, Const}
 use Rattle.table.specs.declared.Op.{Op}
 use Rattle.table.specs.declared.Op.the-variants.{Add, Sub, And, Or, Xor, Shr, Lt, Eq}
 use Rattle.text.specs.Number.{bytes, digits, spelt, value}
-use Rattle.text.specs.Fault.{Fault, form, misspelt, range, index, reference}
+use Rattle.text.specs.declared.Fault.{Fault}
+use Rattle.text.specs.declared.Fault.the-variants.{Form, Misspelt, Range, Index, Reference}
 
 -- the kinds of nodes, by their words
 pub data Sort : Type 0 where
@@ -48,13 +49,13 @@ Of (arguments c n) = List (Option ℕ)
 
 -- a number from lo to hi, else 3; the index i, else 4; a reference to one of n, else 5
 abbrev pub from : ℕ → ℕ → Kind
-from lo hi = number lo (hi + 1) range
+from lo hi = number lo (hi + 1) Range
 
 abbrev pub due : ℕ → Kind
-due i = number i (i + 1) index
+due i = number i (i + 1) Index
 
 abbrev pub oneOf : ℕ → Kind
-oneOf n = number 0 n reference
+oneOf n = number 0 n Reference
 
 -- ---- words
 
@@ -199,14 +200,14 @@ said (arguments c n) s = saidList saidVariable s
 
 -- the fault of bytes that say nothing of a kind
 unfoldable pub unsaid : Kind → Fault
-unsaid (number lo n f) = misspelt
-unsaid (choice a b) = form
-unsaid (sort c j) = form
-unsaid (operation t) = form
-unsaid (operand n) = misspelt
-unsaid (variable c n) = misspelt
-unsaid (ascending one lo n) = misspelt
-unsaid (arguments c n) = misspelt
+unsaid (number lo n f) = Misspelt
+unsaid (choice a b) = Form
+unsaid (sort c j) = Form
+unsaid (operation t) = Form
+unsaid (operand n) = Misspelt
+unsaid (variable c n) = Misspelt
+unsaid (ascending one lo n) = Misspelt
+unsaid (arguments c n) = Misspelt
 
 -- ---- faults of a value
 
@@ -222,52 +223,52 @@ orElse none g = g
 -- a closed table has no `read`; node 0 is the only `start`
 abbrev pub sortFault : Bool → ℕ → Sort → Option Fault
 sortFault c zero start = none
-sortFault c (suc j) start = some index
-sortFault c zero set = some index
+sortFault c (suc j) start = some Index
+sortFault c zero set = some Index
 sortFault c (suc j) set = none
-sortFault c zero test = some index
+sortFault c zero test = some Index
 sortFault c (suc j) test = none
-sortFault false zero read = some index
+sortFault false zero read = some Index
 sortFault false (suc j) read = none
-sortFault true j read = some form
-sortFault c zero call = some index
+sortFault true j read = some Form
+sortFault c zero call = some Index
 sortFault c (suc j) call = none
-sortFault c zero wait = some index
+sortFault c zero wait = some Index
 sortFault c (suc j) wait = none
-sortFault c zero signal = some index
+sortFault c zero signal = some Index
 sortFault c (suc j) signal = none
-sortFault c zero send = some index
+sortFault c zero send = some Index
 sortFault c (suc j) send = none
-sortFault c zero recv = some index
+sortFault c zero recv = some Index
 sortFault c (suc j) recv = none
-sortFault c zero assert = some index
+sortFault c zero assert = some Index
 sortFault c (suc j) assert = none
-sortFault c zero out = some index
+sortFault c zero out = some Index
 sortFault c (suc j) out = none
-sortFault c zero return = some index
+sortFault c zero return = some Index
 sortFault c (suc j) return = none
 
 -- "A test has lt or eq"
 abbrev pub opFault : Bool → Op → Option Fault
 opFault false o = none
-opFault true Add = some form
-opFault true Sub = some form
-opFault true And = some form
-opFault true Or = some form
-opFault true Xor = some form
-opFault true Shr = some form
+opFault true Add = some Form
+opFault true Sub = some Form
+opFault true And = some Form
+opFault true Or = some Form
+opFault true Xor = some Form
+opFault true Shr = some Form
 opFault true Lt = none
 opFault true Eq = none
 
 -- a constant lies in the signed 32-bit range
 abbrev pub operandFault : ℕ → Operand → Option Fault
-operandFault n (Var v) = unless (ltb v n) reference
-operandFault n (Const (pos x)) = unless (leb x 2147483647) range
-operandFault n (Const (negsuc x)) = unless (leb x 2147483647) range
+operandFault n (Var v) = unless (ltb v n) Reference
+operandFault n (Const (pos x)) = unless (leb x 2147483647) Range
+operandFault n (Const (negsuc x)) = unless (leb x 2147483647) Range
 
 abbrev pub variableFault : Bool → ℕ → Option ℕ → Option Fault
-variableFault c n none = unless c misspelt
-variableFault c n (some v) = unless (ltb v n) reference
+variableFault c n none = unless c Misspelt
+variableFault c n (some v) = unless (ltb v n) Reference
 
 -- "target and drop lists ascend strictly"
 unfoldable pub ascends : List ℕ → Bool
@@ -302,5 +303,5 @@ check (sort c j) v = sortFault c j v
 check (operation t) v = opFault t v
 check (operand n) v = operandFault n v
 check (variable c n) v = variableFault c n v
-check (ascending one lo n) v = orElse (unless (ascends v && (not one || isOne v)) misspelt) (unless (within lo n v) reference)
-check (arguments c n) v = orElse (unless (c || noneRemoved v) misspelt) (unless (allDeclared n v) reference)
+check (ascending one lo n) v = orElse (unless (ascends v && (not one || isOne v)) Misspelt) (unless (within lo n v) Reference)
+check (arguments c n) v = orElse (unless (c || noneRemoved v) Misspelt) (unless (allDeclared n v) Reference)

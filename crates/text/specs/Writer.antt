@@ -16,7 +16,9 @@ use Rattle.table.specs.declared.Queue.{Queue}
 use Rattle.table.specs.declared.Proc.{Proc}
 use Rattle.table.specs.declared.Table.{Table}
 use Rattle.text.specs.declared.Writing.{Writing}
-use Rattle.text.specs.Fault.{Fault, unused, short, number}
+use Rattle.text.specs.declared.Fault.{Fault}
+use Rattle.text.specs.declared.Fault.the-variants.{Unused, Short}
+use Rattle.text.specs.Fault.{number}
 use Rattle.text.specs.Line.{Line, Vals, write}
 use Rattle.text.specs.Format.{headLine, countsLine, taskLine, semLine, queueLine, procLine, Scope, nodeLine, fields, Described, noLine, described, describe}
 use Rattle.text.specs.Reader.{allBelow, concat, Result, good, bad, readLines}
@@ -111,7 +113,7 @@ tidy t =
 -- and, after all those, an unused place that isn't 0 gives 2"; 0 where there is none
 
 abbrev pub faultIn : Table → Result → ℕ
-faultIn t (good r) = elim (tidy t) [ true ↦ 0 | false ↦ number unused ]
+faultIn t (good r) = elim (tidy t) [ true ↦ 0 | false ↦ number Unused ]
 faultIn t (bad f l) = number f
 
 unfoldable pub fault : Table → ℕ
@@ -130,7 +132,7 @@ abbrev pub whole : List ℕ → List ℕ → Written
 whole s buffer = record { answer = record { number = 0; line = 0; len = length s }; buffer = s ++ drop (length s) buffer }
 
 abbrev pub fitted : List ℕ → List ℕ → Written
-fitted s buffer = elim (ltb (length buffer) (length s)) [ true ↦ unwritten (number short) buffer | false ↦ whole s buffer ]
+fitted s buffer = elim (ltb (length buffer) (length s)) [ true ↦ unwritten (number Short) buffer | false ↦ whole s buffer ]
 
 abbrev pub unlessFault : ℕ → Written → List ℕ → Written
 unlessFault zero w buffer = w

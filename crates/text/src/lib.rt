@@ -1,4 +1,30 @@
-// What the reader and the writer answer.
+// The faults of texts and tables, and what the reader and the writer answer.
+
+// `number`, in specs/, gives document 01's number for each.
+pub enum Fault {
+    // text over 65,536 bytes
+    Long,
+    // a wrong key, key order, kind, other word or spacing
+    Form,
+    // a misspelt number, operand or list, one out of order included
+    Misspelt,
+    // early end; bytes after the end
+    Ended,
+    // number outside its range
+    Range,
+    // index not the one due; node 0 not start, or start elsewhere
+    Index,
+    // reference to an undeclared item, or a target outside 1 to n-1
+    Reference,
+    // argument count differs from the callee's
+    Arguments,
+    // closed: absent target, wrong `-`, top parameter not dropped
+    Closing,
+    // an unused place that isn't 0
+    Unused,
+    // buffer shorter than the text
+    Short,
+}
 
 // The table, with number and line 0; or the number and the line of the first fault, with a table all 0.
 pub struct Reading {
