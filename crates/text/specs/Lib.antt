@@ -7,3 +7,5 @@ pub mod Reader
 pub mod Writer
 pub mod Computing
 pub mod NumberLaws
+pub mod ValueLaws
+pub mod LineLaws

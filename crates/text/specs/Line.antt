@@ -8,7 +8,7 @@ use lib.ListN.{length, take, drop}
 use Rattle.table.specs.Mask.{pick}
 use Rattle.text.specs.declared.Fault.{Fault}
 use Rattle.text.specs.declared.Fault.the-variants.{Form, Ended}
-use Rattle.text.specs.Value.{Kind, Of, spell, said, unsaid, check}
+use Rattle.text.specs.Value.{Kind, Of, spell, said, unsaid, orElse, check}
 
 pub data Line : Type 0 where
   end : Line
@@ -94,3 +94,8 @@ feed = λ l s. afterKey (after (10 ∷ []) s) (λ k r. took tt (suc k) r) l
 unfoldable pub line : (d : Line) → Parser (Vals d)
 line end = feed
 line (field key k next) = λ l s. onto (fieldOf key k l s) (λ v k′ r. onto (line (next v) k′ r) (λ w l′ r′. took (v, w) l′ r′))
+
+-- the first fault of a line's values, from left to right
+unfoldable pub lineFault : (d : Line) → Vals d → Option Fault
+lineFault end w = none
+lineFault (field key k next) w = orElse (check k (w .0)) (lineFault (next (w .0)) (w .1))
