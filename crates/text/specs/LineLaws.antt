@@ -132,3 +132,47 @@ line-read (field key k next) l s w l′ r e =
     let n : r″ ≡ r = cc h in
     subst (λ (y : Vals (field key k next)). (s ≡ write (field key k next) y ++ r) × (l′ ≡ suc l) × (lineFault (field key k next) y ≡ none)) p
     (q ∙ rw (f .0, ih .0, n) (simp append-assoc), cc (ih .1, f .2), rw (f .1) (ih .2)))))
+
+-- ---- every line of a text can be read back
+
+pub head-sound : Sound headLine
+unfolding same
+head-sound = (tt, λ n. (refl, ((refl, omega arith, omega arith), λ c. (refl, tt))))
+
+pub counts-sound : Sound countsLine
+counts-sound = (tt, λ k. (refl, (tt, λ p. (refl, (tt, λ s. (refl, (tt, λ q. (refl, tt))))))))
+
+pub task-sound : (procs i : ℕ) → Sound (taskLine procs i)
+task-sound procs i = (tt, λ j. (refl, (tt, λ p. (refl, tt))))
+
+pub sem-sound : (i : ℕ) → Sound (semLine i)
+sem-sound i = (tt, λ j. (refl, (tt, λ c. (refl, tt))))
+
+pub queue-sound : (closed : Bool) (i : ℕ) → Sound (queueLine closed i)
+unfolding same
+queue-sound false i = (tt, λ j. (refl, (tt, λ c. (refl, tt))))
+queue-sound true i = (tt, λ j. (refl, (tt, λ c. (refl, ((refl, omega arith, omega arith), λ b. (refl, tt))))))
+
+pub proc-sound : (closed : Bool) (i : ℕ) → Sound (procLine closed i)
+proc-sound false i = (tt, λ j. (refl, (tt, λ k. (refl, (tt, λ m. (refl, (tt, λ n. (refl, tt))))))))
+proc-sound true i = (tt, λ j. (refl, (tt, λ k. (refl, (tt, λ m. (refl, (tt, λ n. (refl, (tt, λ d. (refl, tt))))))))))
+
+to-sound : (c : Scope) → Sound (toField c)
+to-sound c = (tt, λ to. (refl, tt))
+
+fields-sound : (c : Scope) (k : Sort) → (starts (fields c k) ≡ true) × Sound (fields c k)
+fields-sound c start = (refl, to-sound c)
+fields-sound c set = (refl, (tt, λ v. (refl, (tt, λ o. (refl, (tt, λ a. (refl, (tt, λ b. (refl, to-sound c)))))))))
+fields-sound c test = (refl, (tt, λ o. (refl, (tt, λ a. (refl, (tt, λ b. (refl, (tt, λ y. (refl, (tt, λ n. (refl, tt)))))))))))
+fields-sound c read = (refl, (tt, λ v. (refl, to-sound c)))
+fields-sound c call = (refl, (tt, λ p. (refl, (tt, λ xs. (refl, to-sound c)))))
+fields-sound c wait = (refl, (tt, λ s. (refl, to-sound c)))
+fields-sound c signal = (refl, (tt, λ s. (refl, to-sound c)))
+fields-sound c send = (refl, (tt, λ q. (refl, (tt, λ v. (refl, to-sound c)))))
+fields-sound c recv = (refl, (tt, λ q. (refl, (tt, λ v. (refl, to-sound c)))))
+fields-sound c assert = (refl, (tt, λ v. (refl, to-sound c)))
+fields-sound c out = (refl, (tt, λ v. (refl, to-sound c)))
+fields-sound c return = (refl, tt)
+
+pub node-sound : (c : Scope) (lo n : ℕ) → Sound (nodeLine c lo n)
+node-sound c lo n = (tt, λ j. (refl, (tt, λ k. fields-sound c k)))
