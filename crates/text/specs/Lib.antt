@@ -9,3 +9,4 @@ pub mod Computing
 pub mod NumberLaws
 pub mod ValueLaws
 pub mod LineLaws
+pub mod MaskLists
