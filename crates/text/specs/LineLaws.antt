@@ -1,6 +1,6 @@
 -- A line written is read back, with its values' first fault; a line read is what its values write. Once for every line, and every line of a text is such.
-use Prim.Native.Nat.{ℕ, zero, suc, _+_, _<_}
-use mathlib.Core.Path.{_≡_, refl, sym, _∙_, ap, subst}
+use Prim.Native.Nat.{ℕ, suc, _<_}
+use mathlib.Core.Path.{_≡_, refl, sym, _∙_, subst}
 use mathlib.Core.List.{List, [], _∷_, _++_, append-assoc}
 use mathlib.Core.Option.{Option, none, some}
 use mathlib.Core.Bool.{Bool, true, false}
@@ -9,13 +9,12 @@ use lib.Dec.{ltb, eqb}
 use lib.ListN.{length, take, drop, length-append, take-append-drop}
 use lib.Seq.{take-append-seam, drop-append-seam}
 use borrow.Author.Tests.{eqb-true, eq-eqb, lt-ltb}
-use Rattle.table.specs.Mask.{pick}
 use Rattle.text.specs.declared.Fault.{Fault}
 use Rattle.text.specs.NumberLaws.{cases}
 use Rattle.text.specs.Value.{Sort, start, set, test, read, call, wait, signal, send, recv, assert, out, return, Kind, Of, same, spell, said, orElse, check}
 use Rattle.text.specs.ValueLaws.{no, Apart, said-spell, spell-said, run-spell}
-use Rattle.text.specs.Line.{Line, end, field, Vals, write, Outcome, took, refused, Parser, onto, After, at, differs, broken, after, stops, run, verdict, judged, valueOf, afterKey, fieldOf, feed, line, lineFault}
-use Rattle.text.specs.Format.{headLine, countsLine, taskLine, semLine, blankField, queueLine, dropField, procLine, Scope, toField, fields, nodeLine}
+use Rattle.text.specs.Line.{Line, end, field, Vals, write, Outcome, took, refused, Parser, onto, After, at, differs, broken, after, stops, run, verdict, judged, valueOf, afterKey, fieldOf, line, lineFault}
+use Rattle.text.specs.Format.{headLine, countsLine, taskLine, semLine, queueLine, procLine, Scope, toField, fields, nodeLine}
 
 -- ---- lines that can be read back
 
@@ -82,7 +81,7 @@ key-after [] s r e = cc
 key-after (b ∷ key) [] r e = no (cc)
 key-after (b ∷ key) (x ∷ s) r e = cases (eqb b x)
     (λ q. rw (eqb-true b x q, key-after key s r (rw q at e)))
-    (λ q. let z : _≡_ {A = ℕ} 0 1 = cc (rw q at e) in no z)
+    (λ q. no (cc (rw q at e)))
 
 -- what comes after a key says nothing unless the key stands there
 key-read : {A P : Type 0} (key s : List ℕ) (p : Parser A) (l : ℕ) (v : A) (l′ : ℕ) (r : List ℕ) → afterKey (after key s) p l ≡ took v l′ r
@@ -114,7 +113,7 @@ value-read k l s v l′ r e = cases (ltb (run s) (length s))
     (λ q.
     let j = judged-read k (said k (take (run s) s)) l (drop (run s) s) v l′ r (rw q at e) in
     (rw (spell-said k (take (run s) s) v (j .0), ← j .3) (sym (take-append-drop (run s) s)), j .1, j .2))
-    (λ q. let z : _≡_ {A = ℕ} 0 1 = cc (rw q at e) in no z)
+    (λ q. no (cc (rw q at e)))
 
 pub line-read : (d : Line) (l : ℕ) (s : List ℕ) (w : Vals d) (l′ : ℕ) (r : List ℕ) → line d l s ≡ took w l′ r
     → (s ≡ write d w ++ r) × (l′ ≡ suc l) × (lineFault d w ≡ none)

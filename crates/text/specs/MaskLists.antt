@@ -1,6 +1,6 @@
 -- Masks and ascending lists say the same: the members of a list's set are the list, and the set of a mask's members is the mask.
-use Prim.Native.Nat.{ℕ, zero, suc, _+_, _*_, _/_, _%_, _^_, _≤_, _<_}
-use mathlib.Core.Path.{_≡_, refl, sym, _∙_, ap}
+use Prim.Native.Nat.{ℕ, zero, suc, _+_, _/_, _%_, _^_, _≤_, _<_}
+use mathlib.Core.Path.{_≡_, refl, _∙_}
 use mathlib.Core.List.{List, [], _∷_}
 use mathlib.Core.Bool.{Bool, true, false, _&&_}
 use native.Mathlib.Omega.{arith}
@@ -8,7 +8,7 @@ use native.Mathlib.Nat.{mod-eq-of-lt}
 use lib.Dec.{ltb, leb, eqb}
 use lib.Pow.{mod-pow-add}
 use borrow.Author.Tests.{leb-true, ltb-true, lt-ltb, eqb-true, eqb-false, eq-eqb, ne-eqb}
-use Rattle.table.specs.Mask.{pick, bit, also, membersFrom, members, maskOf}
+use Rattle.table.specs.Mask.{bit, also, membersFrom, members, maskOf}
 use Rattle.table.specs.MaskLaws.{bit-maskOf}
 use Rattle.text.specs.NumberLaws.{cases, byOrder, and-left, and-right}
 use Rattle.text.specs.Value.{ascends, within}
@@ -27,9 +27,11 @@ rising : (lo n : ℕ) (xs : List ℕ) → ascends xs ≡ true → within lo n xs
 unfolding ascends within
 rising lo n [] a w = tt
 rising lo n (x ∷ xs) a w =
-    let h = and-left (leb lo x && ltb x n) (within lo n xs) w in
-    (leb-true lo x (and-left (leb lo x) (ltb x n) h), ltb-true x n (and-right (leb lo x) (ltb x n) h),
-    rest xs a (λ b. rising lo n xs b (and-right (leb lo x && ltb x n) (within lo n xs) w)))
+    let h = and-left (leb lo x && ltb x n) (within lo n xs) w in (
+      leb-true lo x (and-left (leb lo x) (ltb x n) h),
+      ltb-true x n (and-right (leb lo x) (ltb x n) h),
+      rest xs a (λ b. rising lo n xs b (and-right (leb lo x && ltb x n) (within lo n xs) w)),
+    )
   where
     rest : (ys : List ℕ) → ascends (x ∷ ys) ≡ true → (ascends ys ≡ true → Rising n lo ys) → Rising n (suc x) ys
     rest [] a f = tt

@@ -1,6 +1,6 @@
 -- Numbers as digits: a number's digits are spelt as a number and say it, and what is spelt as a number is the digits of what it says.
 use Prim.Native.Nat.{ℕ, zero, suc, _+_, _-_, _*_, _/_, _%_, _≤_, _<_}
-use mathlib.Core.Path.{_≡_, refl, sym, _∙_, ap}
+use mathlib.Core.Path.{_≡_, refl, sym, _∙_}
 use mathlib.Core.List.{List, [], _∷_, _++_, append-assoc, append-nil}
 use mathlib.Core.Bool.{Bool, true, false, _&&_, not, false≢true}
 use native.Mathlib.Omega.{arith}

@@ -1,22 +1,21 @@
 -- Values and their spelling, for every kind: what is spelt says the value, what says a value is its spelling, and no spelling has a space or LF in it.
-use Prim.Native.Nat.{ℕ, zero, suc, _+_, _≤_, _<_}
+use Prim.Native.Nat.{ℕ, zero, suc, _≤_, _<_}
 use mathlib.Core.Path.{_≡_, refl, sym, _∙_, ap}
 use mathlib.Core.List.{List, [], _∷_, _++_, map}
 use mathlib.Core.Option.{Option, none, some}
-use mathlib.Core.Bool.{Bool, true, false, _&&_, _||_}
+use mathlib.Core.Bool.{Bool, true, false}
 use native.Mathlib.Omega.{arith}
-use lib.Dec.{ltb, eqb}
-use lib.IntN.{ℤ, pos, negsuc}
+use lib.Dec.{eqb}
+use lib.IntN.{pos, negsuc}
 use lib.ListN.{length}
-use borrow.Author.Tests.{eqb-true, eq-eqb, ne-eqb, lt-ltb, ltb-true}
-use Rattle.table.specs.Mask.{pick}
+use borrow.Author.Tests.{eqb-true, eq-eqb, ne-eqb}
 use Rattle.table.specs.declared.Operand.{Operand}
 use Rattle.table.specs.declared.Operand.the-variants.{Var, Const}
 use Rattle.table.specs.declared.Op.{Op}
 use Rattle.table.specs.declared.Op.the-variants.{Add, Sub, And, Or, Xor, Shr, Lt, Eq}
 use Rattle.text.specs.Number.{bytes, digits, spelt, value, allDigits}
 use Rattle.text.specs.NumberLaws.{cases, and-left, and-right, all-head, all-tail, spelt-digits, digits-all, digits-first, value-digits, digits-value}
-use Rattle.text.specs.Value.{Sort, start, set, test, read, call, wait, signal, send, recv, assert, out, return, Kind, number, choice, sort, operation, operand, variable, ascending, arguments, Of, sortWord, sorts, opWord, ops, same, named, chosen, numeral, spellVariable, asVariable, saidVariable, spellOperand, asVar, asConst, asNegative, saidOperand, commas, spellList, before, split, followed, each, saidList, spell, said}
+use Rattle.text.specs.Value.{Sort, start, set, test, read, call, wait, signal, send, recv, assert, out, return, Kind, number, choice, sort, operation, operand, variable, ascending, arguments, Of, sortWord, sorts, opWord, ops, same, named, chosen, numeral, spellVariable, asVariable, saidVariable, spellOperand, asVar, asConst, asNegative, saidOperand, commas, spellList, split, followed, each, saidList, spell, said}
 use Rattle.text.specs.Line.{stops, run}
 
 -- from an equation between different constructors anything follows: `no (cc)`
@@ -61,6 +60,7 @@ same-eq [] (c ∷ t) e = no (cc)
 same-eq (b ∷ s) [] e = no (cc)
 same-eq (b ∷ s) (c ∷ t) e = rw (eqb-true b c (and-left (eqb b c) (same s t) e), same-eq s t (and-right (eqb b c) (same s t) e))
 
+-- what the bytes name has them as its word
 named-said : {A : Type 0} (word : A → List ℕ) (xs : List A) (s : List ℕ) (v : A) → named word xs s ≡ some v → word v ≡ s
 unfolding named
 named-said word [] s v e = no (cc)
@@ -68,6 +68,7 @@ named-said word (a ∷ xs) s v e = cases (same (word a) s)
     (λ q. let p : a ≡ v = cc (rw (q, named) at e) in rw (← p) (same-eq (word a) s q))
     (λ q. named-said word xs s v (rw (q, named) at e))
 
+-- and a word names what it is the word of: no two words are the same
 choice-said : (a b : List ℕ) → same a b ≡ false → (v : Bool) → named (chosen a b) (false ∷ true ∷ []) (chosen a b v) ≡ some v
 unfolding named
 choice-said a b e false = rw (same-refl a, named)
@@ -93,13 +94,14 @@ op-over v = elim v [ Add ↦ omega arith | Sub ↦ omega arith | And ↦ omega a
 
 -- ---- numbers and variables
 
+-- digits say their number, and nothing else says it
 numeral-digits : (n : ℕ) → numeral (digits n) ≡ some n
 numeral-digits n = rw (spelt-digits n, value-digits n)
 
 numeral-said : (s : List ℕ) (v : ℕ) → numeral s ≡ some v → digits v ≡ s
 numeral-said s v e = cases (spelt s)
     (λ q. let p : value s ≡ v = cc (rw q at e) in rw (← p) (digits-value s q))
-    (λ q. let z : _≡_ {A = ℕ} 0 1 = cc (rw q at e) in no z)
+    (λ q. no (cc (rw q at e)))
 
 number-over : (n : ℕ) → Over 44 (digits n)
 number-over n = digits-over (digits n) (digits-all n)
@@ -162,9 +164,9 @@ operand-over (Var n) = (omega arith, number-over n)
 operand-over (Const (pos n)) = number-over n
 operand-over (Const (negsuc n)) = (omega arith, number-over (suc n))
 
--- ---- lists of items, whatever the items: their spelling has no comma in it and is not `none`
+-- ---- what stands between commas
 
--- there is something between the commas, perhaps nothing else than the empty bytes
+-- there is a first, and with commas between they are the bytes again
 split-first : (s : List ℕ) → (t : List ℕ) × (ts : List (List ℕ)) × (split s ≡ t ∷ ts)
 unfolding split
 split-first [] = ([], [], refl)
@@ -188,6 +190,7 @@ commas-split (b ∷ s) =
     longer t [] = refl
     longer t (u ∷ ts) = refl
 
+-- an item has no comma in it
 split-last : (t : List ℕ) → Over 44 t → split t ≡ t ∷ []
 unfolding split
 split-last [] o = refl
@@ -197,6 +200,8 @@ split-item : (t r : List ℕ) → Over 44 t → split (t ++ (44 ∷ r)) ≡ t �
 unfolding split
 split-item [] r o = refl
 split-item (b ∷ t) r o = rw (ne-eqb b 44 (λ q. omega arith), split-item t r (o .1))
+
+-- ---- lists of items, whatever the items: what is spelt says the item and back, with no comma, and `none` is no item
 
 record Items {A : Type 0} (word : A → List ℕ) (item : List ℕ → Option A) : Type 0 where
   says : (x : A) → item (word x) ≡ some x
@@ -233,8 +238,7 @@ module _ {A : Type 0} {word : A → List ℕ} {item : List ℕ → Option A} (it
       (λ q.
       let p : word x ∷ map word xs ≡ bytes "none" ∷ [] = sym (split-words x xs) ∙ ap split (sym (same-eq (bytes "none") (commas (map word (x ∷ xs))) q)) in
       let w : word x ≡ bytes "none" = cc p in
-      let z : _≡_ {A = ℕ} 0 1 = cc (items .says x, items .never) in
-      no z)
+      no (cc (items .says x, items .never)))
       (λ q. rw (q, split-words x xs) (each-word (x ∷ xs)))
 
   said-each : (ss : List (List ℕ)) (xs : List A) → each item ss ≡ some xs → map word xs ≡ ss
