@@ -24,12 +24,14 @@ starts end = true
 starts (field [] k next) = false
 starts (field (b ∷ key) k next) = stops b
 
+-- each kind can be read back, and each value ends where the next key begins
 abbrev pub Sound : Line → Type 0
 Sound end = Unit {0}
 Sound (field key k next) = Apart k × ((v : Of k) → (starts (next v) ≡ true) × Sound (next v))
 
 -- ---- what a line says that was written
 
+-- the values, with the line behind them; or their fault, at their own line
 abbrev pub judgement : {A : Type 0} → A → Option Fault → Parser A
 judgement w none = λ l s. took w (suc l) s
 judgement w (some f) = λ l s. refused f l
@@ -47,12 +49,14 @@ field-write key k a v l b r e =
     let n : length (spell k v) < length (spell k v ++ (b ∷ r)) = simp length-append (omega arith) in
     rw (after-key key (spell k v ++ (b ∷ r)), run-spell k v a b r e, lt-ltb _ _ n, take-append-seam (spell k v) (b ∷ r), drop-append-seam (spell k v) (b ∷ r), said-spell k v a)
 
+-- what follows a value begins with a byte that stops it
 begins : (d : Line) (w : Vals d) (s : List ℕ) → starts d ≡ true → (b : ℕ) × (r : List ℕ) × (write d w ++ s ≡ b ∷ r) × (stops b ≡ true)
 unfolding write
 begins end w s e = (10, s, refl, refl)
 begins (field [] k next) w s e = no (cc)
 begins (field (b ∷ key) k next) w s e = (b, _, refl, e)
 
+-- a line that was written says its values, or the first of their faults
 pub line-write : (d : Line) → Sound d → (w : Vals d) (l : ℕ) (s : List ℕ) → line d l (write d w ++ s) ≡ judgement w (lineFault d w) l s
 unfolding line write lineFault after
 line-write end g w l s = refl
@@ -98,6 +102,7 @@ onto-read : {A B P : Type 0} (o : Outcome A) (p : A → Parser B) (w : B) (l : �
 onto-read (took v k s) p w l r e then = then v k s refl e
 onto-read (refused f k) p w l r e then = no (cc)
 
+-- the bytes that say a value without fault are its spelling
 judged-read : (k : Kind) (o : Option (Of k)) (l : ℕ) (s : List ℕ) (v : Of k) (l′ : ℕ) (r : List ℕ) → judged k o l s ≡ took v l′ r
     → (o ≡ some v) × (check k v ≡ none) × (l′ ≡ l) × (s ≡ r)
 judged-read k none l s v l′ r e = no (cc)
@@ -115,6 +120,7 @@ value-read k l s v l′ r e = cases (ltb (run s) (length s))
     (rw (spell-said k (take (run s) s) v (j .0), ← j .3) (sym (take-append-drop (run s) s)), j .1, j .2))
     (λ q. no (cc (rw q at e)))
 
+-- where a line says values, they are what was written there, they have no fault, and one line was read
 pub line-read : (d : Line) (l : ℕ) (s : List ℕ) (w : Vals d) (l′ : ℕ) (r : List ℕ) → line d l s ≡ took w l′ r
     → (s ≡ write d w ++ r) × (l′ ≡ suc l) × (lineFault d w ≡ none)
 unfolding line write lineFault fieldOf

@@ -95,6 +95,7 @@ from-list e (suc n) k m q (x ∷ xs) r f = byOrder k x
     let ih = from-list e n (suc k) m (omega arith) xs (rising-down e (suc x) (suc k) xs (omega arith) (r .2)) (λ j l u. rw (ne-eqb j x (λ q. omega arith)) at (f j (omega arith) u)) in
     rw (b, ih, p))
 
+-- the members of the set of a list that ascends, of numbers below 32, are the list
 pub members-set : (lo : ℕ) (xs : List ℕ) → ascends xs ≡ true → within lo 32 xs ≡ true → members (setOf xs) ≡ xs
 members-set lo xs a w = from-list 32 32 0 (setOf xs) refl xs (rising-down 32 lo 0 xs (omega arith) (rising lo 32 xs a w)) (λ j l u. bit-maskOf 32 j (λ i. elem i xs) u)
 
@@ -105,6 +106,7 @@ unfolding maskOf
 mask-same zero f g h = refl
 mask-same (suc n) f g h = rw (mask-same n f g (λ i l. h i (omega arith)), h n (omega arith))
 
+-- the first n bits of m make m, up to multiples of 2^n
 mask-bits : (n m : ℕ) → maskOf n (λ i. bit i m) ≡ m % 2 ^ n
 unfolding maskOf bit
 mask-bits zero m = omega arith
@@ -114,5 +116,6 @@ mask-bits (suc n) m =
     (λ e. let d = eqb-true (m / 2 ^ n % 2) 1 e in rw (e, d) (omega arith))
     (λ e. let d : m / 2 ^ n % 2 ≡ 0 = omega (arith, eqb-false (m / 2 ^ n % 2) 1 e) in rw (e, d) (omega arith)))
 
+-- the set of the members of a mask of 32 places is the mask
 pub set-members : (m : ℕ) → m < 2 ^ 32 → setOf (members m) ≡ m
 set-members m h = mask-same 32 (λ i. elem i (members m)) (λ i. bit i m) (λ i l. elem-from 32 0 m i (omega arith) l) ∙ mask-bits 32 m ∙ mod-eq-of-lt h

@@ -66,6 +66,7 @@ unfolding valueFrom
 value-append v [] t = refl
 value-append v (b ∷ s) t = value-append (v * 10 + (b - 48)) s t
 
+-- the digits of n say n
 pub value-digits : (n : ℕ) → value (digits n) ≡ n
 unfolding value valueFrom
 value-digits n = tens (λ m. value (digits m) ≡ m)
@@ -108,6 +109,7 @@ spelt-snoc (b ∷ []) d s v e = rw (ne-eqb b 48 (λ q. omega arith), s, e)
 spelt-snoc (b ∷ c ∷ t) d s v e =
     rw (and-left (not (eqb b 48)) (allDigits (b ∷ c ∷ t)) s) (all-snoc (b ∷ c ∷ t) d (spelt-all (b ∷ c ∷ t) s) e)
 
+-- the digits of n have no needless zero
 pub spelt-digits : (n : ℕ) → spelt (digits n) ≡ true
 unfolding spelt
 spelt-digits n = tens (λ m. spelt (digits m) ≡ true)
@@ -147,6 +149,7 @@ digits-from v (b ∷ s) p e =
 first-digit : (b : ℕ) → 48 ≤ b → b ≤ 57 → digits (0 * 10 + (b - 48)) ≡ b ∷ []
 first-digit b l h = let e : 48 + (0 * 10 + (b - 48)) ≡ b = omega arith in rw (digits-small (0 * 10 + (b - 48)) (omega arith), e)
 
+-- so a number has one spelling
 pub digits-value : (s : List ℕ) → spelt s ≡ true → digits (value s) ≡ s
 unfolding spelt value valueFrom
 digits-value [] e = absurd (false≢true e)
