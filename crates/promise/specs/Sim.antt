@@ -1,0 +1,5 @@
+-- Demand 3, proved.
+pub mod Wf
+pub mod Stores
+pub mod Locals
+pub mod Exec
