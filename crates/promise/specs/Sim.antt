@@ -3,3 +3,4 @@ pub mod Wf
 pub mod Stores
 pub mod Locals
 pub mod Exec
+pub mod Walk
