@@ -4,3 +4,4 @@ pub mod Stores
 pub mod Locals
 pub mod Exec
 pub mod Walk
+pub mod Same
