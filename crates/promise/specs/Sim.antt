@@ -5,3 +5,4 @@ pub mod Locals
 pub mod Exec
 pub mod Walk
 pub mod Same
+pub mod Blocked
