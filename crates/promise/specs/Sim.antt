@@ -6,3 +6,4 @@ pub mod Exec
 pub mod Walk
 pub mod Same
 pub mod Blocked
+pub mod Step
