@@ -7,3 +7,5 @@ pub mod Walk
 pub mod Same
 pub mod Blocked
 pub mod Step
+pub mod Log
+pub mod Begin
