@@ -9,3 +9,4 @@ pub mod Blocked
 pub mod Step
 pub mod Log
 pub mod Begin
+pub mod Run
