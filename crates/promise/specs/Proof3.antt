@@ -116,3 +116,91 @@ module _ (wf : (t : Table) → close t .number ≡ 0 → Wf t) (sound : (t : Tab
               { completes = ap (λ (z : Ran). z .answer .stop) (shut-is ks ts (q .state′) (q .closes ts)) ∙ f .completes
               ; used-up = ap (λ (z : Ran). z .answer .used) (shut-is ks ts (q .state′) (q .closes ts)) ∙ f .used-up
               ; each = λ n l. rw (noted-is (take n ks) s rest i, open-is (take n ks) s rest i, shut-is (take n ks) ts (q .state′) (q .closes ts)) (rw zero-add at (f .each n l)) })
+
+  -- ---- demand 3
+
+  pub demand-3 : Demand3
+  demand-3 t ok vs ks most most′ log log′ size c =
+      let r = follow t ok vs ks most most′ log log′ size c in
+      let f = r .1 in
+      (r .0, record
+        { completes = f .completes
+        ; used-up = f .used-up
+        ; agree = λ n l. let g = f .each n l in record
+            { open-completes = g .open-completes
+            ; closed-completes = g .closed-completes
+            ; open-steps = g .open-steps
+            ; closed-steps = g .closed-steps
+            ; logs = same-log n _ _ (g .logs)
+            ; states = same-state t _ _ _ (g .states) } })
+
+  -- ---- its consequences: of the open run the proof knows more than a partner says
+
+  all-below : (n : ℕ) (f g : ℕ → Bool) → ((k : ℕ) → k < n → f k ≡ g k) → allBelow n f ≡ allBelow n g
+  unfolding allBelow
+  all-below zero f g e = refl
+  all-below (suc n) f g e = ap₂ _&&_ (e n (omega arith)) (all-below n f g (λ k l. e k (omega arith)))
+
+  module _ (t : Table) (w : Wf t) (h : History) (s s′ s″ : State) (q : SameState t h s s′) (r : Same t h s s″) where
+    stand-still : standstill t s ≡ standstill (closeTable t) s′
+    unfolding standstill closeTable closedWith
+    stand-still = all-below (t .tasks) _ _ (λ k l. ap₂ (λ a b. not a && b) (q .open-stands k l ∙ sym (q .closed-stands k l))
+        (same-blocked t h s s′ w q k l (r .task k l .some-open) (r .task k l .keeps)))
+
+    module _ (k : ℕ) (k< : k < t .tasks) where
+      abbrev p : ℕ
+      p = topmost s k .proc
+
+      abbrev n : ℕ
+      n = topmost s k .node
+
+      clean-of : (v : ℕ) (o : Option ℕ) → (Dirty t (settingOf p v o) → ⊥) → CleanSetting t p v o
+      clean-of v none c = c
+      clean-of v (some m) c = c
+
+      -- a clean use finds the same value
+      same-use : (u : ℕ) → u < procAt t p .vars → (Dirty t (useAt p n u) → ⊥) → varAt (topmost s k .vars) u ≡ varAt (topmost s′ k .vars) u
+      same-use u l c =
+          let j = openFrames s k - 1 in
+          let b = r .task k k< in
+          let j< : j < openFrames s k = omega (arith, b .some-open) in
+          rw (← q .frames k k<) (q .vars k j u k< j< l (clean-of u (lastSetting t p u none (h k j)) (λ d. c (b .frame j j< .locals .reach u l d))))
+
+      fail-assert : (u to : ℕ) → nodeAt t p n ≡ Assert u to → useOr t (dirty t) p n u ≢ removed → fails (topmost s k .vars) (Assert u to) ≡ fails (topmost s′ k .vars) (closing t p n (Assert u to))
+      unfolding fails closedNode uses
+      fail-assert u to e c = cases (D t (useAt p n u))
+          (λ b. absurd (c (rw b)))
+          (λ b. rw b (ap (λ (x : ℤ). not (eqb u removed) && eqZ x (pos 0)) (same-use u (w .uses< p n u (rw e (List·Memᴰ·head refl))) (not-dirty t (useAt p n u) b))))
+
+      fail-at : (x : Node) → nodeAt t p n ≡ x → (v to : ℕ) → closing t p n x ≡ Assert v to → v ≢ removed → fails (topmost s k .vars) x ≡ fails (topmost s′ k .vars) (closing t p n x)
+      unfolding fails closedNode
+      fail-at Absent e v to i c = refl
+      fail-at (Start a) e v to i c = refl
+      fail-at (Set u o a b m) e v to i c = refl
+      fail-at (Test o a b y m) e v to i c = refl
+      fail-at (Read u m) e v to i c = refl
+      fail-at (Call f xs m) e v to i c = refl
+      fail-at (Wait a m) e v to i c = refl
+      fail-at (Signal a m) e v to i c = refl
+      fail-at (Send a u m) e v to i c = refl
+      fail-at (Recv a u m) e v to i c = refl
+      fail-at (Assert u m) e v to i c = let z : useOr t (dirty t) p n u ≡ v = cc in fail-assert u m e (λ b. c (sym z ∙ b))
+      fail-at (Out u m) e v to i c = refl
+      fail-at Return e v to i c = refl
+
+      fail-alike : (v to : ℕ) → standsBefore (closeTable t) s′ k ≡ Assert v to → v ≢ removed → failing t s k ≡ failing (closeTable t) s′ k
+      fail-alike v to i c =
+          let z = stands-closed t h s s′ w q k k< (r .task k k< .some-open) (r .task k k< .keeps) in
+          fail-at (standsBefore t s k) refl v to (sym z ∙ i) c ∙ ap (fails (topmost s′ k .vars)) (sym z)
+
+  pub same-standstill : SameStandstill
+  same-standstill t ok vs ks most most′ log log′ size c ts f n l =
+      let g = follow t ok vs ks most most′ log log′ size c .1 .each n l in
+      let a = accepted t ok .answer-is in
+      rw a (stand-still t (wf t ok) _ _ _ _ (rw a at (f .agree n l .states)) (g .states))
+
+  pub same-failure : SameFailure
+  same-failure t ok vs ks most most′ log log′ size c ts f n k v to l k< i j =
+      let g = follow t ok vs ks most most′ log log′ size c .1 .each n l in
+      let a = accepted t ok .answer-is in
+      rw a (fail-alike t (wf t ok) _ _ _ _ (rw a at (f .agree n l .states)) (g .states) k k< v to (rw a at i) j)
