@@ -45,7 +45,7 @@ same-refl f = go (Fact-discrete ℕ-discrete f f)
 
 -- ---- the test of a setting
 
-pub setsVar-false : (s : Option ℕ) (v : ℕ) → setsVar s v ≡ false → s ≢ some v
+setsVar-false : (s : Option ℕ) (v : ℕ) → setsVar s v ≡ false → s ≢ some v
 setsVar-false none v e h = let z : _≡_ {A = ℕ} 0 1 = cc in absurd (omega arith)
 setsVar-false (some w) v e h = eqb-false w v e cc
 

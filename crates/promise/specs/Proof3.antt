@@ -1,12 +1,12 @@
 -- Demand 3 and its consequences, proved from what the reader grants of an accepted table, and from the closed table's having no fault.
-use Prim.Native.Nat.{ℕ, zero, suc, _+_, _-_, _<_, _≤_}
+use Prim.Native.Nat.{ℕ, zero, suc, _-_, _<_, _≤_}
 use native.Mathlib.Omega.{arith}
 use native.Mathlib.Nat.{zero-add}
-use mathlib.Core.Path.{_≡_, refl, sym, _∙_, ap, ap₂, subst, subst₂, subst₃}
+use mathlib.Core.Path.{_≡_, refl, sym, _∙_, ap, ap₂}
 use mathlib.Core.Logic.{_≢_}
 use mathlib.Core.Bool.{Bool, true, false, not, _&&_}
 use mathlib.Core.Option.{Option, none, some}
-use mathlib.Core.List.{List, [], _∷_, List·Memᴰ·head}
+use mathlib.Core.List.{List, [], List·Memᴰ·head}
 use lib.ListN.{length, take}
 use lib.Dec.{eqb}
 use lib.IntN.{ℤ, pos}
@@ -22,12 +22,12 @@ use Rattle.closing.specs.Dirty.{useAt, Dirty}
 use Rattle.closing.specs.Closing.{dirty}
 use Rattle.closing.specs.Close.{useOr, closedNode, closedWith, closeTable, answer, close}
 use Rattle.machine.specs.declared.State.{State}
-use Rattle.machine.specs.State.{openFrames, isLost, frameAt, topmost, varAt, standsBefore, blocked, standstill, Begun, begun, begin}
+use Rattle.machine.specs.State.{openFrames, topmost, varAt, standsBefore, standstill, Begun, begun, begin}
 use Rattle.machine.specs.State as First
-use Rattle.machine.specs.Step.{Kept, keptOf, keptIn, fails, failing, stopNumber}
+use Rattle.machine.specs.Step.{Kept, keptOf, keptIn, fails, failing}
 use Rattle.machine.specs.Run.{Ran, runFrom, runBegun, runChecked, run}
 use Rattle.machine.specs.History.{History, lastSetting, historyFrom, historyBegun, history}
-use Rattle.promise.specs.Demand3.{CleanSetting, SameState, SameRun, openRun, closedRun, Partner, Demand3, SameStandstill, SameFailure}
+use Rattle.promise.specs.Demand3.{CleanSetting, SameState, openRun, closedRun, Demand3, SameStandstill, SameFailure}
 use Rattle.promise.specs.Sim.Wf.{Wf}
 use Rattle.promise.specs.Sim.Locals.{settingOf, D, keptAt, not-dirty}
 use Rattle.promise.specs.Sim.Exec.{closing}
@@ -36,7 +36,7 @@ use Rattle.promise.specs.Sim.Same.{Same}
 use Rattle.promise.specs.Sim.Blocked.{same-state, stands-closed, same-blocked}
 use Rattle.promise.specs.Sim.Log.{same-log}
 use Rattle.promise.specs.Sim.Begin.{WhenBegun, BothBegin, begin-sim}
-use Rattle.promise.specs.Sim.Run.{stop-number, Strong, Follows, run-sim}
+use Rattle.promise.specs.Sim.Run.{stop-number, Strong, run-sim}
 
 -- ---- a table that the closer accepts: it has no fault and is open, and the answer holds its closing
 
@@ -111,28 +111,35 @@ module _ (wf : (t : Table) → close t .number ≡ 0 → Wf t) (sound : (t : Tab
         go (begun s rest) i q =
             let r = run-sim t t-wf most most′ vs ks 0 s (q .state′) (λ k j. []) rest log log′ (q .states) (λ j l. absurd (omega arith)) size (sym (ap (λ (z : Ran). z .answer .stop) (open-is ks s rest i)) ∙ c) in
             let ts = r .0 in
-            let f = r .1 ts in
-            (ts, record
-              { completes = ap (λ (z : Ran). z .answer .stop) (shut-is ks ts (q .state′) (q .closes ts)) ∙ f .completes
-              ; used-up = ap (λ (z : Ran). z .answer .used) (shut-is ks ts (q .state′) (q .closes ts)) ∙ f .used-up
-              ; each = λ n l. rw (noted-is (take n ks) s rest i, open-is (take n ks) s rest i, shut-is (take n ks) ts (q .state′) (q .closes ts)) (rw zero-add at (f .each n l)) })
+            let f = r .1 ts in (
+              ts,
+              record {
+                completes = ap (λ (z : Ran). z .answer .stop) (shut-is ks ts (q .state′) (q .closes ts)) ∙ f .completes;
+                used-up = ap (λ (z : Ran). z .answer .used) (shut-is ks ts (q .state′) (q .closes ts)) ∙ f .used-up;
+                each = λ n l. rw (noted-is (take n ks) s rest i, open-is (take n ks) s rest i, shut-is (take n ks) ts (q .state′) (q .closes ts)) (rw zero-add at (f .each n l));
+              },
+            )
 
   -- ---- demand 3
 
   pub demand-3 : Demand3
   demand-3 t ok vs ks most most′ log log′ size c =
       let r = follow t ok vs ks most most′ log log′ size c in
-      let f = r .1 in
-      (r .0, record
-        { completes = f .completes
-        ; used-up = f .used-up
-        ; agree = λ n l. let g = f .each n l in record
-            { open-completes = g .open-completes
-            ; closed-completes = g .closed-completes
-            ; open-steps = g .open-steps
-            ; closed-steps = g .closed-steps
-            ; logs = same-log n _ _ (g .logs)
-            ; states = same-state t _ _ _ (g .states) } })
+      let f = r .1 in (
+        r .0,
+        record {
+          completes = f .completes;
+          used-up = f .used-up;
+          agree = λ n l. let g = f .each n l in record {
+            open-completes = g .open-completes;
+            closed-completes = g .closed-completes;
+            open-steps = g .open-steps;
+            closed-steps = g .closed-steps;
+            logs = same-log n _ _ (g .logs);
+            states = same-state t _ _ _ (g .states);
+          };
+        },
+      )
 
   -- ---- its consequences: of the open run the proof knows more than a partner says
 

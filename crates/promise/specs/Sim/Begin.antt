@@ -3,27 +3,25 @@ use Prim.Native.Nat.{ℕ, zero, suc, _+_, _-_, _<_, _≤_}
 use native.Mathlib.Omega.{arith}
 use native.Mathlib.Nat.{zero-add}
 use mathlib.Core.Path.{_≡_, refl, sym, _∙_, ap, subst}
-use mathlib.Core.Logic.{_≢_}
 use mathlib.Core.Bool.{Bool, true, false}
-use mathlib.Core.Option.{none}
 use mathlib.Core.List.{List, [], _∷_, _++_}
-use lib.ListN.{length, getD, set, take, drop, replicate, length-set, length-append, length-replicate, getD-replicate}
+use lib.ListN.{length, getD, take, drop, replicate, length-set, length-append, length-replicate, getD-replicate}
 use lib.Seq.{length-take-le, getD-append-add}
 use lib.Dec.{eqb, ltb}
 use lib.IntN.{ℤ, pos}
 use borrow.Author.Tests.{eqb-true, eqb-false, ltb-true, ltb-false, lt-ltb, le-ltb}
 use Rattle.table.specs.Mask.{pick}
-use Rattle.table.specs.Table.{nodeAt, procAt, taskAt}
+use Rattle.table.specs.Table.{procAt, taskAt}
 use Rattle.table.specs.declared.Table.{Table}
 use Rattle.text.specs.Reader.{concat}
 use Rattle.closing.specs.ReachLaws.{cases}
-use Rattle.closing.specs.Dirty.{dropped, Dirty, here, from-entry, top}
+use Rattle.closing.specs.Dirty.{here, from-entry, top}
 use Rattle.closing.specs.Close.{closedWith, closeTable}
 use Rattle.machine.specs.declared.Frame.{Frame}
 use Rattle.machine.specs.declared.Entries.{Entries}
 use Rattle.machine.specs.declared.State.{State}
 use Rattle.machine.specs.State.{noVars, openFrames, isLost, place, frameAt, entriesAt, varAt, firstState, firstInputs, Begun, spent, begun, withInputs, takeInputs, begin}
-use Rattle.machine.specs.History.{History, lastSetting}
+use Rattle.machine.specs.History.{lastSetting}
 use Rattle.promise.specs.Sim.Wf.{Wf}
 use Rattle.promise.specs.Sim.Stores.{frame-same, frame-other, concat-at, concat-length}
 use Rattle.promise.specs.Sim.Locals.{Locals}
@@ -54,16 +52,17 @@ record Taken (u : Table) (n i : ℕ) (s s₁ : State) (rest : List ℤ) : Type 0
 
 module _ (u : Table) where
   taken-on : (n i : ℕ) (s s₁ : State) (xs rest : List ℤ) → suc i + n ≤ 4 → length (s .frames) ≡ 32 → length xs ≡ firstInputs u i → Taken u n (suc i) (withInputs u i s xs) s₁ rest → Taken u (suc n) i s s₁ rest
-  taken-on n i s s₁ xs rest l size e r = record
-    { depth = r .depth
-    ; lost = r .lost
-    ; sems = r .sems
-    ; queues = r .queues
-    ; places = r .places
-    ; new = λ k a b. cases (eqb k i)
+  taken-on n i s s₁ xs rest l size e r = record {
+    depth = r .depth;
+    lost = r .lost;
+    sems = r .sems;
+    queues = r .queues;
+    places = r .places;
+    new = λ k a b. cases (eqb k i)
         (λ j. let z = eqb-true k i j in rw z (xs, e, r .old i (omega arith) ∙ frame-same (s .frames) i 0 (inputFrame u i xs) _ size (omega arith) (omega arith)))
-        (λ j. r .new k (omega (arith, eqb-false k i j)) (omega arith))
-    ; old = λ k a. r .old k (omega arith) ∙ frame-other (s .frames) i 0 k 0 (inputFrame u i xs) _ (omega arith) (omega arith) (λ z. absurd (omega arith)) }
+        (λ j. r .new k (omega (arith, eqb-false k i j)) (omega arith));
+    old = λ k a. r .old k (omega arith) ∙ frame-other (s .frames) i 0 k 0 (inputFrame u i xs) _ (omega arith) (omega arith) (λ z. absurd (omega arith));
+  }
 
   taken : (n i : ℕ) (s : State) (vs : List ℤ) → i + n ≤ 4 → length (s .frames) ≡ 32 → WhenBegun (Taken u n i s) (takeInputs u n i s vs)
   unfolding takeInputs
@@ -71,12 +70,12 @@ module _ (u : Table) where
   taken (suc n) i s vs l size = cases (ltb (length vs) (firstInputs u i))
       (λ e. rw (e, takeInputs) tt)
       (λ e.
-        let m = firstInputs u i in
-        let xs = take m vs in
-        let s₂ = withInputs u i s xs in
-        rw (e, takeInputs) (when-begun (Taken u n (suc i) s₂) (Taken u (suc n) i s) (takeInputs u n (suc i) s₂ (drop m vs))
-          (λ s₁ rest r. taken-on n i s s₁ xs rest (omega arith) size (length-take-le m vs (ltb-false (length vs) m e)) r)
-          (taken n (suc i) s₂ (drop m vs) (omega arith) (length-set (s .frames) (place i 0) _ ∙ size))))
+      let m = firstInputs u i in
+      let xs = take m vs in
+      let s₂ = withInputs u i s xs in
+      rw (e, takeInputs) (when-begun (Taken u n (suc i) s₂) (Taken u (suc n) i s) (takeInputs u n (suc i) s₂ (drop m vs))
+      (λ s₁ rest r. taken-on n i s s₁ xs rest (omega arith) size (length-take-le m vs (ltb-false (length vs) m e)) r)
+      (taken n (suc i) s₂ (drop m vs) (omega arith) (length-set (s .frames) (place i 0) _ ∙ size))))
 
   -- a closed table's tasks take no input
   taken-with : ℕ → ℕ → State → List ℤ → ℕ → Begun
@@ -93,13 +92,14 @@ module _ (t : Table) (wf : Wf t) where
   first-locals : (k p : ℕ) (xs : List ℤ) → k < t .tasks → taskAt t k .top ≡ p → length xs ≡ procAt t p .params
       → Locals t p zero (lastOf t p []) (xs ++ replicate (16 - length xs) (pos 0)) noVars
   unfolding lastSetting
-  first-locals k p xs k< e size = record
-    { open-size = length-append xs (replicate (16 - length xs) (pos 0)) ∙ rw length-replicate (omega (arith, wf .params p))
-    ; closed-size = refl
-    ; agree = λ v l clean. cases (ltb v (length xs))
+  first-locals k p xs k< e size = record {
+    open-size = length-append xs (replicate (16 - length xs) (pos 0)) ∙ rw length-replicate (omega (arith, wf .params p));
+    closed-size = refl;
+    agree = λ v l clean. cases (ltb v (length xs))
         (λ j. absurd (clean (top k (omega (arith, ltb-true v (length xs) j)) k< e)))
-        (λ j. past v (wf .vars p) l (ltb-false v (length xs) j))
-    ; reach = λ v l d. from-entry l here d }
+        (λ j. past v (wf .vars p) l (ltb-false v (length xs) j));
+    reach = λ v l d. from-entry l here d;
+  }
     where
       past : (v : ℕ) → procAt t p .vars ≤ 16 → v < procAt t p .vars → length xs ≤ v → varAt (xs ++ replicate (16 - length xs) (pos 0)) v ≡ varAt noVars v
       past v a b c = let z : v ≡ length xs + (v - length xs) = omega arith in
@@ -156,28 +156,31 @@ module _ (t : Table) (wf : Wf t) where
         let d : openFrames s k ≡ 1 = ap (λ (l : List ℕ). getD l k 0) (a .depth) ∙ first-depth k k< in
         let d′ : openFrames s′ k ≡ 1 = ap (λ (l : List ℕ). getD l k 0) (a′ .depth ∙ closed-first .0) ∙ first-depth k k< in
         let n = a .new k (omega arith) (omega arith) in
-        record
-        { depth = d ∙ sym d′
-        ; some-open = omega arith
-        ; few-open = omega arith
-        ; open-stands = ap (λ (l : List Bool). getD l k false) (a .lost) ∙ first-lost k k<
-        ; closed-stands = ap (λ (l : List Bool). getD l k false) (a′ .lost ∙ closed-first .1) ∙ first-lost k k<
-        ; frame = λ j l. let z : j ≡ 0 = omega arith in rw z (first-frame k k<)
-        ; keeps = rw d (rw (n .2) (first-kept t (taskAt t k .top) (wf .tops k k<)))
-        ; calls = λ j l. absurd (omega arith) }
+        record {
+          depth = d ∙ sym d′;
+          some-open = omega arith;
+          few-open = omega arith;
+          open-stands = ap (λ (l : List Bool). getD l k false) (a .lost) ∙ first-lost k k<;
+          closed-stands = ap (λ (l : List Bool). getD l k false) (a′ .lost ∙ closed-first .1) ∙ first-lost k k<;
+          frame = λ j l. let z : j ≡ 0 = omega arith in rw z (first-frame k k<);
+          keeps = rw d (rw (n .2) (first-kept t (taskAt t k .top) (wf .tops k k<)));
+          calls = λ j l. absurd (omega arith);
+        }
 
     first-same : Same t (λ k j. []) s s′
-    first-same = record
-      { depths = ap length (a .depth) ∙ first-depths
-      ; depths′ = ap length (a′ .depth ∙ closed-first .0) ∙ first-depths
-      ; places = a .places
-      ; places′ = a′ .places
-      ; task = first-task
-      ; shared = record
-          { sems = a .sems ∙ sym (closed-first .2) ∙ sym (a′ .sems)
-          ; sizes = ap length (a .queues ∙ sym (closed-first .3) ∙ sym (a′ .queues))
-          ; lens = λ q. ap (λ (l : List Entries). entriesAt l q .len) (a .queues ∙ sym (closed-first .3) ∙ sym (a′ .queues))
-          ; keeps = λ q c. ap (λ (l : List Entries). entriesAt l q) (a .queues ∙ sym (closed-first .3) ∙ sym (a′ .queues)) } }
+    first-same = record {
+      depths = ap length (a .depth) ∙ first-depths;
+      depths′ = ap length (a′ .depth ∙ closed-first .0) ∙ first-depths;
+      places = a .places;
+      places′ = a′ .places;
+      task = first-task;
+      shared = record {
+        sems = a .sems ∙ sym (closed-first .2) ∙ sym (a′ .sems);
+        sizes = ap length (a .queues ∙ sym (closed-first .3) ∙ sym (a′ .queues));
+        lens = λ q. ap (λ (l : List Entries). entriesAt l q .len) (a .queues ∙ sym (closed-first .3) ∙ sym (a′ .queues));
+        keeps = λ q c. ap (λ (l : List Entries). entriesAt l q) (a .queues ∙ sym (closed-first .3) ∙ sym (a′ .queues));
+      };
+    }
 
   -- an open run that begins, and the closed one, which uses no value
   pub record BothBegin (s : State) (rest : List ℤ) : Type 0 where
@@ -191,5 +194,5 @@ module _ (t : Table) (wf : Wf t) where
       let r = taken-none t′ refl (t .tasks) 0 (firstState t′) in
       let a′ = subst (WhenBegun (Taken t′ (t .tasks) 0 (firstState t′))) (r .1 []) (taken t′ (t .tasks) 0 (firstState t′) [] (omega (arith, wf .tasks)) (first-places t′)) in
       when-begun (Taken t (t .tasks) 0 (firstState t)) BothBegin (takeInputs t (t .tasks) 0 (firstState t) vs)
-        (λ s rest a. record { state′ = r .0; closes = r .1; states = first-same open-form s (r .0) rest [] a a′ })
-        (taken t (t .tasks) 0 (firstState t) vs (omega (arith, wf .tasks)) (first-places t))
+      (λ s rest a. record { state′ = r .0; closes = r .1; states = first-same open-form s (r .0) rest [] a a′ })
+      (taken t (t .tasks) 0 (firstState t) vs (omega (arith, wf .tasks)) (first-places t))

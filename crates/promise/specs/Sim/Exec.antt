@@ -1,12 +1,12 @@
 -- One node executed: a kept node in both runs, a node that is not kept in the open run alone. And what a kept node logs.
-use Prim.Native.Nat.{ℕ, zero, suc, _+_, _-_, _<_}
+use Prim.Native.Nat.{ℕ, _+_, _-_, _<_}
 use native.Mathlib.Omega.{arith}
 use mathlib.Core.Path.{_≡_, refl, sym, _∙_, ap, ap₂}
-use mathlib.Core.Logic.{_≢_, _⊎_, inl, inr}
+use mathlib.Core.Logic.{_⊎_, inl, inr}
 use mathlib.Core.Bool.{Bool, true, false, true≢false, false≢true}
 use mathlib.Core.Option.{Option, none, some}
 use mathlib.Core.List.{List, [], _∷_, _++_, List·Memᴰ, List·Memᴰ·head, Memᴰ·append-left, Memᴰ·append-right}
-use lib.ListN.{length, set, length-set, List·getD-eq-default}
+use lib.ListN.{length, set, length-set}
 use lib.Seq.{set-out, getD-set-same, getD-set-other}
 use lib.Dec.{eqb}
 use lib.IntN.{ℤ, pos}
@@ -27,16 +27,13 @@ use Rattle.closing.specs.KeptLaws.{unkept-is}
 use Rattle.closing.specs.CloseLaws.{close-node}
 use Rattle.machine.specs.declared.Entries.{Entries}
 use Rattle.machine.specs.State.{varAt, entriesAt, semCount}
-use Rattle.machine.specs.Step.{Memory, operandIn, assign, withSem, withEntries, appended, oldest, shortened, Did, stops, goes, readOf, exec, Flow, stays, flow, valueOf, shown}
-use Rattle.promise.specs.Sim.Wf.{Single, OneTarget, Wf}
+use Rattle.machine.specs.Step.{Memory, operandIn, assign, withSem, withEntries, appended, oldest, shortened, Did, stops, goes, readOf, exec, stays, flow, valueOf, shown}
+use Rattle.promise.specs.Sim.Wf.{Single, Wf}
 use Rattle.promise.specs.Sim.Stores.{set-both}
 use Rattle.promise.specs.Sim.Locals.{Last, D, keptAt, not-dirty, is-dirty, D-false, mark, Locals, clean-use, move, move-set, Shared}
 
 -- `-` is in no place of a frame's variables
-pub removed-at : (l : List ℤ) → length l ≡ 16 → varAt l removed ≡ pos 0
-removed-at l e = List·getD-eq-default l (pos 0) (omega arith)
-
-pub removed-set : (l : List ℤ) (x : ℤ) → length l ≡ 16 → set l removed x ≡ l
+removed-set : (l : List ℤ) (x : ℤ) → length l ≡ 16 → set l removed x ≡ l
 removed-set l x e = set-out l removed x (omega arith)
 
 -- what holds of a node's execution where it goes on
@@ -99,18 +96,25 @@ module _ (t : Table) where
 
     -- one that changes a semaphore alike
     counted : (x : Node) (a i c : ℕ) (vs : List ℤ) → nodeAt t p n ≡ x → sets x ≡ none → Leading p n a → exec x h vs ≡ goes a (withSem i c h) vs → ((ws : List ℤ) → exec (closing p n x) g ws ≡ goes (arcOf p a) (withSem i c g) ws) → Matched x vs
-    counted x a i c vs e j l o k = record
-      { arc = a; mem = withSem i c h; mem′ = withSem i c g; opens = o; closes = k; leading = l
-      ; locals = move t p n (l .to) la _ _ (ap sets e ∙ j) (l .into) r
-      ; shared = record { sems = ap (λ (z : List ℕ). set z i c) (s .sems); sizes = s .sizes; lens = s .lens; keeps = s .keeps } }
+    counted x a i c vs e j l o k = record {
+      arc = a;
+      mem = withSem i c h;
+      mem′ = withSem i c g;
+      opens = o;
+      closes = k;
+      leading = l;
+      locals = move t p n (l .to) la _ _ (ap sets e ∙ j) (l .into) r;
+      shared = record { sems = ap (λ (z : List ℕ). set z i c) (s .sems); sizes = s .sizes; lens = s .lens; keeps = s .keeps };
+    }
 
     -- a queue changed in both runs
     queued : (q : ℕ) (x y : Entries) → x .len ≡ y .len → ((Dirty t (blank q) → ⊥) → x ≡ y) → Shared t (h .sems) (set (h .queues) q x) (g .sems) (set (g .queues) q y)
-    queued q x y l k = record
-      { sems = s .sems
-      ; sizes = length-set (h .queues) q x ∙ s .sizes ∙ sym (length-set (g .queues) q y)
-      ; lens = λ j. set-both (λ (a b : Entries). a .len ≡ b .len) (h .queues) (g .queues) q j x _ y _ (s .sizes) (λ _. l) (s .lens j)
-      ; keeps = λ j c. set-both (λ (a b : Entries). a ≡ b) (h .queues) (g .queues) q j x _ y _ (s .sizes) (λ e. k (rw e at c)) (s .keeps j c) }
+    queued q x y l k = record {
+      sems = s .sems;
+      sizes = length-set (h .queues) q x ∙ s .sizes ∙ sym (length-set (g .queues) q y);
+      lens = λ j. set-both (λ (a b : Entries). a .len ≡ b .len) (h .queues) (g .queues) q j x _ y _ (s .sizes) (λ _. l) (s .lens j);
+      keeps = λ j c. set-both (λ (a b : Entries). a ≡ b) (h .queues) (g .queues) q j x _ y _ (s .sizes) (λ e. k (rw e at c)) (s .keeps j c);
+    }
 
     -- an operand without a dirty use
     operand-eq : (o : Operand) → ((u : ℕ) → List·Memᴰ u (operandUses o) → (u < procAt t p .vars) × (Dirty t (useAt p n u) → ⊥)) → operandIn (h .vars) o ≡ operandIn (g .vars) o
@@ -136,17 +140,18 @@ module _ (t : Table) where
         let z = apply o (operandIn (g .vars) a) (operandIn (g .vars) b) in
         let v< = sets-16 v (ap sets e) in
         let l = by-to p n to (ap arcTo e) (rw e at (wf .one p n)) in
-        record
-        { arc = to
-        ; mem = assign v (apply o (operandIn (h .vars) a) (operandIn (h .vars) b)) h
-        ; mem′ = assign v z g
-        ; opens = refl
-        ; closes = λ ws. refl
-        ; leading = l
-        ; locals = move-set t p n (l .to) v _ la _ (g .vars) (set (g .vars) v z) (ap sets e) (l .into) r (length-set (g .vars) v z ∙ r .closed-size)
-            (λ w i. getD-set-other (g .vars) v w z (pos 0) i)
-            (λ _. rw (getD-set-same (g .vars) v z (pos 0) (omega (arith, r .closed-size))) (ap₂ (apply o) (q .0) (q .1))) v<
-        ; shared = s }
+        record {
+          arc = to;
+          mem = assign v (apply o (operandIn (h .vars) a) (operandIn (h .vars) b)) h;
+          mem′ = assign v z g;
+          opens = refl;
+          closes = λ ws. refl;
+          leading = l;
+          locals = move-set t p n (l .to) v _ la _ (g .vars) (set (g .vars) v z) (ap sets e) (l .into) r (length-set (g .vars) v z ∙ r .closed-size)
+              (λ w i. getD-set-other (g .vars) v w z (pos 0) i)
+              (λ _. rw (getD-set-same (g .vars) v z (pos 0) (omega (arith, r .closed-size))) (ap₂ (apply o) (q .0) (q .1))) v<;
+          shared = s;
+        }
 
     test-sim : (o : Op) (a b : Operand) (y k : ℕ) → nodeAt t p n ≡ Test o a b y k → keptAt t p n ≡ true → (vs : List ℤ) → Matched (Test o a b y k) vs
     unfolding exec closedNode sets uses keeping
@@ -168,15 +173,16 @@ module _ (t : Table) where
     unfolding exec closedNode sets arcTo
     send-sim q v to e vs =
         let l = by-to p n to (ap arcTo e) (rw e at (wf .one p n)) in
-        record
-        { arc = to
-        ; mem = withEntries q (appended (varAt (h .vars) v) (entriesAt (h .queues) q)) h
-        ; mem′ = withEntries q (appended (varAt (g .vars) (queueOr t (dirty t) q v)) (entriesAt (g .queues) q)) g
-        ; opens = refl
-        ; closes = λ ws. refl
-        ; leading = l
-        ; locals = move t p n (l .to) la _ _ (ap sets e) (l .into) r
-        ; shared = queued q _ _ (ap (λ (z : ℕ). z + 1) (s .lens q)) (λ c. ap₂ appended (sent-eq q v to e c) (s .keeps q c)) }
+        record {
+          arc = to;
+          mem = withEntries q (appended (varAt (h .vars) v) (entriesAt (h .queues) q)) h;
+          mem′ = withEntries q (appended (varAt (g .vars) (queueOr t (dirty t) q v)) (entriesAt (g .queues) q)) g;
+          opens = refl;
+          closes = λ ws. refl;
+          leading = l;
+          locals = move t p n (l .to) la _ _ (ap sets e) (l .into) r;
+          shared = queued q _ _ (ap (λ (z : ℕ). z + 1) (s .lens q)) (λ c. ap₂ appended (sent-eq q v to e c) (s .keeps q c));
+        }
 
     -- what a `recv` leaves in the variables
     received : (q v to m : ℕ) → nodeAt t p n ≡ Recv q v to → List·Memᴰ m (arcs (nodeAt t p n))
@@ -184,10 +190,10 @@ module _ (t : Table) where
     unfolding sets
     received q v to m e a = cases (D t (blank q))
         (λ k. rw (k, removed-set (g .vars) (oldest (entriesAt (g .queues) q)) (r .closed-size)) (move-set t p n m v _ la _ (g .vars) (g .vars) (ap sets e) a r (r .closed-size) (λ w i. refl)
-          (λ c. absurd (c (by-recv q v to e (is-dirty t (blank q) k)))) v<))
+        (λ c. absurd (c (by-recv q v to e (is-dirty t (blank q) k)))) v<))
         (λ k. rw k (move-set t p n m v _ la _ (g .vars) (set (g .vars) v y) (ap sets e) a r (length-set (g .vars) v y ∙ r .closed-size)
-          (λ w i. getD-set-other (g .vars) v w y (pos 0) i)
-          (λ c. rw (getD-set-same (g .vars) v y (pos 0) (omega (arith, r .closed-size, v<))) (ap oldest (s .keeps q (not-dirty t (blank q) k)))) v<))
+        (λ w i. getD-set-other (g .vars) v w y (pos 0) i)
+        (λ c. rw (getD-set-same (g .vars) v y (pos 0) (omega (arith, r .closed-size, v<))) (ap oldest (s .keeps q (not-dirty t (blank q) k)))) v<))
       where
         y : ℤ
         y = oldest (entriesAt (g .queues) q)
@@ -199,15 +205,16 @@ module _ (t : Table) where
     unfolding exec closedNode arcTo
     recv-sim q v to e vs =
         let l = by-to p n to (ap arcTo e) (rw e at (wf .one p n)) in
-        record
-        { arc = to
-        ; mem = assign v (oldest (entriesAt (h .queues) q)) (withEntries q (shortened (entriesAt (h .queues) q)) h)
-        ; mem′ = assign (queueOr t (dirty t) q v) (oldest (entriesAt (g .queues) q)) (withEntries q (shortened (entriesAt (g .queues) q)) g)
-        ; opens = refl
-        ; closes = λ ws. refl
-        ; leading = l
-        ; locals = received q v to (l .to) e (l .into)
-        ; shared = queued q _ _ (ap (λ (z : ℕ). z - 1) (s .lens q)) (λ c. ap shortened (s .keeps q c)) }
+        record {
+          arc = to;
+          mem = assign v (oldest (entriesAt (h .queues) q)) (withEntries q (shortened (entriesAt (h .queues) q)) h);
+          mem′ = assign (queueOr t (dirty t) q v) (oldest (entriesAt (g .queues) q)) (withEntries q (shortened (entriesAt (g .queues) q)) g);
+          opens = refl;
+          closes = λ ws. refl;
+          leading = l;
+          locals = received q v to (l .to) e (l .into);
+          shared = queued q _ _ (ap (λ (z : ℕ). z - 1) (s .lens q)) (λ c. ap shortened (s .keeps q c));
+        }
 
     pub exec-sim : (x : Node) → nodeAt t p n ≡ x → flow x ≡ stays → keptAt t p n ≡ true → (vs : List ℤ) → Matched x vs
     unfolding exec closedNode sets arcTo flow kept keeping
@@ -235,10 +242,11 @@ module _ (t : Table) where
 
     -- it sets its variable dirty
     set-dirty : (v : ℕ) (x : ℤ) (a : ℕ) (vs : List ℤ) → sets (nodeAt t p n) ≡ some v → Leading p n a → Dirty t (settingAt p n) → Passed a (assign v x h) vs
-    set-dirty v x a vs e l d = record
-      { leading = l
-      ; locals = move-set t p n (l .to) v x la _ (g .vars) (g .vars) e (l .into) r (r .closed-size) (λ w i. refl) (λ c. absurd (c d)) (sets-16 v e)
-      ; shared = s }
+    set-dirty v x a vs e l d = record {
+      leading = l;
+      locals = move-set t p n (l .to) v x la _ (g .vars) (g .vars) e (l .into) r (r .closed-size) (λ w i. refl) (λ c. absurd (c d)) (sets-16 v e);
+      shared = s;
+    }
 
     read-sim : (v to : ℕ) → nodeAt t p n ≡ Read v to → (vs : List ℤ) → WhenGoes Passed (readOf v to h vs)
     unfolding sets arcTo

@@ -1,7 +1,7 @@
 -- What is the same of a frame's variables, and of what tasks share, in the open run and in the closed one.
-use Prim.Native.Nat.{ℕ, zero, suc, _<_}
+use Prim.Native.Nat.{ℕ, _<_}
 use native.Mathlib.Omega.{arith}
-use mathlib.Core.Path.{_≡_, refl, sym, _∙_, ap}
+use mathlib.Core.Path.{_≡_, refl, sym, _∙_}
 use mathlib.Core.Logic.{_≢_}
 use mathlib.Core.Bool.{Bool, true, false, true≢false}
 use mathlib.Core.Option.{Option, none, some}
@@ -15,7 +15,7 @@ use Rattle.table.specs.Mask.{pick}
 use Rattle.table.specs.Table.{nodeAt, procAt, sets, arcs}
 use Rattle.table.specs.declared.Table.{Table}
 use Rattle.closing.specs.ReachLaws.{cases}
-use Rattle.closing.specs.Dirty.{Fact, settingAt, useAt, dropped, blank, Dirty, here, from-node, from-entry}
+use Rattle.closing.specs.Dirty.{Fact, settingAt, useAt, dropped, blank, Dirty, here, from-node}
 use Rattle.closing.specs.Closing.{setsVar, dirty, isDirty, kept}
 use Rattle.closing.specs.DirtyLaws.{dirty-is, use-on, setsVar-other}
 use Rattle.machine.specs.declared.Entries.{Entries}
@@ -26,10 +26,6 @@ use Rattle.promise.specs.Demand3.{CleanSetting}
 -- by variable, where it was last set: at a node, or by the entry
 abbrev pub Last : Type 0
 Last = ℕ → Option ℕ
-
--- at the entry
-abbrev pub fresh : Last
-fresh v = none
 
 abbrev pub settingOf : ℕ → ℕ → Option ℕ → Fact
 settingOf p v none = dropped p v
@@ -95,19 +91,21 @@ module _ (t : Table) where
 
   -- the same last settings
   pub still : (p n : ℕ) (la la′ : Last) (lo lc : List ℤ) → ((v : ℕ) → la′ v ≡ la v) → Locals p n la lo lc → Locals p n la′ lo lc
-  still p n la la′ lo lc e r = record
-    { open-size = r .open-size
-    ; closed-size = r .closed-size
-    ; agree = λ v l c. r .agree v l (rw (e v) at c)
-    ; reach = λ v l d. r .reach v l (rw (e v) at d) }
+  still p n la la′ lo lc e r = record {
+    open-size = r .open-size;
+    closed-size = r .closed-size;
+    agree = λ v l c. r .agree v l (rw (e v) at c);
+    reach = λ v l d. r .reach v l (rw (e v) at d);
+  }
 
   -- along an arc of a node that sets nothing
   pub move : (p n m : ℕ) (la : Last) (lo lc : List ℤ) → sets (nodeAt t p n) ≡ none → List·Memᴰ m (arcs (nodeAt t p n)) → Locals p n la lo lc → Locals p m (mark p n la) lo lc
-  move p n m la lo lc e a r = still p m la (mark p n la) lo lc (λ v. mark-other p n v la (sets-nothing p n v e)) (record
-    { open-size = r .open-size
-    ; closed-size = r .closed-size
-    ; agree = r .agree
-    ; reach = λ v l d. use-on t (sets-nothing p n v e) a (r .reach v l d) })
+  move p n m la lo lc e a r = still p m la (mark p n la) lo lc (λ v. mark-other p n v la (sets-nothing p n v e)) (record {
+    open-size = r .open-size;
+    closed-size = r .closed-size;
+    agree = r .agree;
+    reach = λ v l d. use-on t (sets-nothing p n v e) a (r .reach v l d);
+  })
 
   -- along an arc of a node that sets v, in the open run to x and in the closed run as lc′ says
   module _ (p n m v : ℕ) (x : ℤ) (la : Last) (lo lc lc′ : List ℤ) (e : sets (nodeAt t p n) ≡ some v) (a : List·Memᴰ m (arcs (nodeAt t p n))) (r : Locals p n la lo lc)

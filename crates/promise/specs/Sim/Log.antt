@@ -1,12 +1,11 @@
 -- The logs of the two runs: entries that agree, written at the same place, leave logs that agree.
-use Prim.Native.Nat.{ℕ, zero, suc, _+_, _*_, _<_, _≤_}
+use Prim.Native.Nat.{ℕ, suc, _+_, _*_, _<_, _≤_}
 use native.Mathlib.Omega.{arith}
 use native.Mathlib.Nat.{add-zero, add-assoc}
 use mathlib.Core.Path.{_≡_, refl, sym, _∙_, ap}
 use mathlib.Core.Logic.{inl, inr}
-use mathlib.Core.Bool.{true, false}
 use mathlib.Core.Option.{Option, none, some}
-use mathlib.Core.List.{List, [], _∷_}
+use mathlib.Core.List.{List, _∷_}
 use lib.ListN.{length, getD}
 use lib.Seq.{sets}
 use lib.Dec.{eqb}
@@ -36,20 +35,22 @@ abbrev pub SameLogs : ℕ → List ℕ → List ℕ → Type 0
 SameLogs n log log′ = (i : ℕ) → i < n → SameBytes (byte log i) (byte log′ i)
 
 pub same-log : (n : ℕ) (log log′ : List ℕ) → SameLogs n log log′ → SameLog n log log′
-same-log n log log′ q = record
-  { task = λ i l. rw add-zero at (q i l .task)
-  ; proc = λ i l. q i l .proc
-  ; node = λ i l. q i l .node
-  ; flag = λ i l. q i l .flag
-  ; value = λ i b l c e. rw add-assoc (q i l .value b c e) }
+same-log n log log′ q = record {
+  task = λ i l. rw add-zero at (q i l .task);
+  proc = λ i l. q i l .proc;
+  node = λ i l. q i l .node;
+  flag = λ i l. q i l .flag;
+  value = λ i b l c e. rw add-assoc (q i l .value b c e);
+}
 
 bytes-by : (f f′ g g′ : ℕ → ℕ) → ((b : ℕ) → b < 8 → g b ≡ f b) → ((b : ℕ) → b < 8 → g′ b ≡ f′ b) → SameBytes f f′ → SameBytes g g′
-bytes-by f f′ g g′ e e′ r = record
-  { task = e 0 (omega arith) ∙ r .task ∙ sym (e′ 0 (omega arith))
-  ; proc = e 1 (omega arith) ∙ r .proc ∙ sym (e′ 1 (omega arith))
-  ; node = e 2 (omega arith) ∙ r .node ∙ sym (e′ 2 (omega arith))
-  ; flag = λ k. e 3 (omega arith) ∙ r .flag (sym (e′ 3 (omega arith)) ∙ k)
-  ; value = λ b l k. e (4 + b) (omega arith) ∙ r .value b l (sym (e′ 3 (omega arith)) ∙ k) ∙ sym (e′ (4 + b) (omega arith)) }
+bytes-by f f′ g g′ e e′ r = record {
+  task = e 0 (omega arith) ∙ r .task ∙ sym (e′ 0 (omega arith));
+  proc = e 1 (omega arith) ∙ r .proc ∙ sym (e′ 1 (omega arith));
+  node = e 2 (omega arith) ∙ r .node ∙ sym (e′ 2 (omega arith));
+  flag = λ k. e 3 (omega arith) ∙ r .flag (sym (e′ 3 (omega arith)) ∙ k);
+  value = λ b l k. e (4 + b) (omega arith) ∙ r .value b l (sym (e′ 3 (omega arith)) ∙ k) ∙ sym (e′ (4 + b) (omega arith));
+}
 
 bytes-length : (e : Entry) → length (entryBytes e) ≡ 8
 bytes-length e = ap (λ (n : ℕ). suc (suc (suc n))) (go (e .value))
@@ -59,12 +60,13 @@ bytes-length e = ap (λ (n : ℕ). suc (suc (suc n))) (go (e .value))
     go (some x) = refl
 
 entry-bytes : (e e′ : Entry) → SameEntry e e′ → SameBytes (λ b. getD (entryBytes e) b 0) (λ b. getD (entryBytes e′) b 0)
-entry-bytes e e′ r = record
-  { task = r .task
-  ; proc = r .proc
-  ; node = r .node
-  ; flag = λ k. flags (e .value) (e′ .value) (r .value) k
-  ; value = λ b l k. values b (r .value) k }
+entry-bytes e e′ r = record {
+  task = r .task;
+  proc = r .proc;
+  node = r .node;
+  flag = λ k. flags (e .value) (e′ .value) (r .value) k;
+  value = λ b l k. values b (r .value) k;
+}
   where
     unflagged : (o : Option ℤ) → o ≡ none → getD (flagged o) 0 0 ≡ 1 → ⊥
     unflagged o i k = let z : _≡_ {A = ℕ} 0 1 = sym (ap (λ (w : Option ℤ). getD (flagged w) 0 0) i) ∙ k in absurd (omega arith)
@@ -89,4 +91,4 @@ pub log-next : (n : ℕ) (log log′ : List ℕ) (e e′ : Entry) → SameLogs n
 log-next n log log′ e e′ q r size room i l = cases (eqb i n)
     (λ k. rw (eqb-true i n k) (bytes-by (λ b. getD (entryBytes e) b 0) (λ b. getD (entryBytes e′) b 0) _ _ (λ b m. byte-new log n b e room m) (λ b m. byte-new log′ n b e′ (omega arith) m) (entry-bytes e e′ r)))
     (λ k. let l′ : i < n = omega (arith, eqb-false i n k) in
-      bytes-by (byte log i) (byte log′ i) _ _ (λ b m. byte-old log n i b e l′ m) (λ b m. byte-old log′ n i b e′ l′ m) (q i l′))
+    bytes-by (byte log i) (byte log′ i) _ _ (λ b m. byte-old log n i b e l′ m) (λ b m. byte-old log′ n i b e′ l′ m) (q i l′))

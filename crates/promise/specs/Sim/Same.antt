@@ -1,15 +1,14 @@
 -- What the proof carries from step to step: a state of the open run and one of the closed run, task by task and frame by frame.
-use Prim.Native.Nat.{ℕ, zero, suc, _+_, _-_, _<_, _≤_}
+use Prim.Native.Nat.{ℕ, suc, _-_, _<_, _≤_}
 use native.Mathlib.Omega.{arith}
-use mathlib.Core.Path.{_≡_, refl, sym, _∙_, ap}
+use mathlib.Core.Path.{_≡_, refl, sym, _∙_}
 use mathlib.Core.Logic.{_≢_}
-use mathlib.Core.Bool.{Bool, true, false}
-use mathlib.Core.Option.{Option, none, some}
+use mathlib.Core.Bool.{true, false}
+use mathlib.Core.Option.{none, some}
 use mathlib.Core.List.{List}
-use lib.ListN.{length, getD, set, length-set}
+use lib.ListN.{length, set, length-set}
 use lib.Seq.{getD-set-same, getD-set-other}
 use lib.Dec.{eqb}
-use lib.IntN.{ℤ}
 use borrow.Author.Tests.{eqb-true, eqb-false}
 use Rattle.table.specs.Table.{nodeAt}
 use Rattle.table.specs.declared.Args.{Args}
@@ -22,7 +21,6 @@ use Rattle.machine.specs.declared.State.{State}
 use Rattle.machine.specs.State.{noFrame, openFrames, isLost, place, frameAt, topmost}
 use Rattle.machine.specs.Step.{Memory, landed, called, closed}
 use Rattle.machine.specs.History.{History, lastSetting}
-use Rattle.promise.specs.Sim.Wf.{Wf}
 use Rattle.promise.specs.Sim.Stores.{frame-same, frame-other}
 use Rattle.promise.specs.Sim.Locals.{Last, keptAt, Locals, Shared}
 
@@ -44,39 +42,42 @@ pub record Touched (s s₁ : State) (k j : ℕ) (f : Frame) : Type 0 where
 module _ (s : State) (k j : ℕ) (depths : length (s .depth) ≡ 4) (places : length (s .frames) ≡ 32) (k< : k < 4) (j< : j < 8) where
   -- the topmost frame goes on
   pub stays-touch : (p n : ℕ) (m : Memory) → openFrames s k ≡ suc j → Touched s (landed s k j p (some n) m) k j (record { proc = p; node = n; vars = m .vars })
-  stays-touch p n m d = record
-    { depths = depths
-    ; places = length-set (s .frames) (place k j) _ ∙ places
-    ; depth = d
-    ; now = frame-same (s .frames) k j _ _ places k< j<
-    ; below = λ i l. frame-other (s .frames) k j k i _ _ j< (omega arith) (λ _ e. absurd (omega arith))
-    ; depth-other = λ k′ h. refl
-    ; other = λ k′ i h l. frame-other (s .frames) k j k′ i _ _ j< l (λ e. absurd (h e))
-    ; lost = refl }
+  stays-touch p n m d = record {
+    depths = depths;
+    places = length-set (s .frames) (place k j) _ ∙ places;
+    depth = d;
+    now = frame-same (s .frames) k j _ _ places k< j<;
+    below = λ i l. frame-other (s .frames) k j k i _ _ j< (omega arith) (λ _ e. absurd (omega arith));
+    depth-other = λ k′ h. refl;
+    other = λ k′ i h l. frame-other (s .frames) k j k′ i _ _ j< l (λ e. absurd (h e));
+    lost = refl;
+  }
 
   -- a frame is opened
   pub call-touch : (f : Frame) → openFrames s k ≡ j → Touched s (called s k f) k j f
-  call-touch f d = record
-    { depths = length-set (s .depth) k _ ∙ depths
-    ; places = length-set (s .frames) _ f ∙ places
-    ; depth = getD-set-same (s .depth) k _ 0 (omega arith) ∙ omega arith
-    ; now = rw d (frame-same (s .frames) k j f _ places k< j<)
-    ; below = λ i l. rw d (frame-other (s .frames) k j k i f _ j< (omega arith) (λ _ e. absurd (omega arith)))
-    ; depth-other = λ k′ h. getD-set-other (s .depth) k k′ _ 0 h
-    ; other = λ k′ i h l. rw d (frame-other (s .frames) k j k′ i f _ j< l (λ e. absurd (h e)))
-    ; lost = refl }
+  call-touch f d = record {
+    depths = length-set (s .depth) k _ ∙ depths;
+    places = length-set (s .frames) _ f ∙ places;
+    depth = getD-set-same (s .depth) k _ 0 (omega arith) ∙ omega arith;
+    now = rw d (frame-same (s .frames) k j f _ places k< j<);
+    below = λ i l. rw d (frame-other (s .frames) k j k i f _ j< (omega arith) (λ _ e. absurd (omega arith)));
+    depth-other = λ k′ h. getD-set-other (s .depth) k k′ _ 0 h;
+    other = λ k′ i h l. rw d (frame-other (s .frames) k j k′ i f _ j< l (λ e. absurd (h e)));
+    lost = refl;
+  }
 
   -- the topmost frame is closed, and the one below it goes on
   pub return-touch : (p n : ℕ) (m : Memory) → openFrames s k ≡ suc (suc j) → suc j < 8 → Touched s (landed (closed s k) k j p (some n) m) k j (record { proc = p; node = n; vars = m .vars })
-  return-touch p n m d l′ = record
-    { depths = length-set (s .depth) k _ ∙ depths
-    ; places = size
-    ; depth = getD-set-same (s .depth) k _ 0 (omega arith) ∙ omega arith
-    ; now = frame-same gone k j _ _ (length-set (s .frames) _ noFrame ∙ places) k< j<
-    ; below = λ i l. frame-other gone k j k i _ _ j< (omega arith) (λ _ e. absurd (omega arith)) ∙ rw e₁ (frame-other (s .frames) k (suc j) k i _ _ l′ (omega arith) (λ _ e. absurd (omega arith)))
-    ; depth-other = λ k′ h. getD-set-other (s .depth) k k′ _ 0 h
-    ; other = λ k′ i h l. frame-other gone k j k′ i _ _ j< l (λ e. absurd (h e)) ∙ rw e₁ (frame-other (s .frames) k (suc j) k′ i _ _ l′ l (λ e. absurd (h e)))
-    ; lost = refl }
+  return-touch p n m d l′ = record {
+    depths = length-set (s .depth) k _ ∙ depths;
+    places = size;
+    depth = getD-set-same (s .depth) k _ 0 (omega arith) ∙ omega arith;
+    now = frame-same gone k j _ _ (length-set (s .frames) _ noFrame ∙ places) k< j<;
+    below = λ i l. frame-other gone k j k i _ _ j< (omega arith) (λ _ e. absurd (omega arith)) ∙ rw e₁ (frame-other (s .frames) k (suc j) k i _ _ l′ (omega arith) (λ _ e. absurd (omega arith)));
+    depth-other = λ k′ h. getD-set-other (s .depth) k k′ _ 0 h;
+    other = λ k′ i h l. frame-other gone k j k′ i _ _ j< l (λ e. absurd (h e)) ∙ rw e₁ (frame-other (s .frames) k (suc j) k′ i _ _ l′ l (λ e. absurd (h e)));
+    lost = refl;
+  }
     where
       e₁ : openFrames s k - 1 ≡ suc j
       e₁ = omega arith
@@ -123,42 +124,45 @@ module _ (t : Table) where
   module _ (h h₁ : History) (s s₁ s′ s₁′ : State) (k j : ℕ) (f f′ : Frame) (a : Touched s s₁ k j f) (a′ : Touched s′ s₁′ k j f′) where
     -- another task is as it was
     other-task : (k′ : ℕ) → k′ ≢ k → ((i : ℕ) → h₁ k′ i ≡ h k′ i) → SameTask h s s′ k′ → SameTask h₁ s₁ s₁′ k′
-    other-task k′ c e r = record
-      { depth = rw (a .depth-other k′ c, a′ .depth-other k′ c) (r .depth)
-      ; some-open = rw (a .depth-other k′ c) (r .some-open)
-      ; few-open = rw (a .depth-other k′ c) (r .few-open)
-      ; open-stands = rw (a .lost) (r .open-stands)
-      ; closed-stands = rw (a′ .lost) (r .closed-stands)
-      ; frame = λ i l. let l′ : i < openFrames s k′ = rw (a .depth-other k′ c) at l in let l₈ : i < 8 = omega (arith, r .few-open) in
-          rw (a .other k′ i c l₈, a′ .other k′ i c l₈, e i) (r .frame i l′)
-      ; keeps = rw (a .depth-other k′ c) (rw (a .other k′ (openFrames s k′ - 1) c (omega (arith, r .few-open))) (r .keeps))
-      ; calls = λ i l. let l′ : suc i < openFrames s k′ = rw (a .depth-other k′ c) at l in
-          rw (a .other k′ i c (omega (arith, r .few-open))) (r .calls i l′) }
+    other-task k′ c e r = record {
+      depth = rw (a .depth-other k′ c, a′ .depth-other k′ c) (r .depth);
+      some-open = rw (a .depth-other k′ c) (r .some-open);
+      few-open = rw (a .depth-other k′ c) (r .few-open);
+      open-stands = rw (a .lost) (r .open-stands);
+      closed-stands = rw (a′ .lost) (r .closed-stands);
+      frame = λ i l. let l′ : i < openFrames s k′ = rw (a .depth-other k′ c) at l in let l₈ : i < 8 = omega (arith, r .few-open) in
+          rw (a .other k′ i c l₈, a′ .other k′ i c l₈, e i) (r .frame i l′);
+      keeps = rw (a .depth-other k′ c) (rw (a .other k′ (openFrames s k′ - 1) c (omega (arith, r .few-open))) (r .keeps));
+      calls = λ i l. let l′ : suc i < openFrames s k′ = rw (a .depth-other k′ c) at l in
+          rw (a .other k′ i c (omega (arith, r .few-open))) (r .calls i l′);
+    }
 
     this-task : j < 8 → isLost s k ≡ false → isLost s′ k ≡ false → SameFrame (h₁ k j) f f′ → keptAt t (f .proc) (f .node) ≡ true
         → ((i : ℕ) → i < j → SameFrame (h₁ k i) (frameAt s k i) (frameAt s′ k i)) → ((i : ℕ) → i < j → IsCall (nodeOf (frameAt s k i)))
         → SameTask h₁ s₁ s₁′ k
-    this-task j< n n′ top keep low calls = record
-      { depth = a .depth ∙ sym (a′ .depth)
-      ; some-open = omega (arith, a .depth)
-      ; few-open = omega (arith, a .depth)
-      ; open-stands = rw (a .lost) n
-      ; closed-stands = rw (a′ .lost) n′
-      ; frame = λ i l. cases (eqb i j)
+    this-task j< n n′ top keep low calls = record {
+      depth = a .depth ∙ sym (a′ .depth);
+      some-open = omega (arith, a .depth);
+      few-open = omega (arith, a .depth);
+      open-stands = rw (a .lost) n;
+      closed-stands = rw (a′ .lost) n′;
+      frame = λ i l. cases (eqb i j)
           (λ b. rw (eqb-true i j b) (rw (a .now, a′ .now) top))
-          (λ b. let l′ : i < j = omega (arith, a .depth, eqb-false i j b) in rw (a .below i l′, a′ .below i l′) (low i l′))
-      ; keeps = let z : openFrames s₁ k - 1 ≡ j = omega (arith, a .depth) in rw z (rw (a .now) keep)
-      ; calls = λ i l. let l′ : i < j = omega (arith, a .depth) in rw (a .below i l′) (calls i l′) }
+          (λ b. let l′ : i < j = omega (arith, a .depth, eqb-false i j b) in rw (a .below i l′, a′ .below i l′) (low i l′));
+      keeps = let z : openFrames s₁ k - 1 ≡ j = omega (arith, a .depth) in rw z (rw (a .now) keep);
+      calls = λ i l. let l′ : i < j = omega (arith, a .depth) in rw (a .below i l′) (calls i l′);
+    }
 
     pub rebuild : Same h s s′ → k < t .tasks → j < 8 → ((k′ i : ℕ) → k′ ≢ k → h₁ k′ i ≡ h k′ i) → SameFrame (h₁ k j) f f′ → keptAt t (f .proc) (f .node) ≡ true
         → ((i : ℕ) → i < j → SameFrame (h₁ k i) (frameAt s k i) (frameAt s′ k i)) → ((i : ℕ) → i < j → IsCall (nodeOf (frameAt s k i)))
         → Shared t (s₁ .sems) (s₁ .queues) (s₁′ .sems) (s₁′ .queues) → Same h₁ s₁ s₁′
-    rebuild r k< j< e top keep low calls sh = record
-      { depths = a .depths
-      ; depths′ = a′ .depths
-      ; places = a .places
-      ; places′ = a′ .places
-      ; task = λ k′ l. cases (eqb k′ k)
+    rebuild r k< j< e top keep low calls sh = record {
+      depths = a .depths;
+      depths′ = a′ .depths;
+      places = a .places;
+      places′ = a′ .places;
+      task = λ k′ l. cases (eqb k′ k)
           (λ b. rw (eqb-true k′ k b) (this-task j< (r .task k k< .open-stands) (r .task k k< .closed-stands) top keep low calls))
-          (λ b. other-task k′ (eqb-false k′ k b) (λ i. e k′ i (eqb-false k′ k b)) (r .task k′ l))
-      ; shared = sh }
+          (λ b. other-task k′ (eqb-false k′ k b) (λ i. e k′ i (eqb-false k′ k b)) (r .task k′ l));
+      shared = sh;
+    }

@@ -1,38 +1,38 @@
 -- One step: for each completed step of the open run some tosses let the closed run take a step to a state that agrees.
-use Prim.Native.Nat.{ℕ, zero, suc, _+_, _-_, _<_, _≤_}
+use Prim.Native.Nat.{ℕ, zero, suc, _-_, _<_}
 use native.Mathlib.Omega.{arith}
 use native.Mathlib.Nat.{zero-add}
 use mathlib.Core.Path.{_≡_, refl, sym, _∙_, ap, ap₂, subst}
 use mathlib.Core.Logic.{_≢_}
-use mathlib.Core.Bool.{Bool, true, false, _&&_}
-use mathlib.Core.Option.{Option, none, some}
+use mathlib.Core.Bool.{Bool, true, false}
+use mathlib.Core.Option.{none, some}
 use mathlib.Core.List.{List, [], _∷_, _++_}
-use lib.ListN.{length, getD, take, getElem?}
-use lib.Dec.{eqb, leb, ltb}
+use lib.ListN.{getElem?}
+use lib.Dec.{eqb, ltb}
 use lib.IntN.{ℤ, pos}
-use borrow.Author.Tests.{eqb-true, eqb-false, eq-eqb, ne-eqb, leb-false, ltb-true, ltb-false, lt-ltb, le-ltb}
+use borrow.Author.Tests.{eqb-true, eqb-false, eq-eqb, ne-eqb, leb-false, ltb-true, lt-ltb}
 use Rattle.table.specs.Mask.{pick}
-use Rattle.table.specs.Table.{nodeAt, procAt, removed, argPlaces, argAt, argList, uses, sets, arcTo, keeping}
+use Rattle.table.specs.Table.{nodeAt, argPlaces, argAt, argList, uses, sets, arcTo, keeping}
 use Rattle.table.specs.declared.Args.{Args}
 use Rattle.table.specs.declared.Node.{Node}
 use Rattle.table.specs.declared.Node.the-variants.{Absent, Start, Set, Test, Read, Call, Wait, Signal, Send, Recv, Assert, Out, Return}
 use Rattle.table.specs.declared.Table.{Table}
 use Rattle.closing.specs.ReachLaws.{cases}
-use Rattle.closing.specs.Dirty.{useAt, dropped, Dirty, here, from-entry, passed}
+use Rattle.closing.specs.Dirty.{dropped, Dirty, here, from-entry, passed}
 use Rattle.closing.specs.Closing.{dirty, kept}
 use Rattle.closing.specs.Close.{argOr, argsOr, closedNode, closeTable}
 use Rattle.machine.specs.declared.Frame.{Frame}
 use Rattle.machine.specs.declared.State.{State}
 use Rattle.machine.specs.State.{openFrames, isLost, frameAt, topmost, varAt, standsBefore, blockedAt, blocked}
-use Rattle.machine.specs.Step.{Memory, exec, choose, Walk, halts, arrives, along, onward, walk, Flow, calls, returns, stays, flow, Entry, shown, Step, stopped, stepped, Stop, taskBlocked, landed, settled, passedAt, entering, called, closed, memory, resumed, flowed, entryOf, stepOf, before, unless, step}
+use Rattle.machine.specs.Step.{Memory, exec, choose, Walk, halts, arrives, along, onward, walk, calls, returns, stays, flow, Entry, Step, stopped, stepped, taskBlocked, landed, settled, passedAt, entering, called, closed, memory, flowed, entryOf, stepOf, before, unless, step}
 use Rattle.machine.specs.History.{History, isAt, executed, entered, afterFlow, afterEntry, lastSetting}
 use Rattle.promise.specs.Sim.Wf.{Begins, Wf}
 use Rattle.promise.specs.Sim.Stores.{concat-at, concat-length, take-at?, at-in}
 use Rattle.promise.specs.Sim.Locals.{Last, keptAt, D-false, mark, marks, marks-append, mark-other, sets-nothing, Locals, clean-use, still, move, Shared}
-use Rattle.promise.specs.Sim.Exec.{SameValue, arcOf, closing, closed-node, Leading, by-to, Matched, exec-sim, log-sim}
+use Rattle.promise.specs.Sim.Exec.{SameValue, arcOf, closing, closed-node, by-to, exec-sim, log-sim}
 use Rattle.promise.specs.Sim.Walk.{WhenArrives, allKept, Landed, along-sim}
 use Rattle.promise.specs.Sim.Same.{IsCall, Touched, stays-touch, call-touch, return-touch, lastOf, SameFrame, nodeOf, SameTask, Same, rebuild}
-use Rattle.promise.specs.Sim.Blocked.{same-state, top-proc, stands-closed, same-blocked}
+use Rattle.promise.specs.Sim.Blocked.{same-state, stands-closed, same-blocked}
 
 -- ---- histories
 
@@ -119,7 +119,7 @@ module _ (t : Table) (wf : Wf t) (p n c to : ℕ) (xs : Args) (la : Last) (lo lc
       let u = argAt xs v in
       let at : getElem? (argList xs) v ≡ some u = take-at? (argPlaces xs) (xs .len) v 0 l (omega (arith, wf .params c)) in
       rw (arg-or t c xs v l₄, lt-ltb v (xs .len) l, D-false t (dropped c v) clean)
-        (clean-use t p n u la lo lc r (wf .uses< p n u (rw e (at-in (argList xs) v u at))) (λ d. clean (passed p n u to xs (omega arith) e at d)))
+      (clean-use t p n u la lo lc r (wf .uses< p n u (rw e (at-in (argList xs) v u at))) (λ d. clean (passed p n u to xs (omega arith) e at d)))
 
   passed-eq : (v : ℕ) → (Dirty t (dropped c v) → ⊥) → passedAt lo xs v ≡ passedAt lc (argsOr t (dirty t) c xs) v
   passed-eq v clean = cases (ltb v (xs .len))
@@ -128,14 +128,15 @@ module _ (t : Table) (wf : Wf t) (p n c to : ℕ) (xs : Args) (la : Last) (lo lc
 
   call-locals : Locals t c zero (lastOf t c []) (entering lo c xs .vars) (entering lc c (argsOr t (dirty t) c xs) .vars)
   unfolding lastSetting
-  call-locals = record
-    { open-size = concat-length (passedAt lo xs) 16 0
-    ; closed-size = concat-length (passedAt lc (argsOr t (dirty t) c xs)) 16 0
-    ; agree = λ v l clean. let l₁₆ : v < 16 = omega (arith, wf .vars c) in
+  call-locals = record {
+    open-size = concat-length (passedAt lo xs) 16 0;
+    closed-size = concat-length (passedAt lc (argsOr t (dirty t) c xs)) 16 0;
+    agree = λ v l clean. let l₁₆ : v < 16 = omega (arith, wf .vars c) in
         concat-at (passedAt lo xs) 16 0 v (pos 0) l₁₆
         ∙ rw zero-add (passed-eq v clean)
-        ∙ sym (concat-at (passedAt lc (argsOr t (dirty t) c xs)) 16 0 v (pos 0) l₁₆)
-    ; reach = λ v l d. from-entry l here d }
+        ∙ sym (concat-at (passedAt lc (argsOr t (dirty t) c xs)) 16 0 v (pos 0) l₁₆);
+    reach = λ v l d. from-entry l here d;
+  }
 
 module _ (t : Table) (wf : Wf t) (most most′ : ℕ) (h : History) (s s′ : State) (q : Same t h s s′) (k : ℕ) (k< : k < t .tasks) where
   abbrev t′ : Table
@@ -186,11 +187,12 @@ module _ (t : Table) (wf : Wf t) (most most′ : ℕ) (h : History) (s s′ : St
   e′ = entryOf k f′ (standsBefore t′ s′ k)
 
   same-entry : SameEntry e e′
-  same-entry = record
-    { task = refl
-    ; proc = top .proc
-    ; node = top .node
-    ; value = rw x′-is (log-sim t wf (f .proc) (f .node) la (memory s f) (memory s′ f′) (top .locals) (q .shared) x refl) }
+  same-entry = record {
+    task = refl;
+    proc = top .proc;
+    node = top .node;
+    value = rw x′-is (log-sim t wf (f .proc) (f .node) la (memory s f) (memory s′ f′) (top .locals) (q .shared) x refl);
+  }
 
   -- ---- neither task is lost or blocked
 
@@ -216,10 +218,11 @@ module _ (t : Table) (wf : Wf t) (most most′ : ℕ) (h : History) (s s′ : St
           → Same t (executed k j (pre ns) h) (landed s₀ k j p (some n) m) (landed s₀′ k j p (some n) g)
       settle-states n m ns keeps r sh = rebuild t h (executed k j (pre ns) h) s _ s′ _ k j _ _ (touch n m) (touch′ n g) q k< j<
           (λ k′ i c. executed-other k j k′ i (pre ns) h (λ z. absurd (c z)))
-          (record
-            { proc = refl
-            ; node = refl
-            ; locals = rw (executed-here k j (pre ns) h) (still t p n (marks t p la₀ ns) (lastOf t p (h k j ++ pre ns)) (m .vars) (g .vars) (last ns) r) })
+          (record {
+            proc = refl;
+            node = refl;
+            locals = rw (executed-here k j (pre ns) h) (still t p n (marks t p la₀ ns) (lastOf t p (h k j ++ pre ns)) (m .vars) (g .vars) (last ns) r);
+          })
           keeps
           (λ i l. rw (executed-other k j k i (pre ns) h (λ _ z. absurd (omega arith))) (task .frame i (omega arith)))
           (λ i l. task .calls i (omega arith))
@@ -227,13 +230,14 @@ module _ (t : Table) (wf : Wf t) (most most′ : ℕ) (h : History) (s s′ : St
 
       settle : (w : Walk) → WhenArrives (Landed t wf p most′ a g la₀) w → WhenStepped Done (settled e s₀ k j p w)
       settle (halts c) r = tt
-      settle (arrives w m vs ns) r = subst (λ z. WhenStepped Done (settled e s₀ k j p (arrives z m vs ns))) (sym (r .is)) (record
-        { entry′ = e′
-        ; state′ = landed s₀′ k j p (some (r .at)) g
-        ; tosses = r .tosses
-        ; closes = λ ws. step-is (r .tosses ++ ws) ∙ closes (r .tosses ++ ws) ∙ ap (settled e′ s₀′ k j p) (r .closes ws)
-        ; entries = same-entry
-        ; states = rw (hist ns) (settle-states (r .at) m ns (r .keeps) (r .locals) (r .shared)) })
+      settle (arrives w m vs ns) r = subst (λ z. WhenStepped Done (settled e s₀ k j p (arrives z m vs ns))) (sym (r .is)) (record {
+        entry′ = e′;
+        state′ = landed s₀′ k j p (some (r .at)) g;
+        tosses = r .tosses;
+        closes = λ ws. step-is (r .tosses ++ ws) ∙ closes (r .tosses ++ ws) ∙ ap (settled e′ s₀′ k j p) (r .closes ws);
+        entries = same-entry;
+        states = rw (hist ns) (settle-states (r .at) m ns (r .keeps) (r .locals) (r .shared));
+      })
 
     j′-is : openFrames s′ k - 1 ≡ d - 1
     j′-is = ap (λ (z : ℕ). z - 1) (sym (task .depth))
@@ -248,19 +252,18 @@ module _ (t : Table) (wf : Wf t) (most most′ : ℕ) (h : History) (s s′ : St
         let j< : d - 1 < 8 = omega (arith, task .some-open, task .few-open) in
         let open-is : d ≡ suc (d - 1) = omega (arith, task .some-open) in
         rw (m .opens) (settle s s′ (d - 1) p (m .arc) (m .mem′) (mark t p n la) j< (omega (arith, task .some-open))
-          (λ n₁ m₁. stays-touch s k (d - 1) (q .depths) (q .places) k<4 j< p n₁ m₁ open-is)
-          (λ n₁ m₁. stays-touch s′ k (d - 1) (q .depths′) (q .places′) k<4 j< p n₁ m₁ (sym (task .depth) ∙ open-is))
-          (λ ns. n ∷ ns)
-          (λ ns. ap (afterFlow k d n ns h) i)
-          (λ ns v. marks-append t p v none (h k (d - 1)) (n ∷ ns))
-          (λ us.
-            let go : ℕ → Walk → Step = λ j w. settled e′ s′ k j p w in
-            ap (λ (z : Node). flowed t′ allKept most′ e′ s′ k f′ z us (flow z)) x′-is
-            ∙ ap (flowed t′ allKept most′ e′ s′ k f′ (closing t p n x) us) i′
-            ∙ ap (λ (p′ : ℕ). settled e′ s′ k (openFrames s′ k - 1) p′ (onward (λ n m ws. walk t′ allKept p′ most′ n m ws) (exec (closing t p n x) (memory s′ f′) us))) (sym (top .proc))
-            ∙ ap₂ (λ (j : ℕ) z. settled e′ s′ k j p (onward (λ n m ws. walk t′ allKept p most′ n m ws) z)) j′-is (m .closes us))
-          (along (λ n m ws. walk t (keptAt t) p most n m ws) (m .mem) (choose (m .arc) vs))
-          (along-sim t wf p most most′ n (m .arc) (mark t p n la) (m .mem) (m .mem′) vs (m .leading) (m .locals) (m .shared)))
+        (λ n₁ m₁. stays-touch s k (d - 1) (q .depths) (q .places) k<4 j< p n₁ m₁ open-is)
+        (λ n₁ m₁. stays-touch s′ k (d - 1) (q .depths′) (q .places′) k<4 j< p n₁ m₁ (sym (task .depth) ∙ open-is))
+        (λ ns. n ∷ ns)
+        (λ ns. ap (afterFlow k d n ns h) i)
+        (λ ns v. marks-append t p v none (h k (d - 1)) (n ∷ ns))
+        (λ us.
+        ap (λ (z : Node). flowed t′ allKept most′ e′ s′ k f′ z us (flow z)) x′-is
+        ∙ ap (flowed t′ allKept most′ e′ s′ k f′ (closing t p n x) us) i′
+        ∙ ap (λ (p′ : ℕ). settled e′ s′ k (openFrames s′ k - 1) p′ (onward (λ n m ws. walk t′ allKept p′ most′ n m ws) (exec (closing t p n x) (memory s′ f′) us))) (sym (top .proc))
+        ∙ ap₂ (λ (j : ℕ) z. settled e′ s′ k j p (onward (λ n m ws. walk t′ allKept p most′ n m ws) z)) j′-is (m .closes us))
+        (along (λ n m ws. walk t (keptAt t) p most n m ws) (m .mem) (choose (m .arc) vs))
+        (along-sim t wf p most most′ n (m .arc) (mark t p n la) (m .mem) (m .mem′) vs (m .leading) (m .locals) (m .shared)))
 
     -- ---- a return
     return-sim : x ≡ Return → (vs : List ℤ) → WhenStepped Done (flowed t (keptAt t) most e s k f x vs returns)
@@ -282,18 +285,18 @@ module _ (t : Table) (wf : Wf t) (most most′ : ℕ) (h : History) (s s′ : St
         let j< : suc j < 8 = omega (arith, task .few-open) in
         let open-is : d ≡ suc (suc j) = omega arith in
         settle (closed s k) (closed s′ k) j p a (memory s′ g′) la₁ (omega arith) (omega arith)
-          (λ n₁ m₁. return-touch s k j (q .depths) (q .places) k<4 (omega arith) p n₁ m₁ open-is j<)
-          (λ n₁ m₁. return-touch s′ k j (q .depths′) (q .places′) k<4 (omega arith) p n₁ m₁ (sym (task .depth) ∙ open-is) j<)
-          (λ ns. ns)
-          (λ ns. ap (λ (z : Node). afterFlow k d (f .node) ns h (flow z)) i)
-          (λ ns v. marks-append t p v none (h k j) ns)
-          (λ us.
-            ap (λ (z : Node). flowed t′ allKept most′ e′ s′ k f′ z us (flow z)) (x′-is ∙ ap (closing t (f .proc) (f .node)) i)
-            ∙ ap (λ (j₁ : ℕ). resume us j₁ (frameAt s′ k j₁ .proc) (frameAt s′ k j₁) (arcTo (nodeOf t′ (frameAt s′ k j₁)))) (ap (λ (z : ℕ). z - 2) (sym (task .depth)))
-            ∙ ap₂ (λ (p′ a′ : ℕ). resume us j p′ g′ a′) (sym (b .proc))
-                (ap₂ (λ (p′ n′ : ℕ). arcTo (nodeAt t′ p′ n′)) (sym (b .proc)) (sym (b .node)) ∙ ap arcTo (closed-node t p n (call-kept t p n c)) ∙ call-arc t p n (nodeAt t p n) c))
-          (along (λ n m ws. walk t (keptAt t) p most n m ws) (memory s g) (choose a vs))
-          (along-sim t wf p most most′ n a la₁ (memory s g) (memory s′ g′) vs l locals (q .shared))
+        (λ n₁ m₁. return-touch s k j (q .depths) (q .places) k<4 (omega arith) p n₁ m₁ open-is j<)
+        (λ n₁ m₁. return-touch s′ k j (q .depths′) (q .places′) k<4 (omega arith) p n₁ m₁ (sym (task .depth) ∙ open-is) j<)
+        (λ ns. ns)
+        (λ ns. ap (λ (z : Node). afterFlow k d (f .node) ns h (flow z)) i)
+        (λ ns v. marks-append t p v none (h k j) ns)
+        (λ us.
+        ap (λ (z : Node). flowed t′ allKept most′ e′ s′ k f′ z us (flow z)) (x′-is ∙ ap (closing t (f .proc) (f .node)) i)
+        ∙ ap (λ (j₁ : ℕ). resume us j₁ (frameAt s′ k j₁ .proc) (frameAt s′ k j₁) (arcTo (nodeOf t′ (frameAt s′ k j₁)))) (ap (λ (z : ℕ). z - 2) (sym (task .depth)))
+        ∙ ap₂ (λ (p′ a′ : ℕ). resume us j p′ g′ a′) (sym (b .proc))
+        (ap₂ (λ (p′ n′ : ℕ). arcTo (nodeAt t′ p′ n′)) (sym (b .proc)) (sym (b .node)) ∙ ap arcTo (closed-node t p n (call-kept t p n c)) ∙ call-arc t p n (nodeAt t p n) c))
+        (along (λ n m ws. walk t (keptAt t) p most n m ws) (memory s g) (choose a vs))
+        (along-sim t wf p most most′ n a la₁ (memory s g) (memory s′ g′) vs l locals (q .shared))
       where
         resume : List ℤ → ℕ → ℕ → Frame → ℕ → Step
         resume us j p g a = settled e′ (closed s′ k) k j p (along (λ n m ws. walk t′ allKept p most′ n m ws) (memory s′ g) (choose a us))
@@ -302,11 +305,12 @@ module _ (t : Table) (wf : Wf t) (most most′ : ℕ) (h : History) (s s′ : St
     call-below : (i : ℕ) → sets x ≡ none → i < d → SameFrame t (entered k d (executed k (d - 1) (f .node ∷ []) h) k i) (frameAt s k i) (frameAt s′ k i)
     unfolding lastSetting
     call-below i none-set l = rw (entered-other k d k i (executed k (d - 1) (f .node ∷ []) h) (λ _ z. absurd (omega arith))) (cases (eqb i (d - 1))
-        (λ b. rw (eqb-true i (d - 1) b) (rw (executed-here k (d - 1) (f .node ∷ []) h) (let r = task .frame (d - 1) (omega arith) in record
-          { proc = r .proc
-          ; node = r .node
-          ; locals = still t (f .proc) (f .node) la (lastOf t (f .proc) (h k (d - 1) ++ (f .node ∷ []))) (f .vars) (frameAt s′ k (d - 1) .vars)
-              (λ v. marks-append t (f .proc) v none (h k (d - 1)) (f .node ∷ []) ∙ mark-other t (f .proc) (f .node) v la (sets-nothing t (f .proc) (f .node) v none-set)) (r .locals) })))
+        (λ b. rw (eqb-true i (d - 1) b) (rw (executed-here k (d - 1) (f .node ∷ []) h) (let r = task .frame (d - 1) (omega arith) in record {
+          proc = r .proc;
+          node = r .node;
+          locals = still t (f .proc) (f .node) la (lastOf t (f .proc) (h k (d - 1) ++ (f .node ∷ []))) (f .vars) (frameAt s′ k (d - 1) .vars)
+              (λ v. marks-append t (f .proc) v none (h k (d - 1)) (f .node ∷ []) ∙ mark-other t (f .proc) (f .node) v la (sets-nothing t (f .proc) (f .node) v none-set)) (r .locals);
+        })))
         (λ b. rw (executed-other k (d - 1) k i (f .node ∷ []) h (λ _. eqb-false i (d - 1) b)) (task .frame i l)))
 
     call-sim : (c to : ℕ) (xs : Args) → x ≡ Call c xs to → (vs : List ℤ) → WhenStepped Done (flowed t (keptAt t) most e s k f x vs (calls c xs))
@@ -314,29 +318,31 @@ module _ (t : Table) (wf : Wf t) (most most′ : ℕ) (h : History) (s s′ : St
     call-sim c to xs i vs =
         let less : d < 8 = leb-false 8 d (sym (ap (blockedAt t s k) i) ∙ free) in
         let xs′ = argsOr t (dirty t) c xs in
-        record
-        { entry′ = e′
-        ; state′ = called s′ k (entering (f′ .vars) c xs′)
-        ; tosses = []
-        ; closes = λ ws. step-is ws ∙ ap (λ (z : Node). flowed t′ allKept most′ e′ s′ k f′ z ws (flow z)) (x′-is ∙ ap (closing t (f .proc) (f .node)) i)
-        ; entries = same-entry
-        ; states = subst (λ (h₁ : History). Same t h₁ (called s k (entering (f .vars) c xs)) (called s′ k (entering (f′ .vars) c xs′)))
-            (sym (ap (λ (z : Node). afterFlow k d (f .node) [] h (flow z)) i))
-            (rebuild t h (entered k d (executed k (d - 1) (f .node ∷ []) h)) s _ s′ _ k d _ _
+        record {
+          entry′ = e′;
+          state′ = called s′ k (entering (f′ .vars) c xs′);
+          tosses = [];
+          closes = λ ws. step-is ws ∙ ap (λ (z : Node). flowed t′ allKept most′ e′ s′ k f′ z ws (flow z)) (x′-is ∙ ap (closing t (f .proc) (f .node)) i);
+          entries = same-entry;
+          states = subst (λ (h₁ : History). Same t h₁ (called s k (entering (f .vars) c xs)) (called s′ k (entering (f′ .vars) c xs′)))
+              (sym (ap (λ (z : Node). afterFlow k d (f .node) [] h (flow z)) i))
+              (rebuild t h (entered k d (executed k (d - 1) (f .node ∷ []) h)) s _ s′ _ k d _ _
               (call-touch s k d (q .depths) (q .places) k<4 less (entering (f .vars) c xs) refl)
               (call-touch s′ k d (q .depths′) (q .places′) k<4 less (entering (f′ .vars) c xs′) (sym (task .depth)))
               q k< less
               (λ k′ j b. entered-other k d k′ j (executed k (d - 1) (f .node ∷ []) h) (λ z. absurd (b z)) ∙ executed-other k (d - 1) k′ j (f .node ∷ []) h (λ z. absurd (b z)))
-              (record
-                { proc = refl
-                ; node = refl
-                ; locals = rw (entered-here k d (executed k (d - 1) (f .node ∷ []) h)) (call-locals t wf (f .proc) (f .node) c to xs la (f .vars) (f′ .vars) i (top .locals)) })
+              (record {
+                proc = refl;
+                node = refl;
+                locals = rw (entered-here k d (executed k (d - 1) (f .node ∷ []) h)) (call-locals t wf (f .proc) (f .node) c to xs la (f .vars) (f′ .vars) i (top .locals));
+              })
               (first-kept t c ((rw i at (wf .declared (f .proc) (f .node))) .1))
               (λ j l. call-below j (ap sets i) l)
               (λ j l. cases (eqb j (d - 1))
-                (λ b. rw (eqb-true j (d - 1) b) (c, xs, to, i))
-                (λ b. task .calls j (omega (arith, eqb-false j (d - 1) b))))
-              (q .shared)) }
+              (λ b. rw (eqb-true j (d - 1) b) (c, xs, to, i))
+              (λ b. task .calls j (omega (arith, eqb-false j (d - 1) b))))
+              (q .shared));
+        }
 
     -- ---- any node
     flow-sim : (y : Node) → x ≡ y → FlowView t (f .proc) (f .node) y → (vs : List ℤ) → WhenStepped Done (flowed t (keptAt t) most e s k f x vs (flow y))

@@ -1,14 +1,13 @@
 -- Lists as stores: what a place holds after a store, in one list and in two lists that are stored to alike.
-use Prim.Native.Nat.{ℕ, zero, suc, _+_, _*_, _<_, _≤_}
+use Prim.Native.Nat.{ℕ, zero, suc, _+_, _<_, _≤_}
 use native.Mathlib.Omega.{arith}
-use native.Mathlib.Nat.{add-zero, zero-add, add-suc, suc-add}
-use mathlib.Core.Path.{_≡_, refl, sym, _∙_, ap, subst₂}
+use native.Mathlib.Nat.{add-zero, add-suc, suc-add}
+use mathlib.Core.Path.{_≡_, refl, sym, _∙_, ap}
 use mathlib.Core.Logic.{_≢_}
-use mathlib.Core.Bool.{true, false}
 use mathlib.Core.Option.{some}
-use mathlib.Core.List.{List, [], _∷_, _++_, List·Memᴰ, List·Memᴰ·head, List·Memᴰ·tail, List·Memᴰ·not-nil}
+use mathlib.Core.List.{List, [], _∷_, List·Memᴰ, List·Memᴰ·head, List·Memᴰ·tail}
 use lib.ListN.{length, getD, getElem?, set, take, length-set}
-use lib.Seq.{sets, set-out, getD-set-same, getD-set-other, length-sets}
+use lib.Seq.{sets, set-out, getD-set-same, getD-set-other}
 use lib.Dec.{eqb, ltb}
 use borrow.Author.Tests.{eqb-true, eqb-false, ltb-true, ltb-false}
 use Rattle.text.specs.Reader.{concat}
@@ -21,9 +20,9 @@ pub set-both : {A B : Type 0} (R : A → B → Type 0) (l : List A) (l′ : List
     → (j ≡ i → R a b) → R (getD l j d) (getD l′ j d′) → R (getD (set l i a) j d) (getD (set l′ i b) j d′)
 set-both R l l′ i j a d b d′ e new old = cases (eqb j i)
     (λ k. cases (ltb i (length l))
-      (λ m. let i< = ltb-true i (length l) m in
-        rw (eqb-true j i k) (rw (getD-set-same l i a d i<, getD-set-same l′ i b d′ (omega arith)) (new (eqb-true j i k))))
-      (λ m. let ≤i = ltb-false i (length l) m in rw (set-out l i a ≤i, set-out l′ i b (omega arith)) old))
+    (λ m. let i< = ltb-true i (length l) m in
+    rw (eqb-true j i k) (rw (getD-set-same l i a d i<, getD-set-same l′ i b d′ (omega arith)) (new (eqb-true j i k))))
+    (λ m. let ≤i = ltb-false i (length l) m in rw (set-out l i a ≤i, set-out l′ i b (omega arith)) old))
     (λ k. rw (getD-set-other l i j a d (eqb-false j i k), getD-set-other l′ i j b d′ (eqb-false j i k)) old)
 
 -- ---- places of frames

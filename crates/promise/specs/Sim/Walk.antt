@@ -1,8 +1,8 @@
 -- On from a node: the open run executes nodes that are not kept until it meets a kept one, and the closed run takes the new arc there.
 use Prim.Native.Nat.{ℕ, zero, suc}
-use mathlib.Core.Path.{_≡_, refl, sym, _∙_, ap, subst}
-use mathlib.Core.Bool.{Bool, true, false}
-use mathlib.Core.Option.{Option, none, some}
+use mathlib.Core.Path.{_≡_, refl, sym, _∙_, ap}
+use mathlib.Core.Bool.{true, false}
+use mathlib.Core.Option.{Option, some}
 use mathlib.Core.List.{List, [], _∷_, _++_, List·Memᴰ, List·Memᴰ·head, List·Memᴰ·tail, List·Memᴰ·not-nil}
 use lib.IntN.{ℤ, pos}
 use Rattle.table.specs.Mask.{members}
@@ -14,7 +14,7 @@ use Rattle.closing.specs.Dirty.{Leads, target, through}
 use Rattle.closing.specs.Close.{closeTable}
 use Rattle.closing.specs.KeptLaws.{unkept-is}
 use Rattle.closing.specs.ArcLaws.{leads-below, arc-is}
-use Rattle.machine.specs.Step.{Memory, Did, stops, goes, exec, Choice, node, tossed, chooseFrom, choose, Kept, Walk, halts, arrives, along, onward, noting, walk}
+use Rattle.machine.specs.Step.{Memory, Did, stops, goes, exec, node, tossed, chooseFrom, choose, Kept, Walk, halts, arrives, along, onward, noting, walk}
 use Rattle.machine.specs.History.{lastSetting}
 use Rattle.promise.specs.Sim.Wf.{Wf}
 use Rattle.promise.specs.Sim.Stores.{index-of}
@@ -96,14 +96,14 @@ module _ (t : Table) (wf : Wf t) (p : ℕ) where
     walk-sim (suc d) m la h vs i l r s = cases (keptAt t p m)
         (λ e. rw (e, walk) (met m la h vs l r s e))
         (λ e.
-          let k : ℕ → Memory → List ℤ → Walk = λ m′ h′ ws. walk t (keptAt t) p d m′ h′ ws in
-          let x = onward k (exec (nodeAt t p m) h vs) in
-          rw (e, walk) (when-noting (Arrived la) m x (later m la x
-            (when-onward (Arrived (mark t p m la)) (Passed t wf p m la h g r s) k (exec (nodeAt t p m) h vs)
-              (dropped-sim t wf p m la h g r s (nodeAt t p m) refl i e vs)
-              (λ b h′ vs′ q.
-                let c = q .leading in
-                rw (choose-one b (c .to) vs′ (c .one)) (walk-sim d (c .to) (mark t p m la) h′ vs′ (wf .present p m (c .to) (c .into)) (through m (unkept-is t p m .0 e) (c .into) l) (q .locals) (q .shared)))))))
+        let k : ℕ → Memory → List ℤ → Walk = λ m′ h′ ws. walk t (keptAt t) p d m′ h′ ws in
+        let x = onward k (exec (nodeAt t p m) h vs) in
+        rw (e, walk) (when-noting (Arrived la) m x (later m la x
+        (when-onward (Arrived (mark t p m la)) (Passed t wf p m la h g r s) k (exec (nodeAt t p m) h vs)
+        (dropped-sim t wf p m la h g r s (nodeAt t p m) refl i e vs)
+        (λ b h′ vs′ q.
+        let c = q .leading in
+        rw (choose-one b (c .to) vs′ (c .one)) (walk-sim d (c .to) (mark t p m la) h′ vs′ (wf .present p m (c .to) (c .into)) (through m (unkept-is t p m .0 e) (c .into) l) (q .locals) (q .shared)))))))
 
   -- ---- both runs go on from node n by arc a
 
@@ -120,14 +120,15 @@ module _ (t : Table) (wf : Wf t) (p : ℕ) where
   land most′ a g la (halts c) r = tt
   land most′ a g la (arrives w m vs ns) r =
       let c = choose-sim (r .at) (arcOf t p a) (new-in a (r .at) (r .leads) (r .keeps)) in
-      record
-      { at = r .at
-      ; is = r .is
-      ; keeps = r .keeps
-      ; tosses = c .0
-      ; closes = λ ws. ap (along (λ k x us. walk (closeTable t) allKept p most′ k x us) g) (c .1 ws) ∙ closed-walk (closeTable t) p most′ (r .at) g ws
-      ; locals = r .locals
-      ; shared = r .shared }
+      record {
+        at = r .at;
+        is = r .is;
+        keeps = r .keeps;
+        tosses = c .0;
+        closes = λ ws. ap (along (λ k x us. walk (closeTable t) allKept p most′ k x us) g) (c .1 ws) ∙ closed-walk (closeTable t) p most′ (r .at) g ws;
+        locals = r .locals;
+        shared = r .shared;
+      }
 
   pub along-sim : (most most′ n a : ℕ) (la : Last) (h g : Memory) (vs : List ℤ) (l : Leading t p n a) → Locals t p (l .to) la (h .vars) (g .vars) → Shared t (h .sems) (h .queues) (g .sems) (g .queues)
       → WhenArrives (Landed most′ a g la) (along (λ k m ws. walk t (keptAt t) p most k m ws) h (choose a vs))

@@ -1,9 +1,9 @@
 -- What the reader grants of an open table without a fault: all that the proof of demand 3 asks of it.
-use Prim.Native.Nat.{ℕ, zero, suc, _<_, _≤_}
+use Prim.Native.Nat.{ℕ, zero, _<_, _≤_}
 use mathlib.Core.Path.{_≡_}
 use mathlib.Core.Bool.{false}
 use mathlib.Core.Option.{some}
-use mathlib.Core.List.{List, [], _∷_, List·Memᴰ}
+use mathlib.Core.List.{[], _∷_, List·Memᴰ}
 use Rattle.table.specs.Mask.{members}
 use Rattle.table.specs.Table.{nodeAt, procAt, taskAt, uses, sets, arcs, isAbsent}
 use Rattle.table.specs.declared.Node.{Node}
