@@ -6,6 +6,7 @@ pub mod Exec
 pub mod Walk
 pub mod Same
 pub mod Blocked
+pub mod Call
 pub mod Step
 pub mod Log
 pub mod Begin

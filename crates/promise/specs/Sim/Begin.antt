@@ -26,7 +26,7 @@ use Rattle.promise.specs.Sim.Wf.{Wf}
 use Rattle.promise.specs.Sim.Stores.{frame-same, frame-other, concat-at, concat-length}
 use Rattle.promise.specs.Sim.Locals.{Locals}
 use Rattle.promise.specs.Sim.Same.{lastOf, SameFrame, SameTask, Same}
-use Rattle.promise.specs.Sim.Step.{first-kept}
+use Rattle.promise.specs.Sim.Call.{first-kept}
 
 abbrev pub WhenBegun : (State → List ℤ → Type 0) → Begun → Type 0
 WhenBegun P spent = Unit {0}

@@ -1,57 +1,34 @@
 -- One step: for each completed step of the open run some tosses let the closed run take a step to a state that agrees.
-use Prim.Native.Nat.{ℕ, zero, suc, _-_, _<_}
+use Prim.Native.Nat.{ℕ, suc, _-_, _<_}
 use native.Mathlib.Omega.{arith}
-use native.Mathlib.Nat.{zero-add}
 use mathlib.Core.Path.{_≡_, refl, sym, _∙_, ap, ap₂, subst}
-use mathlib.Core.Logic.{_≢_}
 use mathlib.Core.Bool.{Bool, true, false}
 use mathlib.Core.Option.{none, some}
 use mathlib.Core.List.{List, [], _∷_, _++_}
-use lib.ListN.{getElem?}
-use lib.Dec.{eqb, ltb}
-use lib.IntN.{ℤ, pos}
-use borrow.Author.Tests.{eqb-true, eqb-false, eq-eqb, ne-eqb, leb-false, ltb-true, lt-ltb}
+use lib.Dec.{eqb}
+use lib.IntN.{ℤ}
+use borrow.Author.Tests.{eqb-true, eqb-false, leb-false}
 use Rattle.table.specs.Mask.{pick}
-use Rattle.table.specs.Table.{nodeAt, argPlaces, argAt, argList, uses, sets, arcTo, keeping}
+use Rattle.table.specs.Table.{nodeAt, sets, arcTo}
 use Rattle.table.specs.declared.Args.{Args}
 use Rattle.table.specs.declared.Node.{Node}
 use Rattle.table.specs.declared.Node.the-variants.{Absent, Start, Set, Test, Read, Call, Wait, Signal, Send, Recv, Assert, Out, Return}
 use Rattle.table.specs.declared.Table.{Table}
 use Rattle.closing.specs.ReachLaws.{cases}
-use Rattle.closing.specs.Dirty.{dropped, Dirty, here, from-entry, passed}
-use Rattle.closing.specs.Closing.{dirty, kept}
-use Rattle.closing.specs.Close.{argOr, argsOr, closedNode, closeTable}
+use Rattle.closing.specs.Closing.{dirty}
+use Rattle.closing.specs.Close.{argsOr, closedNode, closeTable}
 use Rattle.machine.specs.declared.Frame.{Frame}
 use Rattle.machine.specs.declared.State.{State}
-use Rattle.machine.specs.State.{openFrames, isLost, frameAt, topmost, varAt, standsBefore, blockedAt, blocked}
-use Rattle.machine.specs.Step.{Memory, exec, choose, Walk, halts, arrives, along, onward, walk, calls, returns, stays, flow, Entry, Step, stopped, stepped, taskBlocked, landed, settled, passedAt, entering, called, closed, memory, flowed, entryOf, stepOf, before, unless, step}
-use Rattle.machine.specs.History.{History, isAt, executed, entered, afterFlow, afterEntry, lastSetting}
-use Rattle.promise.specs.Sim.Wf.{Begins, Wf}
-use Rattle.promise.specs.Sim.Stores.{concat-at, concat-length, take-at?, at-in}
-use Rattle.promise.specs.Sim.Locals.{Last, keptAt, D-false, mark, marks, marks-append, mark-other, sets-nothing, Locals, clean-use, still, move, Shared}
-use Rattle.promise.specs.Sim.Exec.{SameValue, arcOf, closing, closed-node, by-to, exec-sim, log-sim}
+use Rattle.machine.specs.State.{openFrames, isLost, frameAt, topmost, standsBefore, blockedAt, blocked}
+use Rattle.machine.specs.Step.{Memory, Did, exec, choose, Walk, halts, arrives, along, onward, walk, calls, returns, stays, flow, Entry, Step, stopped, stepped, taskBlocked, landed, settled, entering, called, closed, memory, flowed, entryOf, stepOf, before, unless, step}
+use Rattle.machine.specs.History.{History, executed, entered, afterFlow, afterEntry, lastSetting}
+use Rattle.promise.specs.Sim.Wf.{Wf}
+use Rattle.promise.specs.Sim.Locals.{Last, keptAt, mark, marks, marks-append, mark-other, sets-nothing, Locals, still, move, Shared}
+use Rattle.promise.specs.Sim.Exec.{SameValue, arcOf, closing, closed-node, Leading, by-to, Matched, exec-sim, log-sim}
 use Rattle.promise.specs.Sim.Walk.{WhenArrives, allKept, Landed, along-sim}
 use Rattle.promise.specs.Sim.Same.{IsCall, Touched, stays-touch, call-touch, return-touch, lastOf, SameFrame, nodeOf, SameTask, Same, rebuild}
+use Rattle.promise.specs.Sim.Call.{executed-here, executed-other, entered-here, entered-other, first-kept, call-kept, call-arc, call-locals}
 use Rattle.promise.specs.Sim.Blocked.{same-state, stands-closed, same-blocked}
-
--- ---- histories
-
-pub executed-here : (k j : ℕ) (ns : List ℕ) (h : History) → executed k j ns h k j ≡ h k j ++ ns
-executed-here k j ns h = rw (eq-eqb k k refl, eq-eqb j j refl)
-
-at-other : (k j k′ j′ : ℕ) → (k′ ≡ k → j′ ≢ j) → isAt k j k′ j′ ≡ false
-at-other k j k′ j′ c = cases (eqb k k′)
-    (λ e. rw e (ne-eqb j j′ (λ i. c (sym (eqb-true k k′ e)) (sym i))))
-    (λ e. rw e)
-
-pub executed-other : (k j k′ j′ : ℕ) (ns : List ℕ) (h : History) → (k′ ≡ k → j′ ≢ j) → executed k j ns h k′ j′ ≡ h k′ j′
-executed-other k j k′ j′ ns h c = rw (at-other k j k′ j′ c)
-
-entered-here : (k j : ℕ) (h : History) → entered k j h k j ≡ []
-entered-here k j h = rw (eq-eqb k k refl, eq-eqb j j refl)
-
-entered-other : (k j k′ j′ : ℕ) (h : History) → (k′ ≡ k → j′ ≢ j) → entered k j h k′ j′ ≡ h k′ j′
-entered-other k j k′ j′ h c = rw (at-other k j k′ j′ c)
 
 -- ---- what holds of a step where it completes
 
@@ -86,57 +63,6 @@ flow-view t p n (Recv q v to) = is-plain refl refl
 flow-view t p n (Assert v to) = is-plain refl refl
 flow-view t p n (Out v to) = is-plain refl refl
 flow-view t p n Return = is-return
-
--- a procedure's first node is kept
-pub first-kept : (t : Table) (p : ℕ) → Begins t p → keptAt t p zero ≡ true
-unfolding kept keeping
-first-kept t p b = ap (kept (dirty t) p zero) (b .1)
-
--- a call is kept, and its arc is closed
-call-kept : (t : Table) (p n : ℕ) → IsCall (nodeAt t p n) → keptAt t p n ≡ true
-unfolding kept keeping
-call-kept t p n c = ap (kept (dirty t) p n) (c .3)
-
-call-arc : (t : Table) (p n : ℕ) (x : Node) → IsCall x → arcTo (closing t p n x) ≡ arcOf t p (arcTo x)
-unfolding closedNode arcTo
-call-arc t p n x c = rw (c .3)
-
--- ---- what a call passes
-
-arg-or : (t : Table) (c : ℕ) (xs : Args) (v : ℕ) → v < 4 → argAt (argsOr t (dirty t) c xs) v ≡ argOr t (dirty t) c (xs .len) v (argAt xs v)
-arg-or t c xs zero l = refl
-arg-or t c xs (suc zero) l = refl
-arg-or t c xs (suc (suc zero)) l = refl
-arg-or t c xs (suc (suc (suc zero))) l = refl
-arg-or t c xs (suc (suc (suc (suc v)))) l = absurd (omega arith)
-
-module _ (t : Table) (wf : Wf t) (p n c to : ℕ) (xs : Args) (la : Last) (lo lc : List ℤ) (e : nodeAt t p n ≡ Call c xs to) (r : Locals t p n la lo lc) where
-  arg-eq : (v : ℕ) → v < xs .len → (Dirty t (dropped c v) → ⊥) → varAt lo (argAt xs v) ≡ varAt lc (argAt (argsOr t (dirty t) c xs) v)
-  unfolding uses
-  arg-eq v l clean =
-      let count = (rw e at (wf .declared p n)) .0 in
-      let l₄ : v < 4 = omega (arith, wf .params c) in
-      let u = argAt xs v in
-      let at : getElem? (argList xs) v ≡ some u = take-at? (argPlaces xs) (xs .len) v 0 l (omega (arith, wf .params c)) in
-      rw (arg-or t c xs v l₄, lt-ltb v (xs .len) l, D-false t (dropped c v) clean)
-      (clean-use t p n u la lo lc r (wf .uses< p n u (rw e (at-in (argList xs) v u at))) (λ d. clean (passed p n u to xs (omega arith) e at d)))
-
-  passed-eq : (v : ℕ) → (Dirty t (dropped c v) → ⊥) → passedAt lo xs v ≡ passedAt lc (argsOr t (dirty t) c xs) v
-  passed-eq v clean = cases (ltb v (xs .len))
-      (λ k. rw k (arg-eq v (ltb-true v (xs .len) k) clean))
-      (λ k. rw k)
-
-  call-locals : Locals t c zero (lastOf t c []) (entering lo c xs .vars) (entering lc c (argsOr t (dirty t) c xs) .vars)
-  unfolding lastSetting
-  call-locals = record {
-    open-size = concat-length (passedAt lo xs) 16 0;
-    closed-size = concat-length (passedAt lc (argsOr t (dirty t) c xs)) 16 0;
-    agree = λ v l clean. let l₁₆ : v < 16 = omega (arith, wf .vars c) in
-        concat-at (passedAt lo xs) 16 0 v (pos 0) l₁₆
-        ∙ rw zero-add (passed-eq v clean)
-        ∙ sym (concat-at (passedAt lc (argsOr t (dirty t) c xs)) 16 0 v (pos 0) l₁₆);
-    reach = λ v l d. from-entry l here d;
-  }
 
 module _ (t : Table) (wf : Wf t) (most most′ : ℕ) (h : History) (s s′ : State) (q : Same t h s s′) (k : ℕ) (k< : k < t .tasks) where
   abbrev t′ : Table
@@ -239,67 +165,98 @@ module _ (t : Table) (wf : Wf t) (most most′ : ℕ) (h : History) (s s′ : St
         states = rw (hist ns) (settle-states (r .at) m ns (r .keeps) (r .locals) (r .shared));
       })
 
-    j′-is : openFrames s′ k - 1 ≡ d - 1
-    j′-is = ap (λ (z : ℕ). z - 1) (sym (task .depth))
-
     -- ---- a node that stays in its frame
+
+    -- the closed run's step
+    stays-closes : (vs : List ℤ) (m : Matched t wf (f .proc) (f .node) la (memory s f) (memory s′ f′) (top .locals) (q .shared) x vs) → flow (closing t (f .proc) (f .node) x) ≡ stays
+        → (us : List ℤ) → stepOf t′ allKept most′ s′ k us ≡ settled e′ s′ k (d - 1) (f .proc) (along (λ n m ws. walk t′ allKept (f .proc) most′ n m ws) (m .mem′) (choose (arcOf t (f .proc) (m .arc)) us))
+    unfolding stepOf
+    stays-closes vs m i us =
+        let x₁ = closing t (f .proc) (f .node) x in
+        ap (λ (z : Node). flowed t′ allKept most′ e′ s′ k f′ z us (flow z)) x′-is
+        ∙ ap (flowed t′ allKept most′ e′ s′ k f′ x₁ us) i
+        ∙ ap₂ (λ (j p : ℕ). settled e′ s′ k j p (onward (λ n m ws. walk t′ allKept p most′ n m ws) (exec x₁ (memory s′ f′) us))) (ap (λ (z : ℕ). z - 1) (sym (task .depth))) (sym (top .proc))
+        ∙ ap (λ (z : Did). settled e′ s′ k (d - 1) (f .proc) (onward (λ n m ws. walk t′ allKept (f .proc) most′ n m ws) z)) (m .closes us)
+
     stays-sim : flow x ≡ stays → flow (closing t (f .proc) (f .node) x) ≡ stays → (vs : List ℤ) → WhenStepped Done (flowed t (keptAt t) most e s k f x vs stays)
-    unfolding stepOf lastSetting
+    unfolding lastSetting
     stays-sim i i′ vs =
         let p = f .proc in
         let n = f .node in
         let m = exec-sim t wf p n la (memory s f) (memory s′ f′) (top .locals) (q .shared) x refl i (task .keeps) vs in
         let j< : d - 1 < 8 = omega (arith, task .some-open, task .few-open) in
         let open-is : d ≡ suc (d - 1) = omega (arith, task .some-open) in
-        rw (m .opens) (settle s s′ (d - 1) p (m .arc) (m .mem′) (mark t p n la) j< (omega (arith, task .some-open))
+        let on = settle s s′ (d - 1) p (m .arc) (m .mem′) (mark t p n la) j< (omega (arith, task .some-open))
         (λ n₁ m₁. stays-touch s k (d - 1) (q .depths) (q .places) k<4 j< p n₁ m₁ open-is)
         (λ n₁ m₁. stays-touch s′ k (d - 1) (q .depths′) (q .places′) k<4 j< p n₁ m₁ (sym (task .depth) ∙ open-is))
         (λ ns. n ∷ ns)
         (λ ns. ap (afterFlow k d n ns h) i)
         (λ ns v. marks-append t p v none (h k (d - 1)) (n ∷ ns))
-        (λ us.
-        ap (λ (z : Node). flowed t′ allKept most′ e′ s′ k f′ z us (flow z)) x′-is
-        ∙ ap (flowed t′ allKept most′ e′ s′ k f′ (closing t p n x) us) i′
-        ∙ ap (λ (p′ : ℕ). settled e′ s′ k (openFrames s′ k - 1) p′ (onward (λ n m ws. walk t′ allKept p′ most′ n m ws) (exec (closing t p n x) (memory s′ f′) us))) (sym (top .proc))
-        ∙ ap₂ (λ (j : ℕ) z. settled e′ s′ k j p (onward (λ n m ws. walk t′ allKept p most′ n m ws) z)) j′-is (m .closes us))
-        (along (λ n m ws. walk t (keptAt t) p most n m ws) (m .mem) (choose (m .arc) vs))
-        (along-sim t wf p most most′ n (m .arc) (mark t p n la) (m .mem) (m .mem′) vs (m .leading) (m .locals) (m .shared)))
+        (stays-closes vs m i′) in
+        rw (m .opens) (on (along (λ n m ws. walk t (keptAt t) p most n m ws) (m .mem) (choose (m .arc) vs)) (along-sim t wf p most most′ n (m .arc) (mark t p n la) (m .mem) (m .mem′) vs (m .leading) (m .locals) (m .shared)))
 
     -- ---- a return
+
+    -- the caller's frame goes on by the arc of its call
+    module _ (j : ℕ) (open-is : d ≡ suc (suc j)) where
+      abbrev g : Frame
+      g = frameAt s k j
+
+      abbrev g′ : Frame
+      g′ = frameAt s′ k j
+
+      abbrev la₁ : Last
+      la₁ = lastOf t (g .proc) (h k j)
+
+      caller : SameFrame t (h k j) g g′
+      caller = task .frame j (omega arith)
+
+      its-call : IsCall (nodeOf t g)
+      its-call = task .calls j (omega arith)
+
+      call-leading : Leading t (g .proc) (g .node) (arcTo (nodeOf t g))
+      unfolding arcTo
+      call-leading = by-to t (g .proc) (g .node) (arcTo (nodeOf t g)) refl (rw (its-call .3) (rw (its-call .3) at (wf .one (g .proc) (g .node))))
+
+      caller-locals : Locals t (g .proc) (call-leading .to) la₁ (g .vars) (g′ .vars)
+      unfolding sets
+      caller-locals =
+          let p = g .proc in
+          let n = g .node in
+          let l = call-leading in
+          let no-set : sets (nodeAt t p n) ≡ none = ap sets (its-call .3) in
+          still t p (l .to) (mark t p n la₁) la₁ (g .vars) (g′ .vars) (λ v. sym (mark-other t p n v la₁ (sets-nothing t p n v no-set))) (move t p n (l .to) la₁ (g .vars) (g′ .vars) no-set (l .into) (caller .locals))
+
+      resume : List ℤ → ℕ → ℕ → Frame → ℕ → Step
+      resume us j p g a = settled e′ (closed s′ k) k j p (along (λ n m ws. walk t′ allKept p most′ n m ws) (memory s′ g) (choose a us))
+
+      -- the closed run's step
+      return-closes : x ≡ Return → (us : List ℤ) → stepOf t′ allKept most′ s′ k us ≡ resume us j (g .proc) g′ (arcOf t (g .proc) (arcTo (nodeOf t g)))
+      unfolding stepOf flow closedNode resume
+      return-closes i us =
+          ap (λ (z : Node). flowed t′ allKept most′ e′ s′ k f′ z us (flow z)) (x′-is ∙ ap (closing t (f .proc) (f .node)) i)
+          ∙ ap (λ (i : ℕ). resume us i (frameAt s′ k i .proc) (frameAt s′ k i) (arcTo (nodeOf t′ (frameAt s′ k i)))) (omega (arith, task .depth))
+          ∙ ap₂ (λ (p a : ℕ). resume us j p g′ a) (sym (caller .proc)) (ap₂ (λ (p n : ℕ). arcTo (nodeAt t′ p n)) (sym (caller .proc)) (sym (caller .node))
+          ∙ ap arcTo (closed-node t (g .proc) (g .node) (call-kept t (g .proc) (g .node) its-call)) ∙ call-arc t (g .proc) (g .node) (nodeOf t g) its-call)
+
     return-sim : x ≡ Return → (vs : List ℤ) → WhenStepped Done (flowed t (keptAt t) most e s k f x vs returns)
-    unfolding stepOf flow closedNode blockedAt arcTo sets
+    unfolding flow blockedAt resume
     return-sim i vs =
         let more : 1 < d = leb-false d 1 (sym (ap (blockedAt t s k) i) ∙ free) in
         let j = d - 2 in
-        let g = frameAt s k j in
-        let g′ = frameAt s′ k j in
-        let p = g .proc in
-        let n = g .node in
-        let b = task .frame j (omega arith) in
-        let c = task .calls j (omega arith) in
-        let a = arcTo (nodeAt t p n) in
-        let l = by-to t p n a refl (rw (c .3) (rw (c .3) at (wf .one p n))) in
-        let la₁ = lastOf t p (h k j) in
-        let no-set : sets (nodeAt t p n) ≡ none = ap sets (c .3) in
-        let locals = still t p (l .to) (mark t p n la₁) la₁ (g .vars) (g′ .vars) (λ v. sym (mark-other t p n v la₁ (sets-nothing t p n v no-set))) (move t p n (l .to) la₁ (g .vars) (g′ .vars) no-set (l .into) (b .locals)) in
-        let j< : suc j < 8 = omega (arith, task .few-open) in
         let open-is : d ≡ suc (suc j) = omega arith in
-        settle (closed s k) (closed s′ k) j p a (memory s′ g′) la₁ (omega arith) (omega arith)
+        let p = g j open-is .proc in
+        let a = arcTo (nodeOf t (g j open-is)) in
+        let j< : suc j < 8 = omega (arith, task .few-open) in
+        let on = settle (closed s k) (closed s′ k) j p a (memory s′ (g′ j open-is)) (la₁ j open-is) (omega arith) (omega arith)
         (λ n₁ m₁. return-touch s k j (q .depths) (q .places) k<4 (omega arith) p n₁ m₁ open-is j<)
         (λ n₁ m₁. return-touch s′ k j (q .depths′) (q .places′) k<4 (omega arith) p n₁ m₁ (sym (task .depth) ∙ open-is) j<)
         (λ ns. ns)
         (λ ns. ap (λ (z : Node). afterFlow k d (f .node) ns h (flow z)) i)
         (λ ns v. marks-append t p v none (h k j) ns)
-        (λ us.
-        ap (λ (z : Node). flowed t′ allKept most′ e′ s′ k f′ z us (flow z)) (x′-is ∙ ap (closing t (f .proc) (f .node)) i)
-        ∙ ap (λ (j₁ : ℕ). resume us j₁ (frameAt s′ k j₁ .proc) (frameAt s′ k j₁) (arcTo (nodeOf t′ (frameAt s′ k j₁)))) (ap (λ (z : ℕ). z - 2) (sym (task .depth)))
-        ∙ ap₂ (λ (p′ a′ : ℕ). resume us j p′ g′ a′) (sym (b .proc))
-        (ap₂ (λ (p′ n′ : ℕ). arcTo (nodeAt t′ p′ n′)) (sym (b .proc)) (sym (b .node)) ∙ ap arcTo (closed-node t p n (call-kept t p n c)) ∙ call-arc t p n (nodeAt t p n) c))
-        (along (λ n m ws. walk t (keptAt t) p most n m ws) (memory s g) (choose a vs))
-        (along-sim t wf p most most′ n a la₁ (memory s g) (memory s′ g′) vs l locals (q .shared))
-      where
-        resume : List ℤ → ℕ → ℕ → Frame → ℕ → Step
-        resume us j p g a = settled e′ (closed s′ k) k j p (along (λ n m ws. walk t′ allKept p most′ n m ws) (memory s′ g) (choose a us))
+        (return-closes j open-is i) in
+        on (along (λ n m ws. walk t (keptAt t) p most n m ws) (memory s (g j open-is)) (choose a vs))
+        (along-sim t wf p most most′ (g j open-is .node) a (la₁ j open-is) (memory s (g j open-is)) (memory s′ (g′ j open-is)) vs (call-leading j open-is) (caller-locals j open-is) (q .shared))
 
     -- ---- a call
     call-below : (i : ℕ) → sets x ≡ none → i < d → SameFrame t (entered k d (executed k (d - 1) (f .node ∷ []) h) k i) (frameAt s k i) (frameAt s′ k i)
