@@ -56,7 +56,7 @@ module _ (t : Table) (p : ℕ) where
   leads-reach ms k (through n u d l) = edge (arcs-in n k u d) (leads-reach ms n l)
 
   -- every target has a place in a mask, so what an arc leads to has one
-  leads-below : (m k : ℕ) → Leads t p (members m) k → k < 32
+  pub leads-below : (m k : ℕ) → Leads t p (members m) k → k < 32
   leads-below m k (target d) = member-below m d
   leads-below m k (through n u d l) = go (List·Memᴰ·append-cases (members (arcTo (nodeAt t p n))) d)
     where

@@ -49,7 +49,7 @@ setsVar-false : (s : Option ℕ) (v : ℕ) → setsVar s v ≡ false → s ≢ s
 setsVar-false none v e h = let z : _≡_ {A = ℕ} 0 1 = cc in absurd (omega arith)
 setsVar-false (some w) v e h = eqb-false w v e cc
 
-setsVar-other : (s : Option ℕ) (v : ℕ) → s ≢ some v → setsVar s v ≡ false
+pub setsVar-other : (s : Option ℕ) (v : ℕ) → s ≢ some v → setsVar s v ≡ false
 setsVar-other none v h = refl
 setsVar-other (some w) v h = ne-eqb w v (λ e. h (ap some e))
 
@@ -66,7 +66,7 @@ module _ (t : Table) where
   clear-on (on j s′ a′ c) s a = on j s′ a′ (clear-on c s a)
 
   -- a dirty variable goes along an arc of a node that does not set it
-  use-on : {p n v k : ℕ} → sets (nodeAt t p n) ≢ some v → List·Memᴰ k (arcs (nodeAt t p n)) → Dirty t (useAt p n v) → Dirty t (useAt p k v)
+  pub use-on : {p n v k : ℕ} → sets (nodeAt t p n) ≢ some v → List·Memᴰ k (arcs (nodeAt t p n)) → Dirty t (useAt p n v) → Dirty t (useAt p k v)
   use-on s a (from-node m j l e b c d) = from-node m j l e b (clear-on c s a) d
   use-on s a (from-entry l c d) = from-entry l (clear-on c s a) d
 

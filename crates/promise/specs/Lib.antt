@@ -1,1 +1,3 @@
 pub mod Demand3
+pub mod Sim
+pub mod Proof3

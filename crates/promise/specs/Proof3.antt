@@ -1,0 +1,213 @@
+-- Demand 3 and its consequences, proved from what the reader grants of an accepted table, and from the closed table's having no fault.
+use Prim.Native.Nat.{ℕ, zero, suc, _-_, _<_, _≤_}
+use native.Mathlib.Omega.{arith}
+use native.Mathlib.Nat.{zero-add}
+use mathlib.Core.Path.{_≡_, refl, sym, _∙_, ap, ap₂}
+use mathlib.Core.Logic.{_≢_}
+use mathlib.Core.Bool.{Bool, true, false, not, _&&_}
+use mathlib.Core.Option.{Option, none, some}
+use mathlib.Core.List.{List, [], List·Memᴰ·head}
+use lib.ListN.{length, take}
+use lib.Dec.{eqb}
+use lib.IntN.{ℤ, pos}
+use Rattle.table.specs.Values.{eqZ}
+use Rattle.table.specs.Table.{nodeAt, procAt, removed, uses}
+use Rattle.table.specs.declared.Node.{Node}
+use Rattle.table.specs.declared.Node.the-variants.{Absent, Start, Set, Test, Read, Call, Wait, Signal, Send, Recv, Assert, Out, Return}
+use Rattle.table.specs.declared.Table.{Table}
+use Rattle.text.specs.Writer.{fault}
+use Rattle.text.specs.Reader.{allBelow}
+use Rattle.closing.specs.ReachLaws.{cases}
+use Rattle.closing.specs.Dirty.{useAt, Dirty}
+use Rattle.closing.specs.Closing.{dirty}
+use Rattle.closing.specs.Close.{useOr, closedNode, closedWith, closeTable, answer, close}
+use Rattle.machine.specs.declared.State.{State}
+use Rattle.machine.specs.State.{openFrames, topmost, varAt, standsBefore, standstill, Begun, begun, begin}
+use Rattle.machine.specs.State as First
+use Rattle.machine.specs.Step.{Kept, keptOf, keptIn, fails, failing}
+use Rattle.machine.specs.Run.{Ran, runFrom, runBegun, runChecked, run}
+use Rattle.machine.specs.History.{History, lastSetting, historyFrom, historyBegun, history}
+use Rattle.promise.specs.Demand3.{CleanSetting, SameState, openRun, closedRun, Demand3, SameStandstill, SameFailure}
+use Rattle.promise.specs.Sim.Wf.{Wf}
+use Rattle.promise.specs.Sim.Locals.{settingOf, D, keptAt, not-dirty}
+use Rattle.promise.specs.Sim.Exec.{closing}
+use Rattle.promise.specs.Sim.Walk.{allKept}
+use Rattle.promise.specs.Sim.Same.{Same}
+use Rattle.promise.specs.Sim.Blocked.{same-state, stands-closed, same-blocked}
+use Rattle.promise.specs.Sim.Log.{same-log}
+use Rattle.promise.specs.Sim.Begin.{WhenBegun, BothBegin, begin-sim}
+use Rattle.promise.specs.Sim.Run.{stop-number, Strong, run-sim}
+
+-- ---- a table that the closer accepts: it has no fault and is open, and the answer holds its closing
+
+pub record Accepted (t : Table) : Type 0 where
+  pub sound : fault t ≡ 0
+  pub open-form : t .closed ≡ false
+  pub answer-is : close t .table ≡ closeTable t
+
+accepted : (t : Table) → close t .number ≡ 0 → Accepted t
+unfolding close
+accepted t e = go (fault t) (t .closed) refl refl e
+  where
+    go : (n : ℕ) (c : Bool) → fault t ≡ n → t .closed ≡ c → answer t n c .number ≡ 0 → Accepted t
+    go zero false i j e = record { sound = i; open-form = j; answer-is = ap₂ (λ (n : ℕ) (c : Bool). answer t n c .table) i j }
+    go zero true i j e = absurd (omega arith)
+    go (suc n) c i j e = absurd (omega arith)
+
+-- ---- the two runs, from their first states on
+
+run-is : (u : Table) (ks : List ℕ) (vs : List ℤ) (most : ℕ) (log : List ℕ) (b : Begun) → fault u ≡ 0 → begin u vs ≡ b → run u ks vs most log ≡ runBegun u ks vs most log b
+unfolding run
+run-is u ks vs most log b e i = ap (runChecked u ks vs most log) e ∙ ap (runBegun u ks vs most log) i
+
+history-is : (u : Table) (ks : List ℕ) (vs : List ℤ) (most : ℕ) (log : List ℕ) (b : Begun) → begin u vs ≡ b → history u ks vs most log ≡ historyBegun u ks most log b
+unfolding history
+history-is u ks vs most log b i = ap (historyBegun u ks most log) i
+
+-- which nodes count as kept
+open-kept : (t : Table) → t .closed ≡ false → keptIn t ≡ keptAt t
+open-kept t e = ap (keptOf t) e
+
+closed-kept : (t : Table) → keptIn (closeTable t) ≡ allKept
+unfolding closeTable closedWith
+closed-kept t = refl
+
+module _ (wf : (t : Table) → close t .number ≡ 0 → Wf t) (sound : (t : Table) → close t .number ≡ 0 → fault (close t .table) ≡ 0) where
+  module _ (t : Table) (ok : close t .number ≡ 0) (vs : List ℤ) (ks : List ℕ) (most most′ : ℕ) (log log′ : List ℕ) (size : length log′ ≡ length log) where
+    t-wf : Wf t
+    t-wf = wf t ok
+
+    acc : Accepted t
+    acc = accepted t ok
+
+    abbrev opened : ℕ → Ran
+    opened n = openRun t vs ks most most′ log log′ n
+
+    abbrev shut : List ℤ → ℕ → Ran
+    shut ts n = closedRun t vs ks most most′ log log′ ts n
+
+    -- all that the proof knows of the runs
+    record Followed (ts : List ℤ) : Type 0 where
+      completes : run (close t .table) ks ts most′ log′ .answer .stop ≡ 0
+      used-up : run (close t .table) ks ts most′ log′ .answer .used ≡ length ts
+      each : (n : ℕ) → n ≤ length ks → Strong t t-wf most most′ (history t (take n ks) vs most log) n (opened n) (shut ts n)
+
+    open-is : (js : List ℕ) (s : State) (rest : List ℤ) → begin t vs ≡ begun s rest → run t js vs most log ≡ runFrom t (keptAt t) most vs js 0 s rest log
+    open-is js s rest i = run-is t js vs most log (begun s rest) (acc .sound) i ∙ ap (λ (keep : Kept). runFrom t keep most vs js 0 s rest log) (open-kept t (acc .open-form))
+
+    noted-is : (js : List ℕ) (s : State) (rest : List ℤ) → begin t vs ≡ begun s rest → history t js vs most log ≡ historyFrom t (keptAt t) most js 0 s rest log (λ k j. [])
+    noted-is js s rest i = history-is t js vs most log (begun s rest) i ∙ ap (λ (keep : Kept). historyFrom t keep most js 0 s rest log (λ k j. [])) (open-kept t (acc .open-form))
+
+    shut-is : (js : List ℕ) (ts : List ℤ) (s : State) → begin (closeTable t) ts ≡ begun s ts → run (close t .table) js ts most′ log′ ≡ runFrom (closeTable t) allKept most′ ts js 0 s ts log′
+    shut-is js ts s i = ap (λ (u : Table). run u js ts most′ log′) (acc .answer-is)
+        ∙ run-is (closeTable t) js ts most′ log′ (begun s ts) (sym (ap fault (acc .answer-is)) ∙ sound t ok) i
+        ∙ ap (λ (keep : Kept). runFrom (closeTable t) keep most′ ts js 0 s ts log′) (closed-kept t)
+
+    follow : run t ks vs most log .answer .stop ≡ 0 → (ts : List ℤ) × Followed ts
+    follow c = go (begin t vs) refl (begin-sim t t-wf (acc .open-form) vs)
+      where
+        go : (b : Begun) → begin t vs ≡ b → WhenBegun (BothBegin t t-wf) b → (ts : List ℤ) × Followed ts
+        go First.spent i q = absurd (stop-number Rattle.machine.specs.Step.spent (sym (ap (λ (r : Ran). r .answer .stop) (run-is t ks vs most log First.spent (acc .sound) i)) ∙ c))
+        go (begun s rest) i q =
+            let r = run-sim t t-wf most most′ vs ks 0 s (q .state′) (λ k j. []) rest log log′ (q .states) (λ j l. absurd (omega arith)) size (sym (ap (λ (z : Ran). z .answer .stop) (open-is ks s rest i)) ∙ c) in
+            let ts = r .0 in
+            let f = r .1 ts in (
+              ts,
+              record {
+                completes = ap (λ (z : Ran). z .answer .stop) (shut-is ks ts (q .state′) (q .closes ts)) ∙ f .completes;
+                used-up = ap (λ (z : Ran). z .answer .used) (shut-is ks ts (q .state′) (q .closes ts)) ∙ f .used-up;
+                each = λ n l. rw (noted-is (take n ks) s rest i, open-is (take n ks) s rest i, shut-is (take n ks) ts (q .state′) (q .closes ts)) (rw zero-add at (f .each n l));
+              },
+            )
+
+  -- ---- demand 3
+
+  pub demand-3 : Demand3
+  demand-3 t ok vs ks most most′ log log′ size c =
+      let r = follow t ok vs ks most most′ log log′ size c in
+      let f = r .1 in (
+        r .0,
+        record {
+          completes = f .completes;
+          used-up = f .used-up;
+          agree = λ n l. let g = f .each n l in record {
+            open-completes = g .open-completes;
+            closed-completes = g .closed-completes;
+            open-steps = g .open-steps;
+            closed-steps = g .closed-steps;
+            logs = same-log n _ _ (g .logs);
+            states = same-state t _ _ _ (g .states);
+          };
+        },
+      )
+
+  -- ---- its consequences: of the open run the proof knows more than a partner says
+
+  all-below : (n : ℕ) (f g : ℕ → Bool) → ((k : ℕ) → k < n → f k ≡ g k) → allBelow n f ≡ allBelow n g
+  unfolding allBelow
+  all-below zero f g e = refl
+  all-below (suc n) f g e = ap₂ _&&_ (e n (omega arith)) (all-below n f g (λ k l. e k (omega arith)))
+
+  module _ (t : Table) (w : Wf t) (h : History) (s s′ s″ : State) (q : SameState t h s s′) (r : Same t h s s″) where
+    stand-still : standstill t s ≡ standstill (closeTable t) s′
+    unfolding standstill closeTable closedWith
+    stand-still = all-below (t .tasks) _ _ (λ k l. ap₂ (λ a b. not a && b) (q .open-stands k l ∙ sym (q .closed-stands k l))
+        (same-blocked t h s s′ w q k l (r .task k l .some-open) (r .task k l .keeps)))
+
+    module _ (k : ℕ) (k< : k < t .tasks) where
+      abbrev p : ℕ
+      p = topmost s k .proc
+
+      abbrev n : ℕ
+      n = topmost s k .node
+
+      clean-of : (v : ℕ) (o : Option ℕ) → (Dirty t (settingOf p v o) → ⊥) → CleanSetting t p v o
+      clean-of v none c = c
+      clean-of v (some m) c = c
+
+      -- a clean use finds the same value
+      same-use : (u : ℕ) → u < procAt t p .vars → (Dirty t (useAt p n u) → ⊥) → varAt (topmost s k .vars) u ≡ varAt (topmost s′ k .vars) u
+      same-use u l c =
+          let j = openFrames s k - 1 in
+          let b = r .task k k< in
+          let j< : j < openFrames s k = omega (arith, b .some-open) in
+          rw (← q .frames k k<) (q .vars k j u k< j< l (clean-of u (lastSetting t p u none (h k j)) (λ d. c (b .frame j j< .locals .reach u l d))))
+
+      fail-assert : (u to : ℕ) → nodeAt t p n ≡ Assert u to → useOr t (dirty t) p n u ≢ removed → fails (topmost s k .vars) (Assert u to) ≡ fails (topmost s′ k .vars) (closing t p n (Assert u to))
+      unfolding fails closedNode uses
+      fail-assert u to e c = cases (D t (useAt p n u))
+          (λ b. absurd (c (rw b)))
+          (λ b. rw b (ap (λ (x : ℤ). not (eqb u removed) && eqZ x (pos 0)) (same-use u (w .uses< p n u (rw e (List·Memᴰ·head refl))) (not-dirty t (useAt p n u) b))))
+
+      fail-at : (x : Node) → nodeAt t p n ≡ x → (v to : ℕ) → closing t p n x ≡ Assert v to → v ≢ removed → fails (topmost s k .vars) x ≡ fails (topmost s′ k .vars) (closing t p n x)
+      unfolding fails closedNode
+      fail-at Absent e v to i c = refl
+      fail-at (Start a) e v to i c = refl
+      fail-at (Set u o a b m) e v to i c = refl
+      fail-at (Test o a b y m) e v to i c = refl
+      fail-at (Read u m) e v to i c = refl
+      fail-at (Call f xs m) e v to i c = refl
+      fail-at (Wait a m) e v to i c = refl
+      fail-at (Signal a m) e v to i c = refl
+      fail-at (Send a u m) e v to i c = refl
+      fail-at (Recv a u m) e v to i c = refl
+      fail-at (Assert u m) e v to i c = let z : useOr t (dirty t) p n u ≡ v = cc in fail-assert u m e (λ b. c (sym z ∙ b))
+      fail-at (Out u m) e v to i c = refl
+      fail-at Return e v to i c = refl
+
+      fail-alike : (v to : ℕ) → standsBefore (closeTable t) s′ k ≡ Assert v to → v ≢ removed → failing t s k ≡ failing (closeTable t) s′ k
+      fail-alike v to i c =
+          let z = stands-closed t h s s′ w q k k< (r .task k k< .some-open) (r .task k k< .keeps) in
+          fail-at (standsBefore t s k) refl v to (sym z ∙ i) c ∙ ap (fails (topmost s′ k .vars)) (sym z)
+
+  pub same-standstill : SameStandstill
+  same-standstill t ok vs ks most most′ log log′ size c ts f n l =
+      let g = follow t ok vs ks most most′ log log′ size c .1 .each n l in
+      let a = accepted t ok .answer-is in
+      rw a (stand-still t (wf t ok) _ _ _ _ (rw a at (f .agree n l .states)) (g .states))
+
+  pub same-failure : SameFailure
+  same-failure t ok vs ks most most′ log log′ size c ts f n k v to l k< i j =
+      let g = follow t ok vs ks most most′ log log′ size c .1 .each n l in
+      let a = accepted t ok .answer-is in
+      rw a (fail-alike t (wf t ok) _ _ _ _ (rw a at (f .agree n l .states)) (g .states) k k< v to (rw a at i) j)

@@ -1,0 +1,94 @@
+-- The logs of the two runs: entries that agree, written at the same place, leave logs that agree.
+use Prim.Native.Nat.{ℕ, suc, _+_, _*_, _<_, _≤_}
+use native.Mathlib.Omega.{arith}
+use native.Mathlib.Nat.{add-zero, add-assoc}
+use mathlib.Core.Path.{_≡_, refl, sym, _∙_, ap}
+use mathlib.Core.Logic.{inl, inr}
+use mathlib.Core.Option.{Option, none, some}
+use mathlib.Core.List.{List, _∷_}
+use lib.ListN.{length, getD}
+use lib.Seq.{sets}
+use lib.Dec.{eqb}
+use lib.IntN.{ℤ}
+use borrow.Author.Tests.{eqb-true, eqb-false}
+use Rattle.closing.specs.ReachLaws.{cases}
+use Rattle.machine.specs.Step.{Entry}
+use Rattle.machine.specs.Run.{flagged, entryBytes}
+use Rattle.promise.specs.Demand3.{SameLog}
+use Rattle.promise.specs.Sim.Stores.{sets-before, sets-at}
+use Rattle.promise.specs.Sim.Exec.{SameValue}
+use Rattle.promise.specs.Sim.Step.{SameEntry}
+
+-- the eight bytes of an entry of the open log, and of the closed one
+pub record SameBytes (f f′ : ℕ → ℕ) : Type 0 where
+  pub task : f 0 ≡ f′ 0
+  pub proc : f 1 ≡ f′ 1
+  pub node : f 2 ≡ f′ 2
+  pub flag : f′ 3 ≡ 1 → f 3 ≡ 1
+  pub value : (b : ℕ) → b < 4 → f′ 3 ≡ 1 → f (4 + b) ≡ f′ (4 + b)
+
+-- byte b of entry i
+abbrev pub byte : List ℕ → ℕ → ℕ → ℕ
+byte log i b = getD log (8 * i + b) 0
+
+abbrev pub SameLogs : ℕ → List ℕ → List ℕ → Type 0
+SameLogs n log log′ = (i : ℕ) → i < n → SameBytes (byte log i) (byte log′ i)
+
+pub same-log : (n : ℕ) (log log′ : List ℕ) → SameLogs n log log′ → SameLog n log log′
+same-log n log log′ q = record {
+  task = λ i l. rw add-zero at (q i l .task);
+  proc = λ i l. q i l .proc;
+  node = λ i l. q i l .node;
+  flag = λ i l. q i l .flag;
+  value = λ i b l c e. rw add-assoc (q i l .value b c e);
+}
+
+bytes-by : (f f′ g g′ : ℕ → ℕ) → ((b : ℕ) → b < 8 → g b ≡ f b) → ((b : ℕ) → b < 8 → g′ b ≡ f′ b) → SameBytes f f′ → SameBytes g g′
+bytes-by f f′ g g′ e e′ r = record {
+  task = e 0 (omega arith) ∙ r .task ∙ sym (e′ 0 (omega arith));
+  proc = e 1 (omega arith) ∙ r .proc ∙ sym (e′ 1 (omega arith));
+  node = e 2 (omega arith) ∙ r .node ∙ sym (e′ 2 (omega arith));
+  flag = λ k. e 3 (omega arith) ∙ r .flag (sym (e′ 3 (omega arith)) ∙ k);
+  value = λ b l k. e (4 + b) (omega arith) ∙ r .value b l (sym (e′ 3 (omega arith)) ∙ k) ∙ sym (e′ (4 + b) (omega arith));
+}
+
+bytes-length : (e : Entry) → length (entryBytes e) ≡ 8
+bytes-length e = ap (λ (n : ℕ). suc (suc (suc n))) (go (e .value))
+  where
+    go : (o : Option ℤ) → length (flagged o) ≡ 5
+    go none = refl
+    go (some x) = refl
+
+entry-bytes : (e e′ : Entry) → SameEntry e e′ → SameBytes (λ b. getD (entryBytes e) b 0) (λ b. getD (entryBytes e′) b 0)
+entry-bytes e e′ r = record {
+  task = r .task;
+  proc = r .proc;
+  node = r .node;
+  flag = λ k. flags (e .value) (e′ .value) (r .value) k;
+  value = λ b l k. values b (r .value) k;
+}
+  where
+    unflagged : (o : Option ℤ) → o ≡ none → getD (flagged o) 0 0 ≡ 1 → ⊥
+    unflagged o i k = let z : _≡_ {A = ℕ} 0 1 = sym (ap (λ (w : Option ℤ). getD (flagged w) 0 0) i) ∙ k in absurd (omega arith)
+
+    flags : (o o′ : Option ℤ) → SameValue o o′ → getD (flagged o′) 0 0 ≡ 1 → getD (flagged o) 0 0 ≡ 1
+    flags o o′ (inl i) k = absurd (unflagged o′ i k)
+    flags o o′ (inr i) k = rw i k
+
+    values : (b : ℕ) → SameValue (e .value) (e′ .value) → getD (flagged (e′ .value)) 0 0 ≡ 1 → getD (entryBytes e) (4 + b) 0 ≡ getD (entryBytes e′) (4 + b) 0
+    values b (inl i) k = absurd (unflagged (e′ .value) i k)
+    values b (inr i) k = λ j. getD (r .task j ∷ r .proc j ∷ r .node j ∷ flagged (i j)) (4 + b) 0
+
+-- byte b of entry i after the store of entry n
+byte-old : (log : List ℕ) (n i b : ℕ) (e : Entry) → i < n → b < 8 → byte (sets log (8 * n) (entryBytes e)) i b ≡ byte log i b
+byte-old log n i b e l m = sets-before (entryBytes e) log (8 * n) (8 * i + b) 0 (omega arith)
+
+byte-new : (log : List ℕ) (n b : ℕ) (e : Entry) → 8 * n + 8 ≤ length log → b < 8 → byte (sets log (8 * n) (entryBytes e)) n b ≡ getD (entryBytes e) b 0
+byte-new log n b e l m = sets-at (entryBytes e) log (8 * n) b 0 (rw (bytes-length e) l) (rw (bytes-length e) m)
+
+pub log-next : (n : ℕ) (log log′ : List ℕ) (e e′ : Entry) → SameLogs n log log′ → SameEntry e e′ → length log′ ≡ length log → 8 * n + 8 ≤ length log
+    → SameLogs (suc n) (sets log (8 * n) (entryBytes e)) (sets log′ (8 * n) (entryBytes e′))
+log-next n log log′ e e′ q r size room i l = cases (eqb i n)
+    (λ k. rw (eqb-true i n k) (bytes-by (λ b. getD (entryBytes e) b 0) (λ b. getD (entryBytes e′) b 0) _ _ (λ b m. byte-new log n b e room m) (λ b m. byte-new log′ n b e′ (omega arith) m) (entry-bytes e e′ r)))
+    (λ k. let l′ : i < n = omega (arith, eqb-false i n k) in
+    bytes-by (byte log i) (byte log′ i) _ _ (λ b m. byte-old log n i b e l′ m) (λ b m. byte-old log′ n i b e′ l′ m) (q i l′))

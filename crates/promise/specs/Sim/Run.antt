@@ -1,0 +1,168 @@
+-- Whole runs: the tosses of the steps, one after another, let the closed run follow the open one over the same task numbers.
+use Prim.Native.Nat.{ℕ, zero, suc, _+_, _*_, _<_, _≤_}
+use native.Mathlib.Omega.{arith}
+use native.Mathlib.Nat.{add-zero, add-suc, suc-add, sub-zero}
+use mathlib.Core.Path.{_≡_, refl, sym, _∙_, ap}
+use mathlib.Core.List.{List, [], _∷_, _++_}
+use lib.ListN.{length, take}
+use lib.Seq.{sets, length-sets}
+use lib.Dec.{ltb}
+use lib.IntN.{ℤ}
+use borrow.Author.Tests.{ltb-true, ltb-false, lt-ltb, le-ltb}
+use Rattle.table.specs.declared.Table.{Table}
+use Rattle.closing.specs.ReachLaws.{cases}
+use Rattle.closing.specs.Close.{closedWith, closeTable}
+use Rattle.machine.specs.declared.State.{State}
+use Rattle.machine.specs.Step.{Stop, noTask, logFull, taskLost, taskBlocked, tooMany, spent, badToss, stopNumber, Kept, Entry, Step, stopped, stepped, step}
+use Rattle.machine.specs.Run.{entryBytes, Ran, turn, afterStep, runFrom}
+use Rattle.machine.specs.History.{History, afterEntry, afterTurn, historyFrom}
+use Rattle.promise.specs.Sim.Wf.{Wf}
+use Rattle.promise.specs.Sim.Locals.{keptAt}
+use Rattle.promise.specs.Sim.Walk.{allKept}
+use Rattle.promise.specs.Sim.Same.{Same}
+use Rattle.promise.specs.Sim.Step.{WhenStepped, SameEntry, Done, step-sim}
+use Rattle.promise.specs.Sim.Log.{SameLogs, log-next}
+
+-- ---- a run's first step
+
+pub stop-number : (c : Stop) → stopNumber c ≡ 0 → ⊥
+unfolding stopNumber
+stop-number noTask e = absurd (omega arith)
+stop-number logFull e = absurd (omega arith)
+stop-number taskLost e = absurd (omega arith)
+stop-number taskBlocked e = absurd (omega arith)
+stop-number tooMany e = absurd (omega arith)
+stop-number spent e = absurd (omega arith)
+stop-number badToss e = absurd (omega arith)
+
+module _ (u : Table) (keep : Kept) (most : ℕ) (k : ℕ) (ks : List ℕ) (n : ℕ) (s : State) (rest : List ℤ) (log : List ℕ) where
+  run-step : (all : List ℤ) (r : Step) → turn u keep most k n s rest log ≡ r → runFrom u keep most all (k ∷ ks) n s rest log ≡ afterStep u keep most all (λ m z v l. runFrom u keep most all ks m z v l) n s rest log r
+  unfolding runFrom
+  run-step all r e = ap (afterStep u keep most all (λ m z v l. runFrom u keep most all ks m z v l) n s rest log) e
+
+  history-step : (h : History) (r : Step) → turn u keep most k n s rest log ≡ r → historyFrom u keep most (k ∷ ks) n s rest log h ≡ afterTurn u keep most (λ m z v l h₁. historyFrom u keep most ks m z v l h₁) n s log h r
+  unfolding historyFrom
+  history-step h r e = ap (afterTurn u keep most (λ m z v l h₁. historyFrom u keep most ks m z v l h₁) n s log h) e
+
+module _ (t : Table) (wf : Wf t) (most most′ : ℕ) where
+  abbrev t′ : Table
+  t′ = closeTable t
+
+  -- ---- one turn
+
+  record Turned (h : History) (s s′ : State) (k n : ℕ) (log log′ : List ℕ) (e : Entry) (ns : List ℕ) (s₁ : State) (vs : List ℤ) : Type 0 where
+    room : 8 * n + 8 ≤ length log
+    entry′ : Entry
+    state′ : State
+    tosses : List ℤ
+    closes : (ws : List ℤ) → turn t′ allKept most′ k n s′ (tosses ++ ws) log′ ≡ stepped entry′ [] state′ ws
+    entries : SameEntry e entry′
+    states : Same t (afterEntry t s e ns h) s₁ state′
+
+  turn-is : (u : Table) (keep : Kept) (m k n : ℕ) (s : State) (rest : List ℤ) (log : List ℕ) → k < u .tasks → 8 * n + 8 ≤ length log → turn u keep m k n s rest log ≡ step u keep m s k rest
+  unfolding turn
+  turn-is u keep m k n s rest log l r = rw (lt-ltb k (u .tasks) l, le-ltb (length log) (8 * n + 8) r, turn)
+
+  same-tasks : t′ .tasks ≡ t .tasks
+  unfolding closeTable closedWith
+  same-tasks = refl
+
+  turned : (h : History) (s s′ : State) (q : Same t h s s′) (k n : ℕ) (log log′ : List ℕ) → length log′ ≡ length log → (k< : k < t .tasks) → 8 * n + 8 ≤ length log
+      → (r : Step) → WhenStepped (Done t wf most most′ h s s′ q k k<) r → WhenStepped (Turned h s s′ k n log log′) r
+  turned h s s′ q k n log log′ size k< room (stopped c) d = tt
+  turned h s s′ q k n log log′ size k< room (stepped e ns s₁ vs) d = record {
+    room = room;
+    entry′ = d .entry′;
+    state′ = d .state′;
+    tosses = d .tosses;
+    closes = λ ws. turn-is t′ allKept most′ k n s′ (d .tosses ++ ws) log′ (rw same-tasks k<) (omega arith) ∙ d .closes ws;
+    entries = d .entries;
+    states = d .states;
+  }
+
+  turn-sim : (h : History) (s s′ : State) → Same t h s s′ → (k n : ℕ) (rest : List ℤ) (log log′ : List ℕ) → length log′ ≡ length log → WhenStepped (Turned h s s′ k n log log′) (turn t (keptAt t) most k n s rest log)
+  unfolding turn
+  turn-sim h s s′ q k n rest log log′ size = cases (ltb k (t .tasks))
+      (λ a. cases (ltb (length log) (8 * n + 8))
+      (λ b. rw (a, b, turn) tt)
+      (λ b. let k< = ltb-true k (t .tasks) a in
+      rw (a, b, turn) (turned h s s′ q k n log log′ size k< (ltb-false (length log) (8 * n + 8) b) (step t (keptAt t) most s k rest) (step-sim t wf most most′ h s s′ q k k< rest))))
+      (λ a. rw (a, turn) tt)
+
+  -- ---- all turns
+
+  -- what the runs have come to after n steps
+  pub record Strong (h : History) (n : ℕ) (r r′ : Ran) : Type 0 where
+    pub open-completes : r .answer .stop ≡ 0
+    pub closed-completes : r′ .answer .stop ≡ 0
+    pub open-steps : r .answer .steps ≡ n
+    pub closed-steps : r′ .answer .steps ≡ n
+    pub logs : SameLogs n (r .log) (r′ .log)
+    pub states : Same t h (r .answer .state) (r′ .answer .state)
+
+  module _ (all : List ℤ) where
+    abbrev opens : List ℕ → ℕ → State → List ℤ → List ℕ → Ran
+    opens ks n s rest log = runFrom t (keptAt t) most all ks n s rest log
+
+    abbrev noted : List ℕ → ℕ → State → List ℤ → List ℕ → History → History
+    noted ks n s rest log h = historyFrom t (keptAt t) most ks n s rest log h
+
+    abbrev closes : List ℤ → List ℕ → ℕ → State → List ℤ → List ℕ → Ran
+    closes all′ ks n s ts log = runFrom t′ allKept most′ all′ ks n s ts log
+
+    -- the closed run on the tosses ts, of which none is left
+    pub record Follows (ks : List ℕ) (n : ℕ) (s s′ : State) (h : History) (rest : List ℤ) (log log′ : List ℕ) (ts all′ : List ℤ) : Type 0 where
+      pub completes : closes all′ ks n s′ ts log′ .answer .stop ≡ 0
+      pub used-up : closes all′ ks n s′ ts log′ .answer .used ≡ length all′
+      pub each : (m : ℕ) → m ≤ length ks → Strong (noted (take m ks) n s rest log h) (n + m) (opens (take m ks) n s rest log) (closes all′ (take m ks) n s′ ts log′)
+
+    -- before any step
+    none-yet : (n : ℕ) (s s′ : State) (h : History) (rest : List ℤ) (log log′ : List ℕ) (ts all′ : List ℤ) → Same t h s s′ → SameLogs n log log′ → Strong (noted [] n s rest log h) (n + zero) (opens [] n s rest log) (closes all′ [] n s′ ts log′)
+    unfolding runFrom historyFrom
+    none-yet n s s′ h rest log log′ ts all′ q l = rw add-zero (record { open-completes = refl; closed-completes = refl; open-steps = refl; closed-steps = refl; logs = l; states = q })
+
+    -- one step more
+    one-more : (k : ℕ) (ks : List ℕ) (n : ℕ) (s s′ : State) (h : History) (rest : List ℤ) (log log′ : List ℕ) (e : Entry) (ns : List ℕ) (s₁ : State) (vs : List ℤ) (ts all′ : List ℤ)
+        → Same t h s s′ → SameLogs n log log′
+        → turn t (keptAt t) most k n s rest log ≡ stepped e ns s₁ vs
+        → (d : Turned h s s′ k n log log′ e ns s₁ vs)
+        → Follows ks (suc n) s₁ (d .state′) (afterEntry t s e ns h) vs (sets log (8 * n) (entryBytes e)) (sets log′ (8 * n) (entryBytes (d .entry′))) ts all′
+        → Follows (k ∷ ks) n s s′ h rest log log′ (d .tosses ++ ts) all′
+    one-more k ks n s s′ h rest log log′ e ns s₁ vs ts all′ q l i d f = record {
+      completes = rw (closed-is ks) (f .completes);
+      used-up = rw (closed-is ks) (f .used-up);
+      each = each;
+    }
+      where
+        us : List ℤ
+        us = d .tosses ++ ts
+
+        closed-is : (js : List ℕ) → closes all′ (k ∷ js) n s′ us log′ ≡ closes all′ js (suc n) (d .state′) ts (sets log′ (8 * n) (entryBytes (d .entry′)))
+        closed-is js = run-step t′ allKept most′ k js n s′ us log′ all′ (stepped (d .entry′) [] (d .state′) ts) (d .closes ts)
+
+        each : (m : ℕ) → m ≤ length (k ∷ ks) → Strong (noted (take m (k ∷ ks)) n s rest log h) (n + m) (opens (take m (k ∷ ks)) n s rest log) (closes all′ (take m (k ∷ ks)) n s′ us log′)
+        each zero a = none-yet n s s′ h rest log log′ us all′ q l
+        each (suc m) a = rw (add-suc, ← suc-add n m, closed-is (take m ks), run-step t (keptAt t) most k (take m ks) n s rest log all (stepped e ns s₁ vs) i, history-step t (keptAt t) most k (take m ks) n s rest log h (stepped e ns s₁ vs) i) (f .each m (omega arith))
+
+    pub run-sim : (ks : List ℕ) (n : ℕ) (s s′ : State) (h : History) (rest : List ℤ) (log log′ : List ℕ) → Same t h s s′ → SameLogs n log log′ → length log′ ≡ length log
+        → opens ks n s rest log .answer .stop ≡ 0 → (ts : List ℤ) × ((all′ : List ℤ) → Follows ks n s s′ h rest log log′ ts all′)
+    unfolding runFrom
+    run-sim [] n s s′ h rest log log′ q l size c = ([], λ all′. record { completes = refl; used-up = sub-zero (length all′); each = each all′ })
+      where
+        each : (all′ : List ℤ) (m : ℕ) → m ≤ 0 → Strong (noted (take m []) n s rest log h) (n + m) (opens (take m []) n s rest log) (closes all′ (take m []) n s′ [] log′)
+        each all′ zero a = none-yet n s s′ h rest log log′ [] all′ q l
+        each all′ (suc m) a = absurd (omega arith)
+    run-sim (k ∷ ks) n s s′ h rest log log′ q l size c = go (turn t (keptAt t) most k n s rest log) refl (turn-sim h s s′ q k n rest log log′ size)
+        (λ n₁ s₁ s₁′ h₁ vs log₁ log₁′ q₁ l₁ size₁ c₁. run-sim ks n₁ s₁ s₁′ h₁ vs log₁ log₁′ q₁ l₁ size₁ c₁)
+      where
+        go : (r : Step) → turn t (keptAt t) most k n s rest log ≡ r → WhenStepped (Turned h s s′ k n log log′) r
+            → ((n₁ : ℕ) (s₁ s₁′ : State) (h₁ : History) (vs : List ℤ) (log₁ log₁′ : List ℕ) → Same t h₁ s₁ s₁′ → SameLogs n₁ log₁ log₁′ → length log₁′ ≡ length log₁
+            → opens ks n₁ s₁ vs log₁ .answer .stop ≡ 0 → (ts : List ℤ) × ((all′ : List ℤ) → Follows ks n₁ s₁ s₁′ h₁ vs log₁ log₁′ ts all′))
+            → (ts : List ℤ) × ((all′ : List ℤ) → Follows (k ∷ ks) n s s′ h rest log log′ ts all′)
+        go (stopped z) i d f = absurd (stop-number z (rw (run-step t (keptAt t) most k ks n s rest log all (stopped z) i) at c))
+        go (stepped e ns s₁ vs) i d f =
+            let b = f (suc n) s₁ (d .state′) (afterEntry t s e ns h) vs (sets log (8 * n) (entryBytes e)) (sets log′ (8 * n) (entryBytes (d .entry′))) (d .states)
+            (log-next n log log′ e (d .entry′) l (d .entries) size (d .room))
+            (length-sets log′ (8 * n) (entryBytes (d .entry′)) ∙ size ∙ sym (length-sets log (8 * n) (entryBytes e)))
+            (rw (run-step t (keptAt t) most k ks n s rest log all (stepped e ns s₁ vs) i) at c) in
+            (d .tosses ++ b .0, λ all′. one-more k ks n s s′ h rest log log′ e ns s₁ vs (b .0) all′ q l i d (b .1 all′))
