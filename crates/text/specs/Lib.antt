@@ -10,3 +10,5 @@ pub mod NumberLaws
 pub mod ValueLaws
 pub mod LineLaws
 pub mod MaskLists
+pub mod Structure
+pub mod EndsLaws
