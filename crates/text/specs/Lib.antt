@@ -11,4 +11,5 @@ pub mod ValueLaws
 pub mod LineLaws
 pub mod MaskLists
 pub mod Structure
+pub mod Right
 pub mod EndsLaws
