@@ -1,6 +1,6 @@
 -- Reading the lines that a table stands for ends as `linesFault` says: with that fault, or with a table that is the same in all that counts.
 use Prim.Native.Nat.{ℕ, zero, suc, _+_, _-_, _≤_, _<_}
-use mathlib.Core.Path.{_≡_, refl, sym, _∙_, ap}
+use mathlib.Core.Path.{_≡_, refl, sym, _∙_, ap, subst}
 use mathlib.Core.List.{List, [], _∷_, _++_, append-assoc, append-nil}
 use mathlib.Core.Option.{Option, none, some}
 use mathlib.Core.Bool.{Bool, true, false, _&&_}
@@ -29,6 +29,8 @@ use Rattle.text.specs.LineLaws.{Sound, judgement, line-write, head-sound
 use Rattle.text.specs.Format.{headLine, countsLine, taskLine, semLine, queueLine, procLine, Scope, nodeLine, fields, setOf, nodeOf, Described, noLine, described, describe}
 use Rattle.text.specs.Reader.{rows, taskRow, semRow, queueOf, queueRow, Numbered, nodeRow, slotOf, openNodes, ifKey, furtherNodes, closedNodes, nodesOf, droppedBy, procOf, scopeOf, procRow, atEnd, body, table, concat}
 use Rattle.text.specs.Writer.{queueVals, procVals, nodeText, scope, procText, text}
+use Rattle.text.specs.Right.{line-is}
+use Rattle.text.specs.ValueLaws.{no}
 use Rattle.text.specs.Structure.{firstOf, gap, placeFault, nodesFault, procFault, linesFault}
 
 -- ---- outcomes, up to line numbers: with no fault, something that has P, and s is left; else a fault with the number of c
@@ -46,12 +48,17 @@ ends-then P Q s r none d (refused x l) f e g = absurd e
 ends-then P Q s r (some c) d (took a l t) f e g = absurd e
 ends-then P Q s r (some c) d (refused x l) f e g = e
 
+-- nothing more goes wrong
+ends-last : {A B : Type 0} (P : A → Type 0) (Q : B → Type 0) (s r : List ℕ) (c : Option Fault) (o : Outcome A) (f : A → Parser B)
+    → Ends P s c o → ((a : A) (l : ℕ) → P a → Ends Q r none (f a l s)) → Ends Q r c (onto o f)
+ends-last P Q s r none (took a l t) f e g = rw (e .1) (g a l (e .0))
+ends-last P Q s r none (refused x l) f e g = absurd e
+ends-last P Q s r (some c) (took a l t) f e g = absurd e
+ends-last P Q s r (some c) (refused x l) f e g = e
+
 ends-map : {A B : Type 0} (P : A → Type 0) (Q : B → Type 0) (s : List ℕ) (c : Option Fault) (o : Outcome A) (h : A → B)
     → Ends P s c o → ((a : A) → P a → Q (h a)) → Ends Q s c (onto o (λ a. give (h a)))
-ends-map P Q s none (took a l t) h e g = (g a (e .0), e .1)
-ends-map P Q s none (refused x l) h e g = absurd e
-ends-map P Q s (some c) (took a l t) h e g = absurd e
-ends-map P Q s (some c) (refused x l) h e g = e
+ends-map P Q s c o h e g = ends-last P Q s s c o (λ a. give (h a)) e (λ a l p. (g a p, refl))
 
 ends-weaken : {A : Type 0} (P Q : A → Type 0) (s : List ℕ) (c : Option Fault) (o : Outcome A) → ((a : A) → P a → Q a) → Ends P s c o → Ends Q s c o
 ends-weaken P Q s none (took a l t) g e = (g a (e .0), e .1)
@@ -77,6 +84,10 @@ line-then : {B : Type 0} (Q : B → Type 0) (d : Line) → Sound d → (w : Vals
     → ((l : ℕ) → lineFault d w ≡ none → Ends Q r c (f w l s)) → Ends Q r (orElse (lineFault d w) c) (onto (line d l (write d w ++ s)) f)
 line-then Q d g w l s r c f k =
     ends-then (λ v. v ≡ w) Q s r (lineFault d w) c (line d l (write d w ++ s)) f (ends-line d (λ v. v ≡ w) g w l s refl) (λ v l n e. rw e (k l n))
+
+ends-row : {A : Type 0} (Q : A → Type 0) (d : Line) → Sound d → (w : Vals d) (l : ℕ) (s : List ℕ) (h : Vals d → A) → Q (h w)
+    → Ends Q s (lineFault d w) ((line d >>= λ w. give (h w)) l (write d w ++ s))
+ends-row Q d g w l s h q = ends-map (λ v. Q (h v)) Q s (lineFault d w) (line d l (write d w ++ s)) h (ends-line d (λ v. Q (h v)) g w l s q) (λ a p. p)
 
 -- ---- rows
 
@@ -113,6 +124,15 @@ ends-rows d Q f g c s e row (suc n) i h xs l =
     (ends-then (Q i) (Placed d Q (suc n) i xs) (concat g n (suc i) ++ s) s (c i) (firstOf c n (suc i)) (f i l (g i ++ (concat g n (suc i) ++ s))) _ (row i n l (omega arith)) (λ a k z q.
     ends-weaken (Placed d Q n (suc i) (set xs i a)) (Placed d Q (suc n) i xs) s (firstOf c n (suc i)) (rows f n (suc i) (set xs i a) k (concat g n (suc i) ++ s)) (λ ys. placed-set d Q n i xs ys a q)
     (ends-rows d Q f g c s e row n (suc i) (omega arith) (set xs i a) k)))
+
+-- rows of one line each, and what is read behind them
+rows-then : {A B : Type 0} (z : A) (Q : ℕ → A → Type 0) (R : B → Type 0) (d : ℕ → Line) → ((i : ℕ) → Sound (d i)) → (w : (i : ℕ) → Vals (d i)) (h : (i : ℕ) → Vals (d i) → A) → ((i : ℕ) → Q i (h i (w i)))
+    → (n : ℕ) (xs : List A) (l : ℕ) (s r : List ℕ) (c : Option Fault) (f : List A → Parser B) → ((ys : List A) (l : ℕ) → Placed z Q n 0 xs ys → Ends R r c (f ys l s))
+    → Ends R r (orElse (firstOf (λ i. lineFault (d i) (w i)) n 0) c) (onto (rows (λ i. line (d i) >>= λ w. give (h i w)) n 0 xs l (concat (λ i. write (d i) (w i)) n 0 ++ s)) f)
+rows-then z Q R d g w h q n xs l s r c f k =
+    ends-then (Placed z Q n 0 xs) R s r (firstOf (λ i. lineFault (d i) (w i)) n 0) c (rows (λ i. line (d i) >>= λ w. give (h i w)) n 0 xs l (concat (λ i. write (d i) (w i)) n 0 ++ s)) f
+    (ends-rows z Q (λ i. line (d i) >>= λ w. give (h i w)) (λ i. write (d i) (w i)) (λ i. lineFault (d i) (w i)) s n (λ i m l e. ends-row (Q i) (d i) (g i) (w i) l (concat (λ i. write (d i) (w i)) m (suc i) ++ s) (h i) (q i)) n 0 (omega arith) xs l)
+    (λ ys l e p. k ys l p)
 
 -- ---- nodes
 
@@ -241,3 +261,117 @@ module _ (t : Table) (q : Proc) where
       rw (p .0) (ends-weaken (Placed noSlot Read-back n (suc i) (set xs i (slotOf x))) (Placed noSlot Read-back (suc n) i xs) s (firstOf (λ j. placeFault c q j (d j)) n (suc i)) (furtherNodes c f i (set xs i (slotOf x)) y rest)
       (λ ys. placed-set noSlot Read-back n i xs ys (slotOf x) (rw e (p .1)))
       (ends-further o s h n (suc i) f i (omega arith) (omega arith) (omega arith) (set xs i (slotOf x)) (λ j g. getD-set-other xs i j (slotOf x) noSlot (λ p. omega arith) ∙ b j (omega arith)) y)))))
+
+  -- closed, with suc m places
+  ends-closed : t .closed ≡ true → (m : ℕ) → q .nodes ≡ suc m → (s : List ℕ) (l : ℕ) → Lacking (after (bytes "node=") s)
+      → Ends (Placed noSlot Read-back (suc m) 0 noSlots) s (firstOf (λ j. placeFault c q j (d j)) (suc m) 0) (closedNodes c l (concat lines (suc m) 0 ++ s))
+  unfolding firstOf concat
+  ends-closed o m e s l h =
+      let rest = concat lines m 1 ++ s in
+      by-line c (nodeIn q 0)
+      (λ a b.
+      let z : q .nodes - 1 ≡ m = omega arith in
+      let f : placeFault c q 0 noLine ≡ some (gap q m 1) = rw (o, z) in
+      rw (b, f) (ends-then (λ x. Unit {0}) (Placed noSlot Read-back (suc m) 0 noSlots) s s (some (gap q m 1)) (firstOf (λ j. placeFault c q j (d j)) m 1) (nodeRow c 0 1 l rest) _
+      (ends-gap (λ x. Unit {0}) 0 m 1 l s s (omega arith) h) (λ x y g p. no (cc))))
+      (λ k w a b.
+      rw (b, append-assoc (nodeText c 0 (described k w)) (concat lines m 1) s)
+      (ends-then (λ x. (x .at ≡ 0) × (x .node ≡ nodeOf c k w)) (Placed noSlot Read-back (suc m) 0 noSlots) rest s (lineFault (nodeLine c 0 1) (0, (k, w))) (firstOf (λ j. placeFault c q j (d j)) m 1)
+      (nodeRow c 0 1 l (nodeText c 0 (described k w) ++ rest)) _ (ends-node 0 1 0 l k w rest) (λ x y g p.
+      ends-weaken (Placed noSlot Read-back m 1 (set noSlots 0 (slotOf x))) (Placed noSlot Read-back (suc m) 0 noSlots) s (firstOf (λ j. placeFault c q j (d j)) m 1) (furtherNodes c (q .nodes) 0 (set noSlots 0 (slotOf x)) y rest)
+      (λ ys. placed-set noSlot Read-back m 0 noSlots ys (slotOf x) (rw b (p .1)))
+      (ends-further o s h m 1 (q .nodes) 0 (omega arith) (omega arith) (omega arith) (set noSlots 0 (slotOf x)) (λ j u. getD-set-other noSlots 0 j (slotOf x) noSlot (λ p. omega arith) ∙ no-slots 32 j) y))))
+
+  ends-nodes : (b : Bool) → t .closed ≡ b → 1 ≤ q .nodes → (s : List ℕ) (l : ℕ) → Lacking (after (bytes "node=") s)
+      → Ends (Placed noSlot Read-back (q .nodes) 0 noSlots) s (nodesFault t q) (nodesOf c b l (concat lines (q .nodes) 0 ++ s))
+  ends-nodes false o m s l h = ends-open o s l h
+  ends-nodes true o m s l h =
+      let e : q .nodes ≡ suc (q .nodes - 1) = omega arith in
+      subst (λ (k : ℕ). Ends (Placed noSlot Read-back k 0 noSlots) s (firstOf (λ j. placeFault c q j (d j)) k 0) (closedNodes c l (concat lines k 0 ++ s))) (sym e) (ends-closed o (q .nodes - 1) e s l h)
+
+-- ---- procedures
+
+-- r is q in all that counts
+pub record ProcSame (t : Table) (q r : Proc) : Type 0 where
+  pub params : r .params ≡ q .params
+  pub nodes : r .nodes ≡ q .nodes
+  pub drop : t .closed ≡ true → r .drop ≡ setOf (members (q .drop))
+  pub node : (j : ℕ) → j < q .nodes → j < 32 → nodeIn r j ≡ back (scope t q) (describe (scope t q) (nodeIn q j))
+
+vals-scope : (closed : Bool) (procs sems queues i : ℕ) (q : Proc)
+    → scopeOf closed procs sems queues i (procVals closed i q) ≡ record { closed = closed; procs = procs; sems = sems; queues = queues; vars = q .vars; nodes = q .nodes }
+vals-scope false procs sems queues i q = refl
+vals-scope true procs sems queues i q = refl
+
+vals-nodes : (closed : Bool) (i : ℕ) (q : Proc) → lineFault (procLine closed i) (procVals closed i q) ≡ none → 1 ≤ q .nodes
+vals-nodes false i q e = let h = line-is (procLine false i) (procVals false i q) .0 e in omega (arith, h .1 .1 .1 .0 .0)
+vals-nodes true i q e = let h = line-is (procLine true i) (procVals true i q) .0 e in omega (arith, h .1 .1 .1 .0 .0)
+
+vals-same : (t : Table) (closed : Bool) → t .closed ≡ closed → (i : ℕ) (q : Proc) (l : List Slot) → Placed noSlot (Read-back t q) (q .nodes) 0 noSlots l → ProcSame t q (procOf closed i (procVals closed i q) l)
+vals-same t false o i q l h = record { params = refl; nodes = refl; drop = λ e. no (cc); node = λ j u v. h .inside j (omega arith) (omega arith) v }
+vals-same t true o i q l h = record { params = refl; nodes = refl; drop = λ e. refl; node = λ j u v. h .inside j (omega arith) (omega arith) v }
+
+ends-proc : (t : Table) (p l : ℕ) (s : List ℕ) → Lacking (after (bytes "node=") s)
+    → Ends (ProcSame t (procAt t p)) s (procFault t p) (procRow (t .closed) (t .procs) (t .sems) (t .queues) p l (procText t p ++ s))
+ends-proc t p l s h =
+    let q = procAt t p in
+    let b = t .closed in
+    let v = procVals b p q in
+    let nodes = concat (lines t q) (q .nodes) 0 in
+    rw (append-assoc (write (procLine b p) v) nodes s)
+    (line-then (ProcSame t q) (procLine b p) (proc-sound b p) v l (nodes ++ s) s (nodesFault t q) _ (λ l n.
+    rw (vals-scope b (t .procs) (t .sems) (t .queues) p q)
+    (ends-map (Placed noSlot (Read-back t q) (q .nodes) 0 noSlots) (ProcSame t q) s (nodesFault t q) (nodesOf (scope t q) b l (nodes ++ s)) (λ l. procOf b p v l)
+    (ends-nodes t q b refl (vals-nodes b p q n) s l h) (λ l k. vals-same t b refl p q l k))))
+
+-- what follows a procedure's lines
+procs-lacking : (t : Table) (n i : ℕ) → Lacking (after (bytes "node=") (concat (procText t) n i ++ []))
+unfolding concat write after
+procs-lacking t zero i = tt
+procs-lacking t (suc n) i = tt
+
+-- ---- tables
+
+-- r is t in all that counts
+pub record Same (t r : Table) : Type 0 where
+  pub closed : r .closed ≡ t .closed
+  pub tasks : r .tasks ≡ t .tasks
+  pub procs : r .procs ≡ t .procs
+  pub sems : r .sems ≡ t .sems
+  pub queues : r .queues ≡ t .queues
+  pub top : (i : ℕ) → i < t .tasks → i < 4 → taskAt r i .top ≡ taskAt t i .top
+  pub blank : (i : ℕ) → i < t .queues → i < 8 → t .closed ≡ true → queueAt r i .blank ≡ queueAt t i .blank
+  pub proc : (p : ℕ) → p < t .procs → p < 8 → ProcSame t (procAt t p) (procAt r p)
+
+vals-queue : (b : Bool) (i : ℕ) (x : Queue) → b ≡ true → queueOf b i (queueVals b i x) .blank ≡ x .blank
+vals-queue true i x e = refl
+vals-queue false i x e = no (cc)
+
+pub ends-table : (t : Table) → Ends (Same t) [] (linesFault t) (table 1 (text t))
+unfolding linesFault table text body
+ends-table t =
+    let b = t .closed in
+    let counts : Vals countsLine = (t .tasks, (t .procs, (t .sems, (t .queues, tt)))) in
+    let taskVals : (i : ℕ) → Vals (taskLine (t .procs) i) = λ i. (i, (taskAt t i .top, tt)) in
+    let semVals : (i : ℕ) → Vals (semLine i) = λ i. (i, (semAt t i .count, tt)) in
+    let procs = concat (procText t) (t .procs) 0 in
+    let queues = concat (λ i. write (queueLine b i) (queueVals b i (queueAt t i))) (t .queues) 0 ++ procs in
+    let sems = concat (λ i. write (semLine i) (semVals i)) (t .sems) 0 ++ queues in
+    let tasks = concat (λ i. write (taskLine (t .procs) i) (taskVals i)) (t .tasks) 0 ++ sems in
+    line-then (Same t) headLine head-sound (t .trap, (b, tt)) 1 (write countsLine counts ++ tasks) [] _ _ (λ l e.
+    line-then (Same t) countsLine counts-sound counts l tasks [] _ _ (λ l e.
+    rows-then noTask (λ i x. x .top ≡ taskAt t i .top) (Same t) (taskLine (t .procs)) (task-sound (t .procs)) taskVals (λ i w. record { top = w .1 .0 }) (λ i. refl) (t .tasks) (replicate 4 noTask) l sems [] _ _ (λ ts l h₁.
+    rows-then noSem (λ i x. x .count ≡ semAt t i .count) (Same t) semLine sem-sound semVals (λ i w. record { count = w .1 .0 }) (λ i. refl) (t .sems) (replicate 8 noSem) l queues [] _ _ (λ ss l h₂.
+    rows-then noQueue (λ i x. b ≡ true → x .blank ≡ queueAt t i .blank) (Same t) (queueLine b) (queue-sound b) (λ i. queueVals b i (queueAt t i)) (queueOf b) (λ i. vals-queue b i (queueAt t i)) (t .queues) (replicate 8 noQueue) l procs [] _ _ (λ qs l h₃.
+    let ps = ends-rows outside (λ p. ProcSame t (procAt t p)) (procRow b (t .procs) (t .sems) (t .queues)) (procText t) (procFault t) [] (t .procs) (λ i n l e. ends-proc t i l (concat (procText t) n (suc i) ++ []) (procs-lacking t n (suc i))) (t .procs) 0 (omega arith) (replicate 8 noProc) l in
+    ends-last (Placed outside (λ p. ProcSame t (procAt t p)) (t .procs) 0 (replicate 8 noProc)) (Same t) [] [] (firstOf (procFault t) (t .procs) 0) (rows (procRow b (t .procs) (t .sems) (t .queues)) (t .procs) 0 (replicate 8 noProc) l procs) _ (rw append-nil at ps) (λ ps l h₄. (
+    record {
+      closed = refl;
+      tasks = refl;
+      procs = refl;
+      sems = refl;
+      queues = refl;
+      top = λ i l u. h₁ .inside i (omega arith) (omega arith) u;
+      blank = λ i l u. h₃ .inside i (omega arith) (omega arith) u;
+      proc = λ p l u. h₄ .inside p (omega arith) (omega arith) u;
+    }, refl)))))))
