@@ -182,10 +182,10 @@ lacking-ifKey s h f g l = go (after (bytes "node=") s) h
     go differs z = refl
     go broken z = refl
 
-no-slots : (n j : ℕ) → getD (replicate n noSlot) j noSlot ≡ noSlot
-no-slots zero j = refl
-no-slots (suc n) zero = refl
-no-slots (suc n) (suc j) = no-slots n j
+pub all-same : {A : Type 0} (d : A) (n j : ℕ) → getD (replicate n d) j d ≡ d
+all-same d zero j = refl
+all-same d (suc n) zero = refl
+all-same d (suc n) (suc j) = all-same d n j
 
 module _ (t : Table) (q : Proc) where
   abbrev c : Scope
@@ -280,7 +280,7 @@ module _ (t : Table) (q : Proc) where
       (nodeRow c 0 1 l (nodeText c 0 (described k w) ++ rest)) _ (ends-node 0 1 0 l k w rest) (λ x y g p.
       ends-weaken (Placed noSlot Read-back m 1 (set noSlots 0 (slotOf x))) (Placed noSlot Read-back (suc m) 0 noSlots) s (firstOf (λ j. placeFault c q j (d j)) m 1) (furtherNodes c (q .nodes) 0 (set noSlots 0 (slotOf x)) y rest)
       (λ ys. placed-set noSlot Read-back m 0 noSlots ys (slotOf x) (rw b (p .1)))
-      (ends-further o s h m 1 (q .nodes) 0 (omega arith) (omega arith) (omega arith) (set noSlots 0 (slotOf x)) (λ j u. getD-set-other noSlots 0 j (slotOf x) noSlot (λ p. omega arith) ∙ no-slots 32 j) y))))
+      (ends-further o s h m 1 (q .nodes) 0 (omega arith) (omega arith) (omega arith) (set noSlots 0 (slotOf x)) (λ j u. getD-set-other noSlots 0 j (slotOf x) noSlot (λ p. omega arith) ∙ all-same noSlot 32 j) y))))
 
   ends-nodes : (b : Bool) → t .closed ≡ b → 1 ≤ q .nodes → (s : List ℕ) (l : ℕ) → Lacking (after (bytes "node=") s)
       → Ends (Placed noSlot Read-back (q .nodes) 0 noSlots) s (nodesFault t q) (nodesOf c b l (concat lines (q .nodes) 0 ++ s))

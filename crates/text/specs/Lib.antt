@@ -12,4 +12,6 @@ pub mod LineLaws
 pub mod MaskLists
 pub mod Structure
 pub mod Right
+pub mod Valid
 pub mod EndsLaws
+pub mod LinedLaws

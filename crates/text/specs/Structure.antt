@@ -44,15 +44,27 @@ nodesFault t q = let c = scope t q in firstOf (λ j. placeFault c q j (describe 
 abbrev pub procFault : Table → ℕ → Option Fault
 procFault t p = let q = procAt t p in orElse (lineFault (procLine (t .closed) p) (procVals (t .closed) p q)) (nodesFault t q)
 
--- the first fault of the lines, in their order
+-- the lines, in their order
+abbrev pub headFault : Table → Option Fault
+headFault t = lineFault headLine (t .trap, (t .closed, tt))
+
+abbrev pub countsFault : Table → Option Fault
+countsFault t = lineFault countsLine (t .tasks, (t .procs, (t .sems, (t .queues, tt))))
+
+abbrev pub tasksFault : Table → Option Fault
+tasksFault t = firstOf (λ i. lineFault (taskLine (t .procs) i) (i, (taskAt t i .top, tt))) (t .tasks) 0
+
+abbrev pub semsFault : Table → Option Fault
+semsFault t = firstOf (λ i. lineFault (semLine i) (i, (semAt t i .count, tt))) (t .sems) 0
+
+abbrev pub queuesFault : Table → Option Fault
+queuesFault t = firstOf (λ i. lineFault (queueLine (t .closed) i) (queueVals (t .closed) i (queueAt t i))) (t .queues) 0
+
+abbrev pub procsFault : Table → Option Fault
+procsFault t = firstOf (procFault t) (t .procs) 0
+
 unfoldable pub linesFault : Table → Option Fault
-linesFault t =
-    orElse (lineFault headLine (t .trap, (t .closed, tt)))
-    (orElse (lineFault countsLine (t .tasks, (t .procs, (t .sems, (t .queues, tt)))))
-    (orElse (firstOf (λ i. lineFault (taskLine (t .procs) i) (i, (taskAt t i .top, tt))) (t .tasks) 0)
-    (orElse (firstOf (λ i. lineFault (semLine i) (i, (semAt t i .count, tt))) (t .sems) 0)
-    (orElse (firstOf (λ i. lineFault (queueLine (t .closed) i) (queueVals (t .closed) i (queueAt t i))) (t .queues) 0)
-    (firstOf (procFault t) (t .procs) 0)))))
+linesFault t = orElse (headFault t) (orElse (countsFault t) (orElse (tasksFault t) (orElse (semsFault t) (orElse (queuesFault t) (procsFault t)))))
 
 -- then the faults after all lines, then unused places
 unfoldable pub tableFault : Table → Option Fault
