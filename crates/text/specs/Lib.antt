@@ -15,3 +15,4 @@ pub mod Right
 pub mod Valid
 pub mod EndsLaws
 pub mod LinedLaws
+pub mod StructureLaws

@@ -1,8 +1,8 @@
 -- The lines of a table have no fault if and only if the table is `Lined`.
 use Prim.Native.Nat.{ℕ, zero, suc, _+_, _-_, _≤_, _<_, min}
 use mathlib.Core.Path.{_≡_, refl, sym, _∙_, ap}
-use mathlib.Core.Logic.{_↔_, _≢_}
-use mathlib.Core.List.{List, [], _∷_, _++_, map, List·Memᴰ}
+use mathlib.Core.Logic.{_↔_, _≢_, inl, inr}
+use mathlib.Core.List.{List, [], _∷_, _++_, map, List·Memᴰ, List·Memᴰ·append-cases, List·Memᴰ·not-nil}
 use mathlib.Core.Option.{Option, none, some}
 use mathlib.Core.Bool.{Bool, true, false, _&&_, not, false≢true}
 use native.Mathlib.Omega.{arith}
@@ -10,8 +10,8 @@ use lib.Dec.{ltb, eqb}
 use lib.ListN.{length, getD, take, replicate, length-take, length-append, length-replicate, length-map, List·getD-map}
 use lib.Seq.{getD-take}
 use borrow.Author.Tests.{ltb-true, lt-ltb, eqb-true, eqb-false, eq-eqb, ne-eqb, not-true}
-use Rattle.table.specs.Mask.{pick, members}
-use Rattle.table.specs.Table.{removed, argPlaces, argAt, taskAt, semAt, queueAt, procAt, nodeIn}
+use Rattle.table.specs.Mask.{pick, bit, membersFrom, members}
+use Rattle.table.specs.Table.{removed, argPlaces, argAt, taskAt, semAt, queueAt, procAt, nodeIn, arcTo, arcNo, arcs}
 use Rattle.table.specs.declared.Args.{Args}
 use Rattle.table.specs.declared.Node.{Node}
 use Rattle.table.specs.declared.Node.the-variants.{Absent, Start, Set, Test, Read, Call, Wait, Signal, Send, Recv, Assert, Out, Return}
@@ -124,6 +124,35 @@ valid-place c q j (Recv p x to) v = node-is c j recv _ .1 (v .0, ((omega arith, 
 valid-place c q j (Assert x to) v = node-is c j assert _ .1 (v .0, (name-is c x .1 (v .1), (arc-is c to .1 (v .2), tt)))
 valid-place c q j (Out x to) v = node-is c j out _ .1 (v .0, (name-is c x .1 (v .1), (arc-is c to .1 (v .2), tt)))
 valid-place c q j Return v = node-is c j return _ .1 (v, tt)
+
+-- ---- targets
+
+within-none : (lo n : ℕ) → Within lo n (members 0)
+unfolding membersFrom bit
+within-none lo n m d = absurd (List·Memᴰ·not-nil d)
+
+within-append : (lo n : ℕ) (xs ys : List ℕ) → Within lo n xs → Within lo n ys → Within lo n (xs ++ ys)
+within-append lo n xs ys f g m d = elim (List·Memᴰ·append-cases xs d) [ inl a ↦ f m a | inr b ↦ g m b ]
+
+arc-within : (c : Scope) (m : ℕ) → Arc c m → Within 1 (c .nodes) (members m ++ members 0)
+arc-within c m a = within-append 1 (c .nodes) (members m) (members 0) (a .0) (within-none 1 (c .nodes))
+
+-- a valid node's targets are 1 to n-1
+pub arcs-within : (c : Scope) (n : ℕ) (x : Node) → NodeValid c n x → Within 1 (c .nodes) (arcs x)
+unfolding arcTo arcNo
+arcs-within c n Absent v = within-append 1 (c .nodes) (members 0) (members 0) (within-none 1 (c .nodes)) (within-none 1 (c .nodes))
+arcs-within c n (Start to) v = arc-within c to (v .1)
+arcs-within c n (Set x o a b to) v = arc-within c to (v .4)
+arcs-within c n (Test o a b y z) v = within-append 1 (c .nodes) (members y) (members z) (v .4 .0) (v .5 .0)
+arcs-within c n (Read x to) v = arc-within c to (v .3)
+arcs-within c n (Call q xs to) v = arc-within c to (v .3)
+arcs-within c n (Wait s to) v = arc-within c to (v .2)
+arcs-within c n (Signal s to) v = arc-within c to (v .2)
+arcs-within c n (Send q x to) v = arc-within c to (v .3)
+arcs-within c n (Recv q x to) v = arc-within c to (v .3)
+arcs-within c n (Assert x to) v = arc-within c to (v .2)
+arcs-within c n (Out x to) v = arc-within c to (v .2)
+arcs-within c n Return v = within-append 1 (c .nodes) (members 0) (members 0) (within-none 1 (c .nodes)) (within-none 1 (c .nodes))
 
 -- ---- procedures
 
