@@ -16,3 +16,4 @@ pub mod Valid
 pub mod EndsLaws
 pub mod LinedLaws
 pub mod StructureLaws
+pub mod ValidLaws
