@@ -365,13 +365,15 @@ ends-table t =
     rows-then noQueue (λ i x. b ≡ true → x .blank ≡ queueAt t i .blank) (Same t) (queueLine b) (queue-sound b) (λ i. queueVals b i (queueAt t i)) (queueOf b) (λ i. vals-queue b i (queueAt t i)) (t .queues) (replicate 8 noQueue) l procs [] _ _ (λ qs l h₃.
     let ps = ends-rows outside (λ p. ProcSame t (procAt t p)) (procRow b (t .procs) (t .sems) (t .queues)) (procText t) (procFault t) [] (t .procs) (λ i n l e. ends-proc t i l (concat (procText t) n (suc i) ++ []) (procs-lacking t n (suc i))) (t .procs) 0 (omega arith) (replicate 8 noProc) l in
     ends-last (Placed outside (λ p. ProcSame t (procAt t p)) (t .procs) 0 (replicate 8 noProc)) (Same t) [] [] (firstOf (procFault t) (t .procs) 0) (rows (procRow b (t .procs) (t .sems) (t .queues)) (t .procs) 0 (replicate 8 noProc) l procs) _ (rw append-nil at ps) (λ ps l h₄. (
-    record {
-      closed = refl;
-      tasks = refl;
-      procs = refl;
-      sems = refl;
-      queues = refl;
-      top = λ i l u. h₁ .inside i (omega arith) (omega arith) u;
-      blank = λ i l u. h₃ .inside i (omega arith) (omega arith) u;
-      proc = λ p l u. h₄ .inside p (omega arith) (omega arith) u;
-    }, refl)))))))
+      record {
+        closed = refl;
+        tasks = refl;
+        procs = refl;
+        sems = refl;
+        queues = refl;
+        top = λ i l u. h₁ .inside i (omega arith) (omega arith) u;
+        blank = λ i l u. h₃ .inside i (omega arith) (omega arith) u;
+        proc = λ p l u. h₄ .inside p (omega arith) (omega arith) u;
+      },
+      refl,
+    )))))))

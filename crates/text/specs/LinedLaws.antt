@@ -206,12 +206,12 @@ lines-is t =
     let f₂ = orElse (tasksFault t) f₃ in
     let f₁ = orElse (countsFault t) f₂ in (
       λ e.
-      let h₁ = else-is (headFault t) f₁ .0 e in
-      let h₂ = else-is (countsFault t) f₂ .0 (h₁ .1) in
-      let h₃ = else-is (tasksFault t) f₃ .0 (h₂ .1) in
-      let h₄ = else-is (semsFault t) f₄ .0 (h₃ .1) in
-      let h₅ = else-is (queuesFault t) (procsFault t) .0 (h₄ .1) in
-      (h₁ .0, h₂ .0, h₃ .0, h₄ .0, h₅ .0, h₅ .1),
+          let h₁ = else-is (headFault t) f₁ .0 e in
+          let h₂ = else-is (countsFault t) f₂ .0 (h₁ .1) in
+          let h₃ = else-is (tasksFault t) f₃ .0 (h₂ .1) in
+          let h₄ = else-is (semsFault t) f₄ .0 (h₃ .1) in
+          let h₅ = else-is (queuesFault t) (procsFault t) .0 (h₄ .1) in
+          (h₁ .0, h₂ .0, h₃ .0, h₄ .0, h₅ .0, h₅ .1),
       λ h. rw (h .0, h .1, h .2, h .3, h .4) (h .5),
     )
 

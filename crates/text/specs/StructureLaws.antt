@@ -52,19 +52,19 @@ back-absent c x = elim x [ Absent ↦ refl | Start to ↦ refl | Set v o a b to 
 back-arcs : (c : Scope) (x : Node) → arcs (back c (describe c x)) ≡ arcs x
 unfolding describe arcTo arcNo nodeOf
 back-arcs c x = elim x [
-  Absent ↦ refl |
-  Start to ↦ rw (members-again to) |
-  Set v o a b to ↦ rw (members-again to) |
-  Test o a b y n ↦ rw (members-again y, members-again n) |
-  Read v to ↦ rw (members-again to) |
-  Call q xs to ↦ rw (members-again to) |
-  Wait s to ↦ rw (members-again to) |
-  Signal s to ↦ rw (members-again to) |
-  Send q v to ↦ rw (members-again to) |
-  Recv q v to ↦ rw (members-again to) |
-  Assert v to ↦ rw (members-again to) |
-  Out v to ↦ rw (members-again to) |
-  Return ↦ refl
+  | Absent ↦ refl
+  | Start to ↦ rw (members-again to)
+  | Set v o a b to ↦ rw (members-again to)
+  | Test o a b y n ↦ rw (members-again y, members-again n)
+  | Read v to ↦ rw (members-again to)
+  | Call q xs to ↦ rw (members-again to)
+  | Wait s to ↦ rw (members-again to)
+  | Signal s to ↦ rw (members-again to)
+  | Send q v to ↦ rw (members-again to)
+  | Recv q v to ↦ rw (members-again to)
+  | Assert v to ↦ rw (members-again to)
+  | Out v to ↦ rw (members-again to)
+  | Return ↦ refl
 ]
 
 variable-back : (v : ℕ) → variableOf (nameOf v) ≡ v
@@ -174,7 +174,7 @@ module _ (t r : Table) (s : Same t r) (v : Lined t) where
       let x = nodeAt t p n in
       let h = v .proc p u .node n l in
       let f : nodeFault r (procAt r p) (back c (describe c x)) ≡ nodeFault t q x =
-          fault-same (t .closed) (r .closed) (countRight t x) _ (allPresent q (arcs x)) (allPresent (procAt r p) (arcs (back c (describe c x)))) (removedRight t x) _ (s .closed) (count-back q n x h) (rw (back-arcs c x) (present-back p u (arcs x) (arcs-within c n x h))) (removed-back q n x h)
+      fault-same (t .closed) (r .closed) (countRight t x) _ (allPresent q (arcs x)) (allPresent (procAt r p) (arcs (back c (describe c x)))) (removedRight t x) _ (s .closed) (count-back q n x h) (rw (back-arcs c x) (present-back p u (arcs x) (arcs-within c n x h))) (removed-back q n x h)
       in
       rw (callee p u .node n l (omega (arith, v .proc p u .nodes)), back-absent c x, f)
 
@@ -186,7 +186,7 @@ module _ (t r : Table) (s : Same t r) (v : Lined t) where
   unfolding late
   late-same =
       let a : concat (λ i. taskFault r i ∷ []) (r .tasks) 0 ≡ concat (λ i. taskFault t i ∷ []) (t .tasks) 0 =
-          ap (λ (n : ℕ). concat (λ i. taskFault r i ∷ []) n 0) (s .tasks) ∙ concat-same (λ i. taskFault r i ∷ []) (λ i. taskFault t i ∷ []) (t .tasks) 0 (λ i l u. ap (λ f. f ∷ []) (task-late i (omega arith)))
+      ap (λ (n : ℕ). concat (λ i. taskFault r i ∷ []) n 0) (s .tasks) ∙ concat-same (λ i. taskFault r i ∷ []) (λ i. taskFault t i ∷ []) (t .tasks) 0 (λ i l u. ap (λ f. f ∷ []) (task-late i (omega arith)))
       in
       let b : concat (procLate r) (r .procs) 0 ≡ concat (procLate t) (t .procs) 0 = ap (λ (n : ℕ). concat (procLate r) n 0) (s .procs) ∙ concat-same (procLate r) (procLate t) (t .procs) 0 (λ p l u. proc-late p (omega arith)) in
       rw (a, b, s .sems, s .queues)

@@ -111,8 +111,8 @@ node-is t q x =
     (λ e. rw (absent-is x e) (absent-late t q))
     (λ e. rw e (
       λ z.
-      let h = else-is (unless k Arguments) (unless (not (t .closed) || (a && m)) Closing) .0 (else-is (nodeFault t q x) none .0 z .0) in
-      (unless-is k Arguments .0 (h .0), λ o. and-is a m .0 (or-is (t .closed) (a && m) .0 (unless-is _ Closing .0 (h .1)) o)),
+          let h = else-is (unless k Arguments) (unless (not (t .closed) || (a && m)) Closing) .0 (else-is (nodeFault t q x) none .0 z .0) in
+          (unless-is k Arguments .0 (h .0), λ o. and-is a m .0 (or-is (t .closed) (a && m) .0 (unless-is _ Closing .0 (h .1)) o)),
       λ v. rw (v .0, or-is (t .closed) (a && m) .1 (λ o. and-is a m .1 (v .1 o))),
     ))
 
@@ -151,7 +151,7 @@ valid-of t z =
     let l = else-is (tasksLate t) (firstOf (nodesLate t) (t .procs) 0) .0 (sym (late-parts t) ∙ k .0) in
     let task : (i : ℕ) → i < t .tasks → firstIn (taskFault t i ∷ []) ≡ none = λ i u. first-none (λ i. firstIn (taskFault t i ∷ [])) (t .tasks) 0 (l .0) i (omega arith) (omega arith) in
     let node : (p n : ℕ) → p < t .procs → n < procAt t p .nodes → LateValid t (procAt t p) (nodeAt t p n) =
-        λ p n u w. node-is t (procAt t p) (nodeAt t p n) .0 (first-none (λ n. firstIn (nodeLate t (procAt t p) (nodeAt t p n))) (procAt t p .nodes) 0 (first-none (nodesLate t) (t .procs) 0 (l .1) p (omega arith) (omega arith)) n (omega arith) (omega arith))
+    λ p n u w. node-is t (procAt t p) (nodeAt t p n) .0 (first-none (λ n. firstIn (nodeLate t (procAt t p) (nodeAt t p n))) (procAt t p .nodes) 0 (first-none (nodesLate t) (t .procs) 0 (l .1) p (omega arith) (omega arith)) n (omega arith) (omega arith))
     in
     record {
       lines = lined-of t (h .0);
@@ -167,9 +167,9 @@ unfolding tableFault tasksLate nodesLate
 of-valid t v =
     let tasks : tasksLate t ≡ none = none-first (λ i. firstIn (taskFault t i ∷ [])) (t .tasks) 0 (λ i l u. task-is t i .1 (λ o. v .dropped o i (omega arith))) in
     let nodes : firstOf (nodesLate t) (t .procs) 0 ≡ none = none-first (nodesLate t) (t .procs) 0 (λ p l u. none-first (λ n. firstIn (nodeLate t (procAt t p) (nodeAt t p n))) (procAt t p .nodes) 0 (λ n k w.
-        let x : p < t .procs = omega arith in
-        let y : n < procAt t p .nodes = omega arith in
-        node-is t (procAt t p) (nodeAt t p n) .1 (v .counts p n x y, λ o. (all-present (procAt t p) (arcs (nodeAt t p n)) (v .present o p n x y), v .removals o p n x y))))
+    let x : p < t .procs = omega arith in
+    let y : n < procAt t p .nodes = omega arith in
+    node-is t (procAt t p) (nodeAt t p n) .1 (v .counts p n x y, λ o. (all-present (procAt t p) (arcs (nodeAt t p n)) (v .present o p n x y), v .removals o p n x y))))
     in
     fault-is t ∙ rw (of-lined t (v .lines), late-parts t, tasks, nodes, v .unused)
 
@@ -214,8 +214,8 @@ outside-absent t z p n h =
     let e = valid-of t z .unused in
     let q = procAt t p in
     elim h [
-      inl l ↦ far-absent t e p n l |
-      inr l ↦ byOrder p (t .procs)
+      | inl l ↦ far-absent t e p n l
+      | inr l ↦ byOrder p (t .procs)
           (λ u. absent-is (nodeIn q n) (all-behind slotEmpty (q .slots) noSlot (q .nodes) n (and-left (all slotEmpty (drop (q .nodes) (q .slots))) _ (tidy-parts t e .5 p u)) refl l))
           (far-absent t e p n)
     ]
