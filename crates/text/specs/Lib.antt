@@ -10,3 +10,10 @@ pub mod NumberLaws
 pub mod ValueLaws
 pub mod LineLaws
 pub mod MaskLists
+pub mod Structure
+pub mod Right
+pub mod Valid
+pub mod EndsLaws
+pub mod LinedLaws
+pub mod StructureLaws
+pub mod ValidLaws

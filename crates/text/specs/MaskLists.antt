@@ -119,3 +119,10 @@ mask-bits (suc n) m =
 -- the set of the members of a mask of 32 places is the mask
 pub set-members : (m : ℕ) → m < 2 ^ 32 → setOf (members m) ≡ m
 set-members m h = mask-same 32 (λ i. elem i (members m)) (λ i. bit i m) (λ i l. elem-from 32 0 m i (omega arith) l) ∙ mask-bits 32 m ∙ mod-eq-of-lt h
+
+-- of any mask they are its 32 places: the same bits there, the same members
+pub bit-again : (m i : ℕ) → i < 32 → bit i (setOf (members m)) ≡ bit i m
+bit-again m i l = bit-maskOf 32 i (λ i. elem i (members m)) l ∙ elem-from 32 0 m i (omega arith) l
+
+pub members-again : (m : ℕ) → members (setOf (members m)) ≡ members m
+members-again m = from-list 32 32 0 (setOf (members m)) refl (members m) (from-rising 32 32 0 m (omega arith)) (λ j l u. bit-maskOf 32 j (λ i. elem i (members m)) u)

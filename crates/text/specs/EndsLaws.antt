@@ -1,0 +1,379 @@
+-- Reading the lines that a table stands for ends as `linesFault` says: with that fault, or with a table that is the same in all that counts.
+use Prim.Native.Nat.{ℕ, zero, suc, _+_, _-_, _≤_, _<_}
+use mathlib.Core.Path.{_≡_, refl, sym, _∙_, ap, subst}
+use mathlib.Core.List.{List, [], _∷_, _++_, append-assoc, append-nil}
+use mathlib.Core.Option.{Option, none, some}
+use mathlib.Core.Bool.{Bool, true, false, _&&_}
+use native.Mathlib.Omega.{arith}
+use lib.Dec.{ltb, leb, eqb}
+use lib.ListN.{length, getD, set, replicate, length-set, length-replicate, getD-replicate}
+use lib.Seq.{getD-set-same, getD-set-other}
+use borrow.Author.Tests.{eqb-true, eqb-false, lt-ltb, le-ltb, le-leb}
+use Rattle.table.specs.Mask.{pick, members}
+use Rattle.table.specs.Table.{noSlot, noTask, noSem, noQueue, noProc, noSlots, outside, taskAt, semAt, queueAt, procAt, nodeIn, isAbsent}
+use Rattle.table.specs.declared.Node.{Node}
+use Rattle.table.specs.declared.Node.the-variants.{Absent, Start, Set, Test, Read, Call, Wait, Signal, Send, Recv, Assert, Out, Return}
+use Rattle.table.specs.declared.Slot.{Slot}
+use Rattle.table.specs.declared.Task.{Task}
+use Rattle.table.specs.declared.Queue.{Queue}
+use Rattle.table.specs.declared.Proc.{Proc}
+use Rattle.table.specs.declared.Table.{Table}
+use Rattle.text.specs.Number.{bytes}
+use Rattle.text.specs.declared.Fault.{Fault}
+use Rattle.text.specs.declared.Fault.the-variants.{Form, Ended, Index}
+use Rattle.text.specs.Fault.{number}
+use Rattle.text.specs.NumberLaws.{cases}
+use Rattle.text.specs.Value.{Sort, start, set as setSort, test, read, call, wait, signal, send, recv, assert, out, return, Kind, spell, check, unless, orElse}
+use Rattle.text.specs.Line.{Line, Vals, write, Outcome, took, refused, Parser, onto, _>>=_, give, After, at, differs, broken, after, fieldOf, line, lineFault}
+use Rattle.text.specs.LineLaws.{Sound, judgement, line-write, head-sound, counts-sound, task-sound, sem-sound, queue-sound, proc-sound, node-sound}
+use Rattle.text.specs.Format.{headLine, countsLine, taskLine, semLine, queueLine, procLine, Scope, nodeLine, fields, setOf, nodeOf, Described, noLine, described, describe}
+use Rattle.text.specs.Reader.{rows, taskRow, semRow, queueOf, queueRow, Numbered, nodeRow, slotOf, openNodes, ifKey, furtherNodes, closedNodes, nodesOf, droppedBy, procOf, scopeOf, procRow, atEnd, body, table, concat}
+use Rattle.text.specs.Writer.{queueVals, procVals, nodeText, scope, procText, text}
+use Rattle.text.specs.Right.{line-is}
+use Rattle.text.specs.ValueLaws.{no}
+use Rattle.text.specs.Structure.{firstOf, gap, placeFault, nodesFault, procFault, linesFault}
+
+-- ---- outcomes, up to line numbers: with no fault, something that has P, and s is left; else a fault with the number of c
+
+abbrev pub Ends : {A : Type 0} → (A → Type 0) → List ℕ → Option Fault → Outcome A → Type 0
+Ends P s none (took a l r) = P a × (r ≡ s)
+Ends P s none (refused f l) = ⊥
+Ends P s (some c) (took a l r) = ⊥
+Ends P s (some c) (refused f l) = number f ≡ number c
+
+ends-then : {A B : Type 0} (P : A → Type 0) (Q : B → Type 0) (s r : List ℕ) (c d : Option Fault) (o : Outcome A) (f : A → Parser B)
+    → Ends P s c o → ((a : A) (l : ℕ) → c ≡ none → P a → Ends Q r d (f a l s)) → Ends Q r (orElse c d) (onto o f)
+ends-then P Q s r none d (took a l t) f e g = rw (e .1) (g a l refl (e .0))
+ends-then P Q s r none d (refused x l) f e g = absurd e
+ends-then P Q s r (some c) d (took a l t) f e g = absurd e
+ends-then P Q s r (some c) d (refused x l) f e g = e
+
+-- nothing more goes wrong
+ends-last : {A B : Type 0} (P : A → Type 0) (Q : B → Type 0) (s r : List ℕ) (c : Option Fault) (o : Outcome A) (f : A → Parser B)
+    → Ends P s c o → ((a : A) (l : ℕ) → P a → Ends Q r none (f a l s)) → Ends Q r c (onto o f)
+ends-last P Q s r none (took a l t) f e g = rw (e .1) (g a l (e .0))
+ends-last P Q s r none (refused x l) f e g = absurd e
+ends-last P Q s r (some c) (took a l t) f e g = absurd e
+ends-last P Q s r (some c) (refused x l) f e g = e
+
+ends-map : {A B : Type 0} (P : A → Type 0) (Q : B → Type 0) (s : List ℕ) (c : Option Fault) (o : Outcome A) (h : A → B)
+    → Ends P s c o → ((a : A) → P a → Q (h a)) → Ends Q s c (onto o (λ a. give (h a)))
+ends-map P Q s c o h e g = ends-last P Q s s c o (λ a. give (h a)) e (λ a l p. (g a p, refl))
+
+ends-weaken : {A : Type 0} (P Q : A → Type 0) (s : List ℕ) (c : Option Fault) (o : Outcome A) → ((a : A) → P a → Q a) → Ends P s c o → Ends Q s c o
+ends-weaken P Q s none (took a l t) g e = (g a (e .0), e .1)
+ends-weaken P Q s none (refused x l) g e = absurd e
+ends-weaken P Q s (some c) (took a l t) g e = absurd e
+ends-weaken P Q s (some c) (refused x l) g e = e
+
+-- where there is a fault, what has P and what is left do not matter
+ends-fault : {A : Type 0} (P Q : A → Type 0) (s r : List ℕ) (c : Fault) (o : Outcome A) → Ends P s (some c) o → Ends Q r (some c) o
+ends-fault P Q s r c (took a l t) e = absurd e
+ends-fault P Q s r c (refused x l) e = e
+
+-- a line that was written: its values, or the first of their faults
+ends-line : (d : Line) (P : Vals d → Type 0) → Sound d → (w : Vals d) (l : ℕ) (s : List ℕ) → P w → Ends P s (lineFault d w) (line d l (write d w ++ s))
+ends-line d P g w l s p = rw (line-write d g w l s) (go (lineFault d w))
+  where
+    go : (c : Option Fault) → Ends P s c (judgement w c l s)
+    go none = (p, refl)
+    go (some f) = refl
+
+-- and what is read behind it
+line-then : {B : Type 0} (Q : B → Type 0) (d : Line) → Sound d → (w : Vals d) (l : ℕ) (s r : List ℕ) (c : Option Fault) (f : Vals d → Parser B)
+    → ((l : ℕ) → lineFault d w ≡ none → Ends Q r c (f w l s)) → Ends Q r (orElse (lineFault d w) c) (onto (line d l (write d w ++ s)) f)
+line-then Q d g w l s r c f k =
+    ends-then (λ v. v ≡ w) Q s r (lineFault d w) c (line d l (write d w ++ s)) f (ends-line d (λ v. v ≡ w) g w l s refl) (λ v l n e. rw e (k l n))
+
+ends-row : {A : Type 0} (Q : A → Type 0) (d : Line) → Sound d → (w : Vals d) (l : ℕ) (s : List ℕ) (h : Vals d → A) → Q (h w)
+    → Ends Q s (lineFault d w) ((line d >>= λ w. give (h w)) l (write d w ++ s))
+ends-row Q d g w l s h q = ends-map (λ v. Q (h v)) Q s (lineFault d w) (line d l (write d w ++ s)) h (ends-line d (λ v. Q (h v)) g w l s q) (λ a p. p)
+
+-- ---- rows
+
+-- ys holds at the n places from i on what has Q, and is xs before them
+record Placed {A : Type 0} (d : A) (Q : ℕ → A → Type 0) (n i : ℕ) (xs ys : List A) : Type 0 where
+  inside : (j : ℕ) → i ≤ j → j < i + n → j < length xs → Q j (getD ys j d)
+  before : (j : ℕ) → j < i → getD ys j d ≡ getD xs j d
+
+placed-none : {A : Type 0} (d : A) (Q : ℕ → A → Type 0) (i : ℕ) (xs : List A) → Placed d Q 0 i xs xs
+placed-none d Q i xs = record { inside = λ j l u k. absurd (omega arith); before = λ j l. refl }
+
+-- one place more, at i, where zs is xs before i and has Q at i
+placed-more : {A : Type 0} (d : A) (Q : ℕ → A → Type 0) (n i : ℕ) (xs zs ys : List A) → length zs ≡ length xs → ((j : ℕ) → j < i → getD zs j d ≡ getD xs j d) → (i < length xs → Q i (getD zs i d))
+    → Placed d Q n (suc i) zs ys → Placed d Q (suc n) i xs ys
+placed-more d Q n i xs zs ys m b q h = record {
+  inside = λ j l u k. cases (eqb j i)
+      (λ e. let p : j ≡ i = eqb-true j i e in rw (p, h .before i (omega arith)) (q (omega arith)))
+      (λ e. h .inside j (omega (arith, eqb-false j i e)) (omega arith) (omega arith));
+  before = λ j l. h .before j (omega arith) ∙ b j l;
+}
+
+placed-set : {A : Type 0} (d : A) (Q : ℕ → A → Type 0) (n i : ℕ) (xs ys : List A) (a : A) → Q i a → Placed d Q n (suc i) (set xs i a) ys → Placed d Q (suc n) i xs ys
+placed-set d Q n i xs ys a q =
+    placed-more d Q n i xs (set xs i a) ys (length-set xs i a) (λ j l. getD-set-other xs i j a d (λ p. omega arith)) (λ l. rw (getD-set-same xs i a d l) q)
+
+-- rows whose texts g stand one after another, up to the one before e, each read as what has its Q or with its fault
+ends-rows : {A : Type 0} (d : A) (Q : ℕ → A → Type 0) (f : ℕ → Parser A) (g : ℕ → List ℕ) (c : ℕ → Option Fault) (s : List ℕ) (e : ℕ)
+    → ((i n l : ℕ) → suc i + n ≡ e → Ends (Q i) (concat g n (suc i) ++ s) (c i) (f i l (g i ++ (concat g n (suc i) ++ s))))
+    → (n i : ℕ) → i + n ≡ e → (xs : List A) (l : ℕ) → Ends (Placed d Q n i xs) s (firstOf c n i) (rows f n i xs l (concat g n i ++ s))
+unfolding rows concat firstOf
+ends-rows d Q f g c s e row zero i h xs l = (placed-none d Q i xs, refl)
+ends-rows d Q f g c s e row (suc n) i h xs l =
+    rw (append-assoc (g i) (concat g n (suc i)) s)
+    (ends-then (Q i) (Placed d Q (suc n) i xs) (concat g n (suc i) ++ s) s (c i) (firstOf c n (suc i)) (f i l (g i ++ (concat g n (suc i) ++ s))) _ (row i n l (omega arith)) (λ a k z q.
+    ends-weaken (Placed d Q n (suc i) (set xs i a)) (Placed d Q (suc n) i xs) s (firstOf c n (suc i)) (rows f n (suc i) (set xs i a) k (concat g n (suc i) ++ s)) (λ ys. placed-set d Q n i xs ys a q)
+    (ends-rows d Q f g c s e row n (suc i) (omega arith) (set xs i a) k)))
+
+-- rows of one line each, and what is read behind them
+rows-then : {A B : Type 0} (z : A) (Q : ℕ → A → Type 0) (R : B → Type 0) (d : ℕ → Line) → ((i : ℕ) → Sound (d i)) → (w : (i : ℕ) → Vals (d i)) (h : (i : ℕ) → Vals (d i) → A) → ((i : ℕ) → Q i (h i (w i)))
+    → (n : ℕ) (xs : List A) (l : ℕ) (s r : List ℕ) (c : Option Fault) (f : List A → Parser B) → ((ys : List A) (l : ℕ) → Placed z Q n 0 xs ys → Ends R r c (f ys l s))
+    → Ends R r (orElse (firstOf (λ i. lineFault (d i) (w i)) n 0) c) (onto (rows (λ i. line (d i) >>= λ w. give (h i w)) n 0 xs l (concat (λ i. write (d i) (w i)) n 0 ++ s)) f)
+rows-then z Q R d g w h q n xs l s r c f k =
+    ends-then (Placed z Q n 0 xs) R s r (firstOf (λ i. lineFault (d i) (w i)) n 0) c (rows (λ i. line (d i) >>= λ w. give (h i w)) n 0 xs l (concat (λ i. write (d i) (w i)) n 0 ++ s)) f
+    (ends-rows z Q (λ i. line (d i) >>= λ w. give (h i w)) (λ i. write (d i) (w i)) (λ i. lineFault (d i) (w i)) s n (λ i m l e. ends-row (Q i) (d i) (g i) (w i) l (concat (λ i. write (d i) (w i)) m (suc i) ++ s) (h i) (q i)) n 0 (omega arith) xs l)
+    (λ ys l e p. k ys l p)
+
+-- ---- nodes
+
+-- a place is absent and stands for no line, or is not and stands for one
+pub by-line {ℓ} : {P : Type ℓ} (c : Scope) (x : Node) → (x ≡ Absent → describe c x ≡ noLine → P)
+    → ((k : Sort) (w : Vals (fields c k)) → isAbsent x ≡ false → describe c x ≡ described k w → P) → P
+unfolding describe isAbsent
+by-line c Absent f g = f refl refl
+by-line c (Start to) f g = g start _ refl refl
+by-line c (Set v o a b to) f g = g setSort _ refl refl
+by-line c (Test o a b y n) f g = g test _ refl refl
+by-line c (Read v to) f g = g read _ refl refl
+by-line c (Call q xs to) f g = g call _ refl refl
+by-line c (Wait s to) f g = g wait _ refl refl
+by-line c (Signal s to) f g = g signal _ refl refl
+by-line c (Send q v to) f g = g send _ refl refl
+by-line c (Recv q v to) f g = g recv _ refl refl
+by-line c (Assert v to) f g = g assert _ refl refl
+by-line c (Out v to) f g = g out _ refl refl
+by-line c Return f g = g return _ refl refl
+
+-- the node that is read from a node's line
+abbrev pub back : (c : Scope) → Described c → Node
+back c noLine = Absent
+back c (described k w) = nodeOf c k w
+
+-- what follows a procedure's lines does not begin `node=`
+abbrev Lacking : After → Type 0
+Lacking (at r) = ⊥
+Lacking differs = Unit {0}
+Lacking broken = Unit {0}
+
+lacking-field : (k : Kind) (l : ℕ) (s : List ℕ) → Lacking (after (bytes "node=") s) → (f : Fault) × (number f ≡ 2) × (fieldOf (bytes "node=") k l s ≡ refused f l)
+unfolding fieldOf number
+lacking-field k l s h = go (after (bytes "node=") s) refl h
+  where
+    go : (o : After) → after (bytes "node=") s ≡ o → Lacking o → (f : Fault) × (number f ≡ 2) × (fieldOf (bytes "node=") k l s ≡ refused f l)
+    go (at r) e z = absurd z
+    go differs e z = (Form, refl, rw e)
+    go broken e z = (Ended, refl, rw e)
+
+lacking-ifKey : {A : Type 0} (s : List ℕ) → Lacking (after (bytes "node=") s) → (f g : Parser A) (l : ℕ) → ifKey (after (bytes "node=") s) f g l s ≡ g l s
+lacking-ifKey s h f g l = go (after (bytes "node=") s) h
+  where
+    go : (o : After) → Lacking o → ifKey o f g l s ≡ g l s
+    go (at r) z = absurd z
+    go differs z = refl
+    go broken z = refl
+
+pub all-same : {A : Type 0} (d : A) (n j : ℕ) → getD (replicate n d) j d ≡ d
+all-same d zero j = refl
+all-same d (suc n) zero = refl
+all-same d (suc n) (suc j) = all-same d n j
+
+module _ (t : Table) (q : Proc) where
+  abbrev c : Scope
+  c = scope t q
+
+  abbrev d : ℕ → Described c
+  d j = describe c (nodeIn q j)
+
+  abbrev lines : ℕ → List ℕ
+  lines j = nodeText c j (d j)
+
+  -- node j's line, read where a number from lo to below n is due
+  ends-node : (lo n j l : ℕ) (k : Sort) (w : Vals (fields c k)) (s : List ℕ)
+      → Ends (λ x. (x .at ≡ j) × (x .node ≡ nodeOf c k w)) s (lineFault (nodeLine c lo n) (j, (k, w))) (nodeRow c lo n l (nodeText c j (described k w) ++ s))
+  unfolding write spell
+  ends-node lo n j l k w s =
+      ends-map (λ v. v ≡ (j, (k, w))) (λ x. (x .at ≡ j) × (x .node ≡ nodeOf c k w)) s (lineFault (nodeLine c lo n) (j, (k, w))) (line (nodeLine c lo n) l (write (nodeLine c lo n) (j, (k, w)) ++ s)) _
+      (ends-line (nodeLine c lo n) (λ v. v ≡ (j, (k, w))) (node-sound c lo n) (j, (k, w)) l s refl)
+      (λ v e. rw e (refl, refl))
+
+  -- the fault where a node before i is due, with n places from i on left
+  ends-gap : (P : Numbered → Type 0) (lo n i l : ℕ) (s r : List ℕ) → lo < i → Lacking (after (bytes "node=") s)
+      → Ends P r (some (gap q n i)) (nodeRow c lo (suc lo) l (concat lines n i ++ s))
+  unfolding gap concat line number describe isAbsent lineFault check
+  ends-gap P lo zero i l s r u h = let f = lacking-field (Kind.number lo (suc lo) Index) l s h in rw (f .2) (f .1)
+  ends-gap P lo (suc n) i l s r u h = by-line c (nodeIn q i)
+      (λ a e. rw a (ends-gap P lo n (suc i) l s r (omega arith) h))
+      (λ k w a e.
+      let rest = concat lines n (suc i) ++ s in
+      let Here : Numbered → Type 0 = λ x. (x .at ≡ i) × (x .node ≡ nodeOf c k w) in
+      let z : lineFault (nodeLine c lo (suc lo)) (i, (k, w)) ≡ some Index = rw (le-leb lo i (omega arith), le-ltb i (suc lo) (omega arith)) in
+      rw (a, e, append-assoc (nodeText c i (described k w)) (concat lines n (suc i)) s)
+      (ends-fault Here P rest r Index (nodeRow c lo (suc lo) l (nodeText c i (described k w) ++ rest)) (rw z at (ends-node lo (suc lo) i l k w rest))))
+
+  -- what is read from node j's place
+  abbrev Read-back : ℕ → Slot → Type 0
+  Read-back j x = x .node ≡ back c (d j)
+
+  ends-open : t .closed ≡ false → (s : List ℕ) (l : ℕ) → Lacking (after (bytes "node=") s)
+      → Ends (Placed noSlot Read-back (q .nodes) 0 noSlots) s (nodesFault t q) (openNodes c l (concat lines (q .nodes) 0 ++ s))
+  ends-open o s l h = ends-rows noSlot Read-back _ lines (λ j. placeFault c q j (d j)) s (q .nodes) row (q .nodes) 0 (omega arith) noSlots l
+    where
+      row : (i n l : ℕ) → suc i + n ≡ q .nodes → Ends (Read-back i) (concat lines n (suc i) ++ s) (placeFault c q i (d i)) ((nodeRow c i (suc i) >>= λ x. give (slotOf x)) l (lines i ++ (concat lines n (suc i) ++ s)))
+      row i n l e =
+          let rest = concat lines n (suc i) ++ s in
+          by-line c (nodeIn q i)
+          (λ a b.
+          let m : q .nodes - suc i ≡ n = omega arith in
+          let z : placeFault c q i noLine ≡ some (gap q n (suc i)) = rw (o, m) in
+          rw (b, z) (ends-map (λ x. Read-back i (slotOf x)) (Read-back i) rest (some (gap q n (suc i))) (nodeRow c i (suc i) l rest) slotOf (ends-gap (λ x. Read-back i (slotOf x)) i n (suc i) l s rest (omega arith) h) (λ x h. h)))
+          (λ k w a b. rw b (ends-map (λ x. (x .at ≡ i) × (x .node ≡ nodeOf c k w)) (Read-back i) rest (lineFault (nodeLine c i (suc i)) (i, (k, w))) (nodeRow c i (suc i) l (nodeText c i (described k w) ++ rest)) slotOf (ends-node i (suc i) i l k w rest) (λ x h. rw b (h .1))))
+
+  -- closed: the further nodes, with n places from i on, behind the node `last`
+  ends-further : t .closed ≡ true → (s : List ℕ) → Lacking (after (bytes "node=") s)
+      → (n i f last : ℕ) → i + n ≡ q .nodes → last < i → n ≤ f → (xs : List Slot) → ((j : ℕ) → i ≤ j → getD xs j noSlot ≡ noSlot) → (l : ℕ)
+      → Ends (Placed noSlot Read-back n i xs) s (firstOf (λ j. placeFault c q j (d j)) n i) (furtherNodes c f last xs l (concat lines n i ++ s))
+  unfolding furtherNodes firstOf concat write after lineFault check
+  ends-further o s h zero i zero last m u v xs b l = (placed-none noSlot Read-back i xs, refl)
+  ends-further o s h zero i (suc f) last m u v xs b l = rw (lacking-ifKey s h) (placed-none noSlot Read-back i xs, refl)
+  ends-further o s h (suc n) i zero last m u v xs b l = absurd (omega arith)
+  ends-further o s h (suc n) i (suc f) last m u v xs b l = by-line c (nodeIn q i)
+      (λ a e.
+      let z : placeFault c q i noLine ≡ none = rw (o, lt-ltb 0 i (omega arith)) in
+      rw (e, z) (ends-weaken (Placed noSlot Read-back n (suc i) xs) (Placed noSlot Read-back (suc n) i xs) s (firstOf (λ j. placeFault c q j (d j)) n (suc i)) (furtherNodes c (suc f) last xs l (concat lines n (suc i) ++ s))
+      (λ ys. placed-more noSlot Read-back n i xs xs ys refl (λ j l. refl) (λ l. rw (e, b i (omega arith))))
+      (ends-further o s h n (suc i) (suc f) last (omega arith) (omega arith) (omega arith) xs (λ j g. b j (omega arith)) l)))
+      (λ k w a e.
+      let rest = concat lines n (suc i) ++ s in
+      let z : lineFault (nodeLine c (suc last) (c .nodes)) (i, (k, w)) ≡ lineFault (nodeLine c i (suc i)) (i, (k, w)) = rw (le-leb (suc last) i (omega arith), lt-ltb i (q .nodes) (omega arith), le-leb i i (omega arith), lt-ltb i (suc i) (omega arith)) in
+      rw (e, append-assoc (nodeText c i (described k w)) (concat lines n (suc i)) s)
+      (ends-then (λ x. (x .at ≡ i) × (x .node ≡ nodeOf c k w)) (Placed noSlot Read-back (suc n) i xs) rest s (lineFault (nodeLine c i (suc i)) (i, (k, w))) (firstOf (λ j. placeFault c q j (d j)) n (suc i))
+      (nodeRow c (suc last) (c .nodes) l (nodeText c i (described k w) ++ rest)) _ (rw z at (ends-node (suc last) (c .nodes) i l k w rest)) (λ x y g p.
+      rw (p .0) (ends-weaken (Placed noSlot Read-back n (suc i) (set xs i (slotOf x))) (Placed noSlot Read-back (suc n) i xs) s (firstOf (λ j. placeFault c q j (d j)) n (suc i)) (furtherNodes c f i (set xs i (slotOf x)) y rest)
+      (λ ys. placed-set noSlot Read-back n i xs ys (slotOf x) (rw e (p .1)))
+      (ends-further o s h n (suc i) f i (omega arith) (omega arith) (omega arith) (set xs i (slotOf x)) (λ j g. getD-set-other xs i j (slotOf x) noSlot (λ p. omega arith) ∙ b j (omega arith)) y)))))
+
+  -- closed, with suc m places
+  ends-closed : t .closed ≡ true → (m : ℕ) → q .nodes ≡ suc m → (s : List ℕ) (l : ℕ) → Lacking (after (bytes "node=") s)
+      → Ends (Placed noSlot Read-back (suc m) 0 noSlots) s (firstOf (λ j. placeFault c q j (d j)) (suc m) 0) (closedNodes c l (concat lines (suc m) 0 ++ s))
+  unfolding firstOf concat
+  ends-closed o m e s l h =
+      let rest = concat lines m 1 ++ s in
+      by-line c (nodeIn q 0)
+      (λ a b.
+      let z : q .nodes - 1 ≡ m = omega arith in
+      let f : placeFault c q 0 noLine ≡ some (gap q m 1) = rw (o, z) in
+      rw (b, f) (ends-then (λ x. Unit {0}) (Placed noSlot Read-back (suc m) 0 noSlots) s s (some (gap q m 1)) (firstOf (λ j. placeFault c q j (d j)) m 1) (nodeRow c 0 1 l rest) _
+      (ends-gap (λ x. Unit {0}) 0 m 1 l s s (omega arith) h) (λ x y g p. no (cc))))
+      (λ k w a b.
+      rw (b, append-assoc (nodeText c 0 (described k w)) (concat lines m 1) s)
+      (ends-then (λ x. (x .at ≡ 0) × (x .node ≡ nodeOf c k w)) (Placed noSlot Read-back (suc m) 0 noSlots) rest s (lineFault (nodeLine c 0 1) (0, (k, w))) (firstOf (λ j. placeFault c q j (d j)) m 1)
+      (nodeRow c 0 1 l (nodeText c 0 (described k w) ++ rest)) _ (ends-node 0 1 0 l k w rest) (λ x y g p.
+      ends-weaken (Placed noSlot Read-back m 1 (set noSlots 0 (slotOf x))) (Placed noSlot Read-back (suc m) 0 noSlots) s (firstOf (λ j. placeFault c q j (d j)) m 1) (furtherNodes c (q .nodes) 0 (set noSlots 0 (slotOf x)) y rest)
+      (λ ys. placed-set noSlot Read-back m 0 noSlots ys (slotOf x) (rw b (p .1)))
+      (ends-further o s h m 1 (q .nodes) 0 (omega arith) (omega arith) (omega arith) (set noSlots 0 (slotOf x)) (λ j u. getD-set-other noSlots 0 j (slotOf x) noSlot (λ p. omega arith) ∙ all-same noSlot 32 j) y))))
+
+  ends-nodes : (b : Bool) → t .closed ≡ b → 1 ≤ q .nodes → (s : List ℕ) (l : ℕ) → Lacking (after (bytes "node=") s)
+      → Ends (Placed noSlot Read-back (q .nodes) 0 noSlots) s (nodesFault t q) (nodesOf c b l (concat lines (q .nodes) 0 ++ s))
+  ends-nodes false o m s l h = ends-open o s l h
+  ends-nodes true o m s l h =
+      let e : q .nodes ≡ suc (q .nodes - 1) = omega arith in
+      subst (λ (k : ℕ). Ends (Placed noSlot Read-back k 0 noSlots) s (firstOf (λ j. placeFault c q j (d j)) k 0) (closedNodes c l (concat lines k 0 ++ s))) (sym e) (ends-closed o (q .nodes - 1) e s l h)
+
+-- ---- procedures
+
+-- r is q in all that counts
+pub record ProcSame (t : Table) (q r : Proc) : Type 0 where
+  pub params : r .params ≡ q .params
+  pub nodes : r .nodes ≡ q .nodes
+  pub drop : t .closed ≡ true → r .drop ≡ setOf (members (q .drop))
+  pub node : (j : ℕ) → j < q .nodes → j < 32 → nodeIn r j ≡ back (scope t q) (describe (scope t q) (nodeIn q j))
+
+vals-scope : (closed : Bool) (procs sems queues i : ℕ) (q : Proc)
+    → scopeOf closed procs sems queues i (procVals closed i q) ≡ record { closed = closed; procs = procs; sems = sems; queues = queues; vars = q .vars; nodes = q .nodes }
+vals-scope false procs sems queues i q = refl
+vals-scope true procs sems queues i q = refl
+
+vals-nodes : (closed : Bool) (i : ℕ) (q : Proc) → lineFault (procLine closed i) (procVals closed i q) ≡ none → 1 ≤ q .nodes
+vals-nodes false i q e = let h = line-is (procLine false i) (procVals false i q) .0 e in omega (arith, h .1 .1 .1 .0 .0)
+vals-nodes true i q e = let h = line-is (procLine true i) (procVals true i q) .0 e in omega (arith, h .1 .1 .1 .0 .0)
+
+vals-same : (t : Table) (closed : Bool) → t .closed ≡ closed → (i : ℕ) (q : Proc) (l : List Slot) → Placed noSlot (Read-back t q) (q .nodes) 0 noSlots l → ProcSame t q (procOf closed i (procVals closed i q) l)
+vals-same t false o i q l h = record { params = refl; nodes = refl; drop = λ e. no (cc); node = λ j u v. h .inside j (omega arith) (omega arith) v }
+vals-same t true o i q l h = record { params = refl; nodes = refl; drop = λ e. refl; node = λ j u v. h .inside j (omega arith) (omega arith) v }
+
+ends-proc : (t : Table) (p l : ℕ) (s : List ℕ) → Lacking (after (bytes "node=") s)
+    → Ends (ProcSame t (procAt t p)) s (procFault t p) (procRow (t .closed) (t .procs) (t .sems) (t .queues) p l (procText t p ++ s))
+ends-proc t p l s h =
+    let q = procAt t p in
+    let b = t .closed in
+    let v = procVals b p q in
+    let nodes = concat (lines t q) (q .nodes) 0 in
+    rw (append-assoc (write (procLine b p) v) nodes s)
+    (line-then (ProcSame t q) (procLine b p) (proc-sound b p) v l (nodes ++ s) s (nodesFault t q) _ (λ l n.
+    rw (vals-scope b (t .procs) (t .sems) (t .queues) p q)
+    (ends-map (Placed noSlot (Read-back t q) (q .nodes) 0 noSlots) (ProcSame t q) s (nodesFault t q) (nodesOf (scope t q) b l (nodes ++ s)) (λ l. procOf b p v l)
+    (ends-nodes t q b refl (vals-nodes b p q n) s l h) (λ l k. vals-same t b refl p q l k))))
+
+-- what follows a procedure's lines
+procs-lacking : (t : Table) (n i : ℕ) → Lacking (after (bytes "node=") (concat (procText t) n i ++ []))
+unfolding concat write after
+procs-lacking t zero i = tt
+procs-lacking t (suc n) i = tt
+
+-- ---- tables
+
+-- r is t in all that counts
+pub record Same (t r : Table) : Type 0 where
+  pub closed : r .closed ≡ t .closed
+  pub tasks : r .tasks ≡ t .tasks
+  pub procs : r .procs ≡ t .procs
+  pub sems : r .sems ≡ t .sems
+  pub queues : r .queues ≡ t .queues
+  pub top : (i : ℕ) → i < t .tasks → i < 4 → taskAt r i .top ≡ taskAt t i .top
+  pub blank : (i : ℕ) → i < t .queues → i < 8 → t .closed ≡ true → queueAt r i .blank ≡ queueAt t i .blank
+  pub proc : (p : ℕ) → p < t .procs → p < 8 → ProcSame t (procAt t p) (procAt r p)
+
+vals-queue : (b : Bool) (i : ℕ) (x : Queue) → b ≡ true → queueOf b i (queueVals b i x) .blank ≡ x .blank
+vals-queue true i x e = refl
+vals-queue false i x e = no (cc)
+
+pub ends-table : (t : Table) → Ends (Same t) [] (linesFault t) (table 1 (text t))
+unfolding linesFault table text body
+ends-table t =
+    let b = t .closed in
+    let counts : Vals countsLine = (t .tasks, (t .procs, (t .sems, (t .queues, tt)))) in
+    let taskVals : (i : ℕ) → Vals (taskLine (t .procs) i) = λ i. (i, (taskAt t i .top, tt)) in
+    let semVals : (i : ℕ) → Vals (semLine i) = λ i. (i, (semAt t i .count, tt)) in
+    let procs = concat (procText t) (t .procs) 0 in
+    let queues = concat (λ i. write (queueLine b i) (queueVals b i (queueAt t i))) (t .queues) 0 ++ procs in
+    let sems = concat (λ i. write (semLine i) (semVals i)) (t .sems) 0 ++ queues in
+    let tasks = concat (λ i. write (taskLine (t .procs) i) (taskVals i)) (t .tasks) 0 ++ sems in
+    line-then (Same t) headLine head-sound (t .trap, (b, tt)) 1 (write countsLine counts ++ tasks) [] _ _ (λ l e.
+    line-then (Same t) countsLine counts-sound counts l tasks [] _ _ (λ l e.
+    rows-then noTask (λ i x. x .top ≡ taskAt t i .top) (Same t) (taskLine (t .procs)) (task-sound (t .procs)) taskVals (λ i w. record { top = w .1 .0 }) (λ i. refl) (t .tasks) (replicate 4 noTask) l sems [] _ _ (λ ts l h₁.
+    rows-then noSem (λ i x. x .count ≡ semAt t i .count) (Same t) semLine sem-sound semVals (λ i w. record { count = w .1 .0 }) (λ i. refl) (t .sems) (replicate 8 noSem) l queues [] _ _ (λ ss l h₂.
+    rows-then noQueue (λ i x. b ≡ true → x .blank ≡ queueAt t i .blank) (Same t) (queueLine b) (queue-sound b) (λ i. queueVals b i (queueAt t i)) (queueOf b) (λ i. vals-queue b i (queueAt t i)) (t .queues) (replicate 8 noQueue) l procs [] _ _ (λ qs l h₃.
+    let ps = ends-rows outside (λ p. ProcSame t (procAt t p)) (procRow b (t .procs) (t .sems) (t .queues)) (procText t) (procFault t) [] (t .procs) (λ i n l e. ends-proc t i l (concat (procText t) n (suc i) ++ []) (procs-lacking t n (suc i))) (t .procs) 0 (omega arith) (replicate 8 noProc) l in
+    ends-last (Placed outside (λ p. ProcSame t (procAt t p)) (t .procs) 0 (replicate 8 noProc)) (Same t) [] [] (firstOf (procFault t) (t .procs) 0) (rows (procRow b (t .procs) (t .sems) (t .queues)) (t .procs) 0 (replicate 8 noProc) l procs) _ (rw append-nil at ps) (λ ps l h₄. (
+      record {
+        closed = refl;
+        tasks = refl;
+        procs = refl;
+        sems = refl;
+        queues = refl;
+        top = λ i l u. h₁ .inside i (omega arith) (omega arith) u;
+        blank = λ i l u. h₃ .inside i (omega arith) (omega arith) u;
+        proc = λ p l u. h₄ .inside p (omega arith) (omega arith) u;
+      },
+      refl,
+    )))))))

@@ -1,0 +1,254 @@
+-- A table has no fault if and only if it is valid; and where its nodes are.
+use Prim.Native.Nat.{ℕ, zero, suc, _+_, _-_, _≤_, _<_}
+use mathlib.Core.Path.{_≡_, refl, sym, _∙_, ap, fun-ext}
+use mathlib.Core.Logic.{_↔_, _⊎_, inl, inr}
+use mathlib.Core.List.{List, [], _∷_, _++_, List·Memᴰ, List·Memᴰ·head, List·Memᴰ·tail, List·Memᴰ·not-nil}
+use mathlib.Core.Option.{Option, none, some}
+use mathlib.Core.Bool.{Bool, true, false, _&&_, _||_, not}
+use native.Mathlib.Omega.{arith}
+use lib.Dec.{eqb}
+use lib.ListN.{getD, drop, replicate}
+use lib.Seq.{getD-drop}
+use borrow.Author.Tests.{eqb-true, eqb-false, not-true}
+use Rattle.table.specs.Mask.{pick, bit, membersFrom}
+use Rattle.table.specs.Table.{noSlot, outside, taskAt, queueAt, procAt, nodeIn, nodeAt, arcTo, arcNo, arcs, isAbsent}
+use Rattle.table.specs.declared.Node.{Node}
+use Rattle.table.specs.declared.Node.the-variants.{Absent, Start, Set, Test, Read, Call, Wait, Signal, Send, Recv, Assert, Out, Return}
+use Rattle.table.specs.declared.Proc.{Proc}
+use Rattle.table.specs.declared.Table.{Table}
+use Rattle.text.specs.declared.Fault.{Fault}
+use Rattle.text.specs.declared.Fault.the-variants.{Long, Form, Misspelt, Ended, Range, Index, Reference, Arguments, Closing, Unused, Short}
+use Rattle.text.specs.Fault.{number}
+use Rattle.text.specs.NumberLaws.{cases, byOrder, and-left, and-right}
+use Rattle.text.specs.ValueLaws.{no}
+use Rattle.text.specs.Value.{unless, orElse}
+use Rattle.text.specs.Reader.{allBelow, allPresent, countRight, removedRight, nodeFault, taskFault, concat, nodeLate, procLate, late}
+use Rattle.text.specs.Format.{Scope}
+use Rattle.text.specs.Writer.{scope, all, isZero, slotEmpty, taskEmpty, semEmpty, queueEmpty, procEmpty, argsEmpty, procTidy, tidy, fault}
+use Rattle.text.specs.Right.{unless-is, else-is, and-is}
+use Rattle.text.specs.Structure.{firstOf, firstIn, linesFault, tableFault, numbered}
+use Rattle.text.specs.Valid.{NodeValid, Valid}
+use Rattle.text.specs.EndsLaws.{by-line}
+use Rattle.text.specs.LinedLaws.{first-none, none-first, lined-of, of-lined}
+use Rattle.text.specs.StructureLaws.{fault-is}
+
+-- ---- tests
+
+or-is : (a b : Bool) → (not a || b ≡ true) ↔ (a ≡ true → b ≡ true)
+or-is true b = (λ e o. e, λ f. f refl)
+or-is false b = (λ e o. no (cc), λ f. refl)
+
+below-all : (n : ℕ) (f : ℕ → Bool) → allBelow n f ≡ true → (i : ℕ) → i < n → f i ≡ true
+unfolding allBelow
+below-all zero f e i l = absurd (omega arith)
+below-all (suc n) f e i l = cases (eqb i n)
+    (λ q. rw (eqb-true i n q) (and-left (f n) (allBelow n f) e))
+    (λ q. below-all n f (and-right (f n) (allBelow n f) e) i (omega (arith, eqb-false i n q)))
+
+all-below : (n : ℕ) (f : ℕ → Bool) → ((i : ℕ) → i < n → f i ≡ true) → allBelow n f ≡ true
+unfolding allBelow
+all-below zero f h = refl
+all-below (suc n) f h = rw (h n (omega arith)) (all-below n f (λ i l. h i (omega arith)))
+
+pub absent-is : (x : Node) → isAbsent x ≡ true → x ≡ Absent
+absent-is x e = by-line (record { closed = false; procs = 0; sems = 0; queues = 0; vars = 0; nodes = 0 }) x (λ a b. a) (λ k w a b. no (cc))
+
+present-all : (q : Proc) (ms : List ℕ) → allPresent q ms ≡ true → (m : ℕ) → List·Memᴰ m ms → isAbsent (nodeIn q m) ≡ false
+unfolding allPresent
+present-all q [] e m d = absurd (List·Memᴰ·not-nil d)
+present-all q (x ∷ xs) e m (List·Memᴰ·head p) = rw p (not-true (isAbsent (nodeIn q x)) (and-left (not (isAbsent (nodeIn q x))) (allPresent q xs) e))
+present-all q (x ∷ xs) e m (List·Memᴰ·tail d) = present-all q xs (and-right (not (isAbsent (nodeIn q x))) (allPresent q xs) e) m d
+
+all-present : (q : Proc) (ms : List ℕ) → ((m : ℕ) → List·Memᴰ m ms → isAbsent (nodeIn q m) ≡ false) → allPresent q ms ≡ true
+unfolding allPresent
+all-present q [] f = refl
+all-present q (x ∷ xs) f = rw (f x (List·Memᴰ·head refl)) (all-present q xs (λ m d. f m (List·Memᴰ·tail d)))
+
+-- ---- the late faults
+
+in-append : (xs ys : List (Option Fault)) → firstIn (xs ++ ys) ≡ orElse (firstIn xs) (firstIn ys)
+unfolding firstIn
+in-append [] ys = refl
+in-append (none ∷ xs) ys = in-append xs ys
+in-append (some f ∷ xs) ys = refl
+
+in-concat : (f : ℕ → List (Option Fault)) (n i : ℕ) → firstIn (concat f n i) ≡ firstOf (λ j. firstIn (f j)) n i
+unfolding firstIn concat firstOf
+in-concat f zero i = refl
+in-concat f (suc n) i = in-append (f i) (concat f n (suc i)) ∙ rw (in-concat f n (suc i))
+
+in-none : (n : ℕ) → firstIn (replicate n none) ≡ none
+unfolding firstIn
+in-none zero = refl
+in-none (suc n) = in-none n
+
+-- a task's, a node's
+task-is : (t : Table) (i : ℕ)
+    → (firstIn (taskFault t i ∷ []) ≡ none) ↔ (t .closed ≡ true → (j : ℕ) → j < procAt t (taskAt t i .top) .params → bit j (procAt t (taskAt t i .top) .drop) ≡ true)
+unfolding firstIn
+task-is t i =
+    let q = procAt t (taskAt t i .top) in
+    let f : ℕ → Bool = λ j. bit j (q .drop) in
+    let b = allBelow (q .params) f in (
+      λ e o. below-all (q .params) f (or-is (t .closed) b .0 (unless-is (not (t .closed) || b) Closing .0 (else-is (taskFault t i) none .0 e .0)) o),
+      λ h. rw (or-is (t .closed) b .1 (λ o. all-below (q .params) f (h o))),
+    )
+
+abbrev LateValid : Table → Proc → Node → Type 0
+LateValid t q x = (countRight t x ≡ true) × (t .closed ≡ true → (allPresent q (arcs x) ≡ true) × (removedRight t x ≡ true))
+
+absent-late : (t : Table) (q : Proc) → (firstIn (nodeLate t q Absent) ≡ none) ↔ LateValid t q Absent
+unfolding firstIn isAbsent countRight allPresent removedRight arcTo arcNo membersFrom bit
+absent-late t q = (λ z. (refl, λ o. (refl, refl)), λ v. refl)
+
+node-is : (t : Table) (q : Proc) (x : Node) → (firstIn (nodeLate t q x) ≡ none) ↔ LateValid t q x
+unfolding firstIn
+node-is t q x =
+    let k = countRight t x in
+    let a = allPresent q (arcs x) in
+    let m = removedRight t x in
+    cases (isAbsent x)
+    (λ e. rw (absent-is x e) (absent-late t q))
+    (λ e. rw e (
+      λ z.
+          let h = else-is (unless k Arguments) (unless (not (t .closed) || (a && m)) Closing) .0 (else-is (nodeFault t q x) none .0 z .0) in
+          (unless-is k Arguments .0 (h .0), λ o. and-is a m .0 (or-is (t .closed) (a && m) .0 (unless-is _ Closing .0 (h .1)) o)),
+      λ v. rw (v .0, or-is (t .closed) (a && m) .1 (λ o. and-is a m .1 (v .1 o))),
+    ))
+
+-- the tasks' and the nodes', one after another
+tasksLate : Table → Option Fault
+tasksLate t = firstOf (λ i. firstIn (taskFault t i ∷ [])) (t .tasks) 0
+
+nodesLate : Table → ℕ → Option Fault
+nodesLate t p = firstOf (λ n. firstIn (nodeLate t (procAt t p) (nodeAt t p n))) (procAt t p .nodes) 0
+
+late-parts : (t : Table) → firstIn (late t) ≡ orElse (tasksLate t) (firstOf (nodesLate t) (t .procs) 0)
+unfolding late firstIn tasksLate nodesLate
+late-parts t =
+    let ts = concat (λ i. taskFault t i ∷ []) (t .tasks) 0 in
+    let ss = replicate (t .sems) none in
+    let qs = replicate (t .queues) none in
+    let ps = concat (procLate t) (t .procs) 0 in
+    let p : (λ p. firstIn (procLate t p)) ≡ nodesLate t = fun-ext (λ p. in-concat (λ n. nodeLate t (procAt t p) (nodeAt t p n)) (procAt t p .nodes) 0) in
+    rw (in-append ts (ss ++ (qs ++ ps)), in-append ss (qs ++ ps), in-none (t .sems), in-append qs ps, in-none (t .queues), in-concat (λ i. taskFault t i ∷ []) (t .tasks) 0, in-concat (procLate t) (t .procs) 0, p)
+
+-- ---- a table
+
+number-pos : (f : Fault) → 0 < number f
+unfolding number
+number-pos f = elim f [ Long ↦ omega arith | Form ↦ omega arith | Misspelt ↦ omega arith | Ended ↦ omega arith | Range ↦ omega arith | Index ↦ omega arith | Reference ↦ omega arith | Arguments ↦ omega arith | Closing ↦ omega arith | Unused ↦ omega arith | Short ↦ omega arith ]
+
+numbered-none : (f : Option Fault) → numbered f ≡ 0 → f ≡ none
+numbered-none none e = refl
+numbered-none (some f) e = absurd (omega (arith, number-pos f))
+
+pub valid-of : (t : Table) → fault t ≡ 0 → Valid t
+unfolding tableFault tasksLate nodesLate
+valid-of t z =
+    let h = else-is (linesFault t) (orElse (firstIn (late t)) (unless (tidy t) Unused)) .0 (numbered-none (tableFault t) (sym (fault-is t) ∙ z)) in
+    let k = else-is (firstIn (late t)) (unless (tidy t) Unused) .0 (h .1) in
+    let l = else-is (tasksLate t) (firstOf (nodesLate t) (t .procs) 0) .0 (sym (late-parts t) ∙ k .0) in
+    let task : (i : ℕ) → i < t .tasks → firstIn (taskFault t i ∷ []) ≡ none = λ i u. first-none (λ i. firstIn (taskFault t i ∷ [])) (t .tasks) 0 (l .0) i (omega arith) (omega arith) in
+    let node : (p n : ℕ) → p < t .procs → n < procAt t p .nodes → LateValid t (procAt t p) (nodeAt t p n) =
+    λ p n u w. node-is t (procAt t p) (nodeAt t p n) .0 (first-none (λ n. firstIn (nodeLate t (procAt t p) (nodeAt t p n))) (procAt t p .nodes) 0 (first-none (nodesLate t) (t .procs) 0 (l .1) p (omega arith) (omega arith)) n (omega arith) (omega arith))
+    in
+    record {
+      lines = lined-of t (h .0);
+      dropped = λ o i u. task-is t i .0 (task i u) o;
+      counts = λ p n u w. node p n u w .0;
+      present = λ o p n u w. present-all (procAt t p) (arcs (nodeAt t p n)) (node p n u w .1 o .0);
+      removals = λ o p n u w. node p n u w .1 o .1;
+      unused = unless-is (tidy t) Unused .0 (k .1);
+    }
+
+pub of-valid : (t : Table) → Valid t → fault t ≡ 0
+unfolding tableFault tasksLate nodesLate
+of-valid t v =
+    let tasks : tasksLate t ≡ none = none-first (λ i. firstIn (taskFault t i ∷ [])) (t .tasks) 0 (λ i l u. task-is t i .1 (λ o. v .dropped o i (omega arith))) in
+    let nodes : firstOf (nodesLate t) (t .procs) 0 ≡ none = none-first (nodesLate t) (t .procs) 0 (λ p l u. none-first (λ n. firstIn (nodeLate t (procAt t p) (nodeAt t p n))) (procAt t p .nodes) 0 (λ n k w.
+    let x : p < t .procs = omega arith in
+    let y : n < procAt t p .nodes = omega arith in
+    node-is t (procAt t p) (nodeAt t p n) .1 (v .counts p n x y, λ o. (all-present (procAt t p) (arcs (nodeAt t p n)) (v .present o p n x y), v .removals o p n x y))))
+    in
+    fault-is t ∙ rw (of-lined t (v .lines), late-parts t, tasks, nodes, v .unused)
+
+-- ---- where the nodes are
+
+all-at : {A : Type 0} (f : A → Bool) (xs : List A) (d : A) → all f xs ≡ true → f d ≡ true → (i : ℕ) → f (getD xs i d) ≡ true
+unfolding all
+all-at f [] d e h i = h
+all-at f (x ∷ xs) d e h zero = and-left (f x) (all f xs) e
+all-at f (x ∷ xs) d e h (suc i) = all-at f xs d (and-right (f x) (all f xs) e) h i
+
+-- behind what is counted
+all-behind : {A : Type 0} (f : A → Bool) (xs : List A) (d : A) (n i : ℕ) → all f (drop n xs) ≡ true → f d ≡ true → n ≤ i → f (getD xs i d) ≡ true
+all-behind f xs d n i e h l = let p : n + (i - n) ≡ i = omega arith in rw (p) at (rw (getD-drop n xs (i - n) d) at (all-at f (drop n xs) d e h (i - n)))
+
+-- the unused places, part by part
+pub tidy-parts : (t : Table) → tidy t ≡ true
+    → (all taskEmpty (drop (t .tasks) (t .task)) ≡ true) × (all semEmpty (drop (t .sems) (t .sem)) ≡ true) × (all queueEmpty (drop (t .queues) (t .queue)) ≡ true) × (all procEmpty (drop (t .procs) (t .proc)) ≡ true)
+    × ((i : ℕ) → i < t .queues → t .closed || not (queueAt t i .blank) ≡ true) × ((p : ℕ) → p < t .procs → procTidy (t .closed) (procAt t p) ≡ true)
+unfolding tidy
+tidy-parts t e =
+    let h₁ = and-is (all taskEmpty (drop (t .tasks) (t .task))) _ .0 e in
+    let h₂ = and-is (all semEmpty (drop (t .sems) (t .sem))) _ .0 (h₁ .1) in
+    let h₃ = and-is (all queueEmpty (drop (t .queues) (t .queue))) _ .0 (h₂ .1) in
+    let h₄ = and-is (all procEmpty (drop (t .procs) (t .proc))) _ .0 (h₃ .1) in
+    let h₅ = and-is (allBelow (t .queues) (λ i. t .closed || not (queueAt t i .blank))) (allBelow (t .procs) (λ p. procTidy (t .closed) (procAt t p))) .0 (h₄ .1) in
+    (h₁ .0, h₂ .0, h₃ .0, h₄ .0, below-all (t .queues) _ (h₅ .0), below-all (t .procs) _ (h₅ .1))
+
+-- behind the procedures no place holds a node
+far-absent : (t : Table) → tidy t ≡ true → (p n : ℕ) → t .procs ≤ p → nodeAt t p n ≡ Absent
+unfolding all isAbsent
+far-absent t e p n l =
+    let q = procAt t p in
+    let h = all-behind procEmpty (t .proc) outside (t .procs) p (tidy-parts t e .3) refl l in
+    let s = and-is (isZero (q .drop)) (all slotEmpty (q .slots)) .0 (and-is (isZero (q .nodes)) _ .0 (and-is (isZero (q .vars)) _ .0 (and-is (isZero (q .params)) _ .0 h .1) .1) .1) .1 in
+    absent-is (nodeIn q n) (all-at slotEmpty (q .slots) noSlot s refl n)
+
+-- nor does one behind a procedure's nodes
+pub outside-absent : (t : Table) → fault t ≡ 0 → (p n : ℕ) → (t .procs ≤ p) ⊎ (procAt t p .nodes ≤ n) → nodeAt t p n ≡ Absent
+unfolding isAbsent
+outside-absent t z p n h =
+    let e = valid-of t z .unused in
+    let q = procAt t p in
+    elim h [
+      | inl l ↦ far-absent t e p n l
+      | inr l ↦ byOrder p (t .procs)
+          (λ u. absent-is (nodeIn q n) (all-behind slotEmpty (q .slots) noSlot (q .nodes) n (and-left (all slotEmpty (drop (q .nodes) (q .slots))) _ (tidy-parts t e .5 p u)) refl l))
+          (far-absent t e p n)
+    ]
+
+-- so a node stands within the counts
+pub inside-of : (t : Table) → fault t ≡ 0 → (p n : ℕ) → isAbsent (nodeAt t p n) ≡ false → (p < t .procs) × (n < procAt t p .nodes)
+unfolding isAbsent
+inside-of t z p n e = (
+  byOrder p (t .procs) (λ l. l) (λ l. let a = outside-absent t z p n (inl l) in no (cc)),
+  byOrder n (procAt t p .nodes) (λ l. l) (λ l. let a = outside-absent t z p n (inr l) in no (cc)),
+)
+
+-- in an open table every place within the counts holds one, and node 0 is a start in both forms
+pub open-present : (t : Table) → Valid t → t .closed ≡ false → (p n : ℕ) → p < t .procs → n < procAt t p .nodes → isAbsent (nodeAt t p n) ≡ false
+unfolding isAbsent
+open-present t v o p n u l = cases (isAbsent (nodeAt t p n))
+    (λ e. let h = rw (absent-is (nodeAt t p n) e) at (v .lines .proc p u .node n l) in no (cc (h .1)))
+    (λ e. e)
+
+start-is : (c : Scope) (x : Node) → NodeValid c 0 x → (to : ℕ) × (x ≡ Start to)
+start-is c Absent v = absurd (omega arith)
+start-is c (Start to) v = (to, refl)
+start-is c (Set x o a b to) v = absurd (omega arith)
+start-is c (Test o a b y n) v = absurd (omega arith)
+start-is c (Read x to) v = absurd (omega arith)
+start-is c (Call q xs to) v = absurd (omega arith)
+start-is c (Wait s to) v = absurd (omega arith)
+start-is c (Signal s to) v = absurd (omega arith)
+start-is c (Send q x to) v = absurd (omega arith)
+start-is c (Recv q x to) v = absurd (omega arith)
+start-is c (Assert x to) v = absurd (omega arith)
+start-is c (Out x to) v = absurd (omega arith)
+start-is c Return v = absurd (omega arith)
+
+pub start-at : (t : Table) → Valid t → (p : ℕ) → p < t .procs → (to : ℕ) × (nodeAt t p 0 ≡ Start to)
+start-at t v p u = let h = v .lines .proc p u in start-is (scope t (procAt t p)) (nodeAt t p 0) (h .node 0 (omega (arith, h .nodesLow)))
