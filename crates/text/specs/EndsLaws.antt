@@ -1,20 +1,19 @@
 -- Reading the lines that a table stands for ends as `linesFault` says: with that fault, or with a table that is the same in all that counts.
 use Prim.Native.Nat.{ℕ, zero, suc, _+_, _-_, _≤_, _<_}
-use mathlib.Core.Path.{_≡_, refl, sym, _∙_, ap, subst}
-use mathlib.Core.List.{List, [], _∷_, _++_, append-assoc, append-nil}
+use mathlib.Core.Path.{_≡_, refl, sym, _∙_, subst}
+use mathlib.Core.List.{List, [], _++_, append-assoc, append-nil}
 use mathlib.Core.Option.{Option, none, some}
-use mathlib.Core.Bool.{Bool, true, false, _&&_}
+use mathlib.Core.Bool.{Bool, true, false}
 use native.Mathlib.Omega.{arith}
-use lib.Dec.{ltb, leb, eqb}
-use lib.ListN.{length, getD, set, replicate, length-set, length-replicate, getD-replicate}
+use lib.Dec.{eqb}
+use lib.ListN.{length, getD, set, replicate, length-set}
 use lib.Seq.{getD-set-same, getD-set-other}
 use borrow.Author.Tests.{eqb-true, eqb-false, lt-ltb, le-ltb, le-leb}
-use Rattle.table.specs.Mask.{pick, members}
+use Rattle.table.specs.Mask.{members}
 use Rattle.table.specs.Table.{noSlot, noTask, noSem, noQueue, noProc, noSlots, outside, taskAt, semAt, queueAt, procAt, nodeIn, isAbsent}
 use Rattle.table.specs.declared.Node.{Node}
 use Rattle.table.specs.declared.Node.the-variants.{Absent, Start, Set, Test, Read, Call, Wait, Signal, Send, Recv, Assert, Out, Return}
 use Rattle.table.specs.declared.Slot.{Slot}
-use Rattle.table.specs.declared.Task.{Task}
 use Rattle.table.specs.declared.Queue.{Queue}
 use Rattle.table.specs.declared.Proc.{Proc}
 use Rattle.table.specs.declared.Table.{Table}
@@ -23,71 +22,58 @@ use Rattle.text.specs.declared.Fault.{Fault}
 use Rattle.text.specs.declared.Fault.the-variants.{Form, Ended, Index}
 use Rattle.text.specs.Fault.{number}
 use Rattle.text.specs.NumberLaws.{cases}
-use Rattle.text.specs.Value.{Sort, start, set as setSort, test, read, call, wait, signal, send, recv, assert, out, return, Kind, spell, check, unless, orElse}
+use Rattle.text.specs.Value.{Sort, start, set as setSort, test, read, call, wait, signal, send, recv, assert, out, return, Kind, spell, check, orElse}
 use Rattle.text.specs.Line.{Line, Vals, write, Outcome, took, refused, Parser, onto, _>>=_, give, After, at, differs, broken, after, fieldOf, line, lineFault}
 use Rattle.text.specs.LineLaws.{Sound, judgement, line-write, head-sound, counts-sound, task-sound, sem-sound, queue-sound, proc-sound, node-sound}
 use Rattle.text.specs.Format.{headLine, countsLine, taskLine, semLine, queueLine, procLine, Scope, nodeLine, fields, setOf, nodeOf, Described, noLine, described, describe}
-use Rattle.text.specs.Reader.{rows, taskRow, semRow, queueOf, queueRow, Numbered, nodeRow, slotOf, openNodes, ifKey, furtherNodes, closedNodes, nodesOf, droppedBy, procOf, scopeOf, procRow, atEnd, body, table, concat}
+use Rattle.text.specs.Reader.{rows, queueOf, Numbered, nodeRow, slotOf, openNodes, ifKey, furtherNodes, closedNodes, nodesOf, procOf, scopeOf, procRow, body, table, concat}
 use Rattle.text.specs.Writer.{queueVals, procVals, nodeText, scope, procText, text}
-use Rattle.text.specs.Right.{line-is}
+use Rattle.text.specs.LinedLaws.{all-same, proc-is}
 use Rattle.text.specs.ValueLaws.{no}
-use Rattle.text.specs.Structure.{firstOf, gap, placeFault, nodesFault, procFault, linesFault}
+use Rattle.text.specs.Structure.{firstOf, gap, placeFault, procFault, linesFault}
 
 -- ---- outcomes, up to line numbers: with no fault, something that has P, and s is left; else a fault with the number of c
 
-abbrev pub Ends : {A : Type 0} → (A → Type 0) → List ℕ → Option Fault → Outcome A → Type 0
-Ends P s none (took a l r) = P a × (r ≡ s)
-Ends P s none (refused f l) = ⊥
-Ends P s (some c) (took a l r) = ⊥
-Ends P s (some c) (refused f l) = number f ≡ number c
+pub data Ends {A : Type 0} (P : A → Type 0) (s : List ℕ) : Option Fault → Outcome A → Type 0 where
+  ends-took : {a : A} {l : ℕ} → P a → Ends P s none (took a l s)
+  ends-refused : {c f : Fault} {l : ℕ} → number f ≡ number c → Ends P s (some c) (refused f l)
 
-ends-then : {A B : Type 0} (P : A → Type 0) (Q : B → Type 0) (s r : List ℕ) (c d : Option Fault) (o : Outcome A) (f : A → Parser B)
-    → Ends P s c o → ((a : A) (l : ℕ) → c ≡ none → P a → Ends Q r d (f a l s)) → Ends Q r (orElse c d) (onto o f)
-ends-then P Q s r none d (took a l t) f e g = rw (e .1) (g a l refl (e .0))
-ends-then P Q s r none d (refused x l) f e g = absurd e
-ends-then P Q s r (some c) d (took a l t) f e g = absurd e
-ends-then P Q s r (some c) d (refused x l) f e g = e
+module _ {A B : Type 0} {P : A → Type 0} {Q : B → Type 0} {s r : List ℕ} where
+  ends-then : {c d : Option Fault} {o : Outcome A} (f : A → Parser B) → Ends P s c o → ((a : A) (l : ℕ) → c ≡ none → P a → Ends Q r d (f a l s)) → Ends Q r (orElse c d) (onto o f)
+  ends-then f (ends-took {a = a} {l = l} p) k = k a l refl p
+  ends-then f (ends-refused e) k = ends-refused e
 
--- nothing more goes wrong
-ends-last : {A B : Type 0} (P : A → Type 0) (Q : B → Type 0) (s r : List ℕ) (c : Option Fault) (o : Outcome A) (f : A → Parser B)
-    → Ends P s c o → ((a : A) (l : ℕ) → P a → Ends Q r none (f a l s)) → Ends Q r c (onto o f)
-ends-last P Q s r none (took a l t) f e g = rw (e .1) (g a l (e .0))
-ends-last P Q s r none (refused x l) f e g = absurd e
-ends-last P Q s r (some c) (took a l t) f e g = absurd e
-ends-last P Q s r (some c) (refused x l) f e g = e
+  -- where nothing more goes wrong
+  ends-last : {c : Option Fault} {o : Outcome A} (f : A → Parser B) → Ends P s c o → ((a : A) (l : ℕ) → P a → Ends Q r none (f a l s)) → Ends Q r c (onto o f)
+  ends-last f (ends-took {a = a} {l = l} p) k = k a l p
+  ends-last f (ends-refused e) k = ends-refused e
 
-ends-map : {A B : Type 0} (P : A → Type 0) (Q : B → Type 0) (s : List ℕ) (c : Option Fault) (o : Outcome A) (h : A → B)
-    → Ends P s c o → ((a : A) → P a → Q (h a)) → Ends Q s c (onto o (λ a. give (h a)))
-ends-map P Q s c o h e g = ends-last P Q s s c o (λ a. give (h a)) e (λ a l p. (g a p, refl))
+ends-map : {A B : Type 0} {P : A → Type 0} {Q : B → Type 0} {s : List ℕ} {c : Option Fault} {o : Outcome A} (h : A → B) → Ends P s c o → ((a : A) → P a → Q (h a)) → Ends Q s c (onto o (λ a. give (h a)))
+ends-map h e k = ends-last (λ a. give (h a)) e (λ a l p. ends-took (k a p))
 
-ends-weaken : {A : Type 0} (P Q : A → Type 0) (s : List ℕ) (c : Option Fault) (o : Outcome A) → ((a : A) → P a → Q a) → Ends P s c o → Ends Q s c o
-ends-weaken P Q s none (took a l t) g e = (g a (e .0), e .1)
-ends-weaken P Q s none (refused x l) g e = absurd e
-ends-weaken P Q s (some c) (took a l t) g e = absurd e
-ends-weaken P Q s (some c) (refused x l) g e = e
+ends-weaken : {A : Type 0} {P Q : A → Type 0} {s : List ℕ} {c : Option Fault} {o : Outcome A} → ((a : A) → P a → Q a) → Ends P s c o → Ends Q s c o
+ends-weaken k (ends-took {a = a} p) = ends-took (k a p)
+ends-weaken k (ends-refused e) = ends-refused e
 
 -- where there is a fault, what has P and what is left do not matter
-ends-fault : {A : Type 0} (P Q : A → Type 0) (s r : List ℕ) (c : Fault) (o : Outcome A) → Ends P s (some c) o → Ends Q r (some c) o
-ends-fault P Q s r c (took a l t) e = absurd e
-ends-fault P Q s r c (refused x l) e = e
+ends-fault : {A : Type 0} {P Q : A → Type 0} {s r : List ℕ} {c : Fault} {o : Outcome A} → Ends P s (some c) o → Ends Q r (some c) o
+ends-fault (ends-refused e) = ends-refused e
 
 -- a line that was written: its values, or the first of their faults
 ends-line : (d : Line) (P : Vals d → Type 0) → Sound d → (w : Vals d) (l : ℕ) (s : List ℕ) → P w → Ends P s (lineFault d w) (line d l (write d w ++ s))
 ends-line d P g w l s p = rw (line-write d g w l s) (go (lineFault d w))
   where
     go : (c : Option Fault) → Ends P s c (judgement w c l s)
-    go none = (p, refl)
-    go (some f) = refl
+    go none = ends-took p
+    go (some f) = ends-refused refl
 
 -- and what is read behind it
-line-then : {B : Type 0} (Q : B → Type 0) (d : Line) → Sound d → (w : Vals d) (l : ℕ) (s r : List ℕ) (c : Option Fault) (f : Vals d → Parser B)
+line-then : {B : Type 0} {Q : B → Type 0} {r : List ℕ} {c : Option Fault} (d : Line) → Sound d → (w : Vals d) (l : ℕ) (s : List ℕ) (f : Vals d → Parser B)
     → ((l : ℕ) → lineFault d w ≡ none → Ends Q r c (f w l s)) → Ends Q r (orElse (lineFault d w) c) (onto (line d l (write d w ++ s)) f)
-line-then Q d g w l s r c f k =
-    ends-then (λ v. v ≡ w) Q s r (lineFault d w) c (line d l (write d w ++ s)) f (ends-line d (λ v. v ≡ w) g w l s refl) (λ v l n e. rw e (k l n))
+line-then d g w l s f k = ends-then f (ends-line d (λ v. v ≡ w) g w l s refl) (λ v l n e. rw e (k l n))
 
-ends-row : {A : Type 0} (Q : A → Type 0) (d : Line) → Sound d → (w : Vals d) (l : ℕ) (s : List ℕ) (h : Vals d → A) → Q (h w)
-    → Ends Q s (lineFault d w) ((line d >>= λ w. give (h w)) l (write d w ++ s))
-ends-row Q d g w l s h q = ends-map (λ v. Q (h v)) Q s (lineFault d w) (line d l (write d w ++ s)) h (ends-line d (λ v. Q (h v)) g w l s q) (λ a p. p)
+ends-row : {A : Type 0} (Q : A → Type 0) (d : Line) → Sound d → (w : Vals d) (l : ℕ) (s : List ℕ) (h : Vals d → A) → Q (h w) → Ends Q s (lineFault d w) ((line d >>= λ w. give (h w)) l (write d w ++ s))
+ends-row Q d g w l s h q = ends-map h (ends-line d (λ v. Q (h v)) g w l s q) (λ a p. p)
 
 -- ---- rows
 
@@ -118,20 +104,18 @@ ends-rows : {A : Type 0} (d : A) (Q : ℕ → A → Type 0) (f : ℕ → Parser 
     → ((i n l : ℕ) → suc i + n ≡ e → Ends (Q i) (concat g n (suc i) ++ s) (c i) (f i l (g i ++ (concat g n (suc i) ++ s))))
     → (n i : ℕ) → i + n ≡ e → (xs : List A) (l : ℕ) → Ends (Placed d Q n i xs) s (firstOf c n i) (rows f n i xs l (concat g n i ++ s))
 unfolding rows concat firstOf
-ends-rows d Q f g c s e row zero i h xs l = (placed-none d Q i xs, refl)
+ends-rows d Q f g c s e row zero i h xs l = ends-took (placed-none d Q i xs)
 ends-rows d Q f g c s e row (suc n) i h xs l =
     rw (append-assoc (g i) (concat g n (suc i)) s)
-    (ends-then (Q i) (Placed d Q (suc n) i xs) (concat g n (suc i) ++ s) s (c i) (firstOf c n (suc i)) (f i l (g i ++ (concat g n (suc i) ++ s))) _ (row i n l (omega arith)) (λ a k z q.
-    ends-weaken (Placed d Q n (suc i) (set xs i a)) (Placed d Q (suc n) i xs) s (firstOf c n (suc i)) (rows f n (suc i) (set xs i a) k (concat g n (suc i) ++ s)) (λ ys. placed-set d Q n i xs ys a q)
-    (ends-rows d Q f g c s e row n (suc i) (omega arith) (set xs i a) k)))
+    (ends-then _ (row i n l (omega arith)) (λ a k z q.
+    ends-weaken (λ ys. placed-set d Q n i xs ys a q) (ends-rows d Q f g c s e row n (suc i) (omega arith) (set xs i a) k)))
 
 -- rows of one line each, and what is read behind them
-rows-then : {A B : Type 0} (z : A) (Q : ℕ → A → Type 0) (R : B → Type 0) (d : ℕ → Line) → ((i : ℕ) → Sound (d i)) → (w : (i : ℕ) → Vals (d i)) (h : (i : ℕ) → Vals (d i) → A) → ((i : ℕ) → Q i (h i (w i)))
-    → (n : ℕ) (xs : List A) (l : ℕ) (s r : List ℕ) (c : Option Fault) (f : List A → Parser B) → ((ys : List A) (l : ℕ) → Placed z Q n 0 xs ys → Ends R r c (f ys l s))
+rows-then : {A B : Type 0} (z : A) (Q : ℕ → A → Type 0) {R : B → Type 0} (d : ℕ → Line) → ((i : ℕ) → Sound (d i)) → (w : (i : ℕ) → Vals (d i)) (h : (i : ℕ) → Vals (d i) → A) → ((i : ℕ) → Q i (h i (w i)))
+    → (n : ℕ) (xs : List A) (l : ℕ) (s : List ℕ) {r : List ℕ} {c : Option Fault} (f : List A → Parser B) → ((ys : List A) (l : ℕ) → Placed z Q n 0 xs ys → Ends R r c (f ys l s))
     → Ends R r (orElse (firstOf (λ i. lineFault (d i) (w i)) n 0) c) (onto (rows (λ i. line (d i) >>= λ w. give (h i w)) n 0 xs l (concat (λ i. write (d i) (w i)) n 0 ++ s)) f)
-rows-then z Q R d g w h q n xs l s r c f k =
-    ends-then (Placed z Q n 0 xs) R s r (firstOf (λ i. lineFault (d i) (w i)) n 0) c (rows (λ i. line (d i) >>= λ w. give (h i w)) n 0 xs l (concat (λ i. write (d i) (w i)) n 0 ++ s)) f
-    (ends-rows z Q (λ i. line (d i) >>= λ w. give (h i w)) (λ i. write (d i) (w i)) (λ i. lineFault (d i) (w i)) s n (λ i m l e. ends-row (Q i) (d i) (g i) (w i) l (concat (λ i. write (d i) (w i)) m (suc i) ++ s) (h i) (q i)) n 0 (omega arith) xs l)
+rows-then z Q d g w h q n xs l s f k = ends-then f
+    (ends-rows z Q (λ i. line (d i) >>= λ w. give (h i w)) (λ i. write (d i) (w i)) (λ i. lineFault (d i) (w i)) s n (λ i m l e. ends-row (Q i) (d i) (g i) (w i) l _ (h i) (q i)) n 0 (omega arith) xs l)
     (λ ys l e p. k ys l p)
 
 -- ---- nodes
@@ -182,11 +166,6 @@ lacking-ifKey s h f g l = go (after (bytes "node=") s) h
     go differs z = refl
     go broken z = refl
 
-pub all-same : {A : Type 0} (d : A) (n j : ℕ) → getD (replicate n d) j d ≡ d
-all-same d zero j = refl
-all-same d (suc n) zero = refl
-all-same d (suc n) (suc j) = all-same d n j
-
 module _ (t : Table) (q : Proc) where
   abbrev c : Scope
   c = scope t q
@@ -201,93 +180,82 @@ module _ (t : Table) (q : Proc) where
   ends-node : (lo n j l : ℕ) (k : Sort) (w : Vals (fields c k)) (s : List ℕ)
       → Ends (λ x. (x .at ≡ j) × (x .node ≡ nodeOf c k w)) s (lineFault (nodeLine c lo n) (j, (k, w))) (nodeRow c lo n l (nodeText c j (described k w) ++ s))
   unfolding write spell
-  ends-node lo n j l k w s =
-      ends-map (λ v. v ≡ (j, (k, w))) (λ x. (x .at ≡ j) × (x .node ≡ nodeOf c k w)) s (lineFault (nodeLine c lo n) (j, (k, w))) (line (nodeLine c lo n) l (write (nodeLine c lo n) (j, (k, w)) ++ s)) _
-      (ends-line (nodeLine c lo n) (λ v. v ≡ (j, (k, w))) (node-sound c lo n) (j, (k, w)) l s refl)
-      (λ v e. rw e (refl, refl))
+  ends-node lo n j l k w s = ends-row (λ x. (x .at ≡ j) × (x .node ≡ nodeOf c k w)) (nodeLine c lo n) (node-sound c lo n) (j, (k, w)) l s (λ v. record { at = v .0; node = nodeOf c (v .1 .0) (v .1 .1) }) (refl, refl)
 
   -- the fault where a node before i is due, with n places from i on left
-  ends-gap : (P : Numbered → Type 0) (lo n i l : ℕ) (s r : List ℕ) → lo < i → Lacking (after (bytes "node=") s)
+  ends-gap : {P : Numbered → Type 0} {r : List ℕ} (lo n i l : ℕ) (s : List ℕ) → lo < i → Lacking (after (bytes "node=") s)
       → Ends P r (some (gap q n i)) (nodeRow c lo (suc lo) l (concat lines n i ++ s))
   unfolding gap concat line number describe isAbsent lineFault check
-  ends-gap P lo zero i l s r u h = let f = lacking-field (Kind.number lo (suc lo) Index) l s h in rw (f .2) (f .1)
-  ends-gap P lo (suc n) i l s r u h = by-line c (nodeIn q i)
-      (λ a e. rw a (ends-gap P lo n (suc i) l s r (omega arith) h))
+  ends-gap lo zero i l s u h = let f = lacking-field (Kind.number lo (suc lo) Index) l s h in rw (f .2) (ends-refused (f .1))
+  ends-gap lo (suc n) i l s u h = by-line c (nodeIn q i)
+      (λ a e. rw a (ends-gap lo n (suc i) l s (omega arith) h))
       (λ k w a e.
-      let rest = concat lines n (suc i) ++ s in
-      let Here : Numbered → Type 0 = λ x. (x .at ≡ i) × (x .node ≡ nodeOf c k w) in
       let z : lineFault (nodeLine c lo (suc lo)) (i, (k, w)) ≡ some Index = rw (le-leb lo i (omega arith), le-ltb i (suc lo) (omega arith)) in
-      rw (a, e, append-assoc (nodeText c i (described k w)) (concat lines n (suc i)) s)
-      (ends-fault Here P rest r Index (nodeRow c lo (suc lo) l (nodeText c i (described k w) ++ rest)) (rw z at (ends-node lo (suc lo) i l k w rest))))
+      rw (a, e, append-assoc (nodeText c i (described k w)) (concat lines n (suc i)) s) (ends-fault (rw z at (ends-node lo (suc lo) i l k w (concat lines n (suc i) ++ s)))))
 
-  -- what is read from node j's place
+  -- what is read from node j's place, and its fault
   abbrev Read-back : ℕ → Slot → Type 0
   Read-back j x = x .node ≡ back c (d j)
 
+  abbrev faultAt : ℕ → Option Fault
+  faultAt j = placeFault c q j (d j)
+
   ends-open : t .closed ≡ false → (s : List ℕ) (l : ℕ) → Lacking (after (bytes "node=") s)
-      → Ends (Placed noSlot Read-back (q .nodes) 0 noSlots) s (nodesFault t q) (openNodes c l (concat lines (q .nodes) 0 ++ s))
-  ends-open o s l h = ends-rows noSlot Read-back _ lines (λ j. placeFault c q j (d j)) s (q .nodes) row (q .nodes) 0 (omega arith) noSlots l
+      → Ends (Placed noSlot Read-back (q .nodes) 0 noSlots) s (firstOf faultAt (q .nodes) 0) (openNodes c l (concat lines (q .nodes) 0 ++ s))
+  ends-open o s l h = ends-rows noSlot Read-back _ lines faultAt s (q .nodes) row (q .nodes) 0 (omega arith) noSlots l
     where
-      row : (i n l : ℕ) → suc i + n ≡ q .nodes → Ends (Read-back i) (concat lines n (suc i) ++ s) (placeFault c q i (d i)) ((nodeRow c i (suc i) >>= λ x. give (slotOf x)) l (lines i ++ (concat lines n (suc i) ++ s)))
-      row i n l e =
-          let rest = concat lines n (suc i) ++ s in
-          by-line c (nodeIn q i)
+      row : (i n l : ℕ) → suc i + n ≡ q .nodes
+          → Ends (Read-back i) (concat lines n (suc i) ++ s) (faultAt i) ((nodeRow c i (suc i) >>= λ x. give (slotOf x)) l (lines i ++ (concat lines n (suc i) ++ s)))
+      row i n l e = by-line c (nodeIn q i)
           (λ a b.
           let m : q .nodes - suc i ≡ n = omega arith in
           let z : placeFault c q i noLine ≡ some (gap q n (suc i)) = rw (o, m) in
-          rw (b, z) (ends-map (λ x. Read-back i (slotOf x)) (Read-back i) rest (some (gap q n (suc i))) (nodeRow c i (suc i) l rest) slotOf (ends-gap (λ x. Read-back i (slotOf x)) i n (suc i) l s rest (omega arith) h) (λ x h. h)))
-          (λ k w a b. rw b (ends-map (λ x. (x .at ≡ i) × (x .node ≡ nodeOf c k w)) (Read-back i) rest (lineFault (nodeLine c i (suc i)) (i, (k, w))) (nodeRow c i (suc i) l (nodeText c i (described k w) ++ rest)) slotOf (ends-node i (suc i) i l k w rest) (λ x h. rw b (h .1))))
+          rw (b, z) (ends-map {P = λ x. Read-back i (slotOf x)} slotOf (ends-gap i n (suc i) l s (omega arith) h) (λ x p. p)))
+          (λ k w a b. rw b (ends-map slotOf (ends-node i (suc i) i l k w (concat lines n (suc i) ++ s)) (λ x p. rw b (p .1))))
 
   -- closed: the further nodes, with n places from i on, behind the node `last`
   ends-further : t .closed ≡ true → (s : List ℕ) → Lacking (after (bytes "node=") s)
       → (n i f last : ℕ) → i + n ≡ q .nodes → last < i → n ≤ f → (xs : List Slot) → ((j : ℕ) → i ≤ j → getD xs j noSlot ≡ noSlot) → (l : ℕ)
-      → Ends (Placed noSlot Read-back n i xs) s (firstOf (λ j. placeFault c q j (d j)) n i) (furtherNodes c f last xs l (concat lines n i ++ s))
+      → Ends (Placed noSlot Read-back n i xs) s (firstOf faultAt n i) (furtherNodes c f last xs l (concat lines n i ++ s))
   unfolding furtherNodes firstOf concat write after lineFault check
-  ends-further o s h zero i zero last m u v xs b l = (placed-none noSlot Read-back i xs, refl)
-  ends-further o s h zero i (suc f) last m u v xs b l = rw (lacking-ifKey s h) (placed-none noSlot Read-back i xs, refl)
+  ends-further o s h zero i zero last m u v xs b l = ends-took (placed-none noSlot Read-back i xs)
+  ends-further o s h zero i (suc f) last m u v xs b l = rw (lacking-ifKey s h) (ends-took (placed-none noSlot Read-back i xs))
   ends-further o s h (suc n) i zero last m u v xs b l = absurd (omega arith)
   ends-further o s h (suc n) i (suc f) last m u v xs b l = by-line c (nodeIn q i)
       (λ a e.
       let z : placeFault c q i noLine ≡ none = rw (o, lt-ltb 0 i (omega arith)) in
-      rw (e, z) (ends-weaken (Placed noSlot Read-back n (suc i) xs) (Placed noSlot Read-back (suc n) i xs) s (firstOf (λ j. placeFault c q j (d j)) n (suc i)) (furtherNodes c (suc f) last xs l (concat lines n (suc i) ++ s))
-      (λ ys. placed-more noSlot Read-back n i xs xs ys refl (λ j l. refl) (λ l. rw (e, b i (omega arith))))
+      rw (e, z) (ends-weaken (λ ys. placed-more noSlot Read-back n i xs xs ys refl (λ j l. refl) (λ l. rw (e, b i (omega arith))))
       (ends-further o s h n (suc i) (suc f) last (omega arith) (omega arith) (omega arith) xs (λ j g. b j (omega arith)) l)))
       (λ k w a e.
-      let rest = concat lines n (suc i) ++ s in
-      let z : lineFault (nodeLine c (suc last) (c .nodes)) (i, (k, w)) ≡ lineFault (nodeLine c i (suc i)) (i, (k, w)) = rw (le-leb (suc last) i (omega arith), lt-ltb i (q .nodes) (omega arith), le-leb i i (omega arith), lt-ltb i (suc i) (omega arith)) in
+      let z : lineFault (nodeLine c (suc last) (c .nodes)) (i, (k, w)) ≡ lineFault (nodeLine c i (suc i)) (i, (k, w)) =
+      rw (le-leb (suc last) i (omega arith), lt-ltb i (q .nodes) (omega arith), le-leb i i (omega arith), lt-ltb i (suc i) (omega arith))
+      in
       rw (e, append-assoc (nodeText c i (described k w)) (concat lines n (suc i)) s)
-      (ends-then (λ x. (x .at ≡ i) × (x .node ≡ nodeOf c k w)) (Placed noSlot Read-back (suc n) i xs) rest s (lineFault (nodeLine c i (suc i)) (i, (k, w))) (firstOf (λ j. placeFault c q j (d j)) n (suc i))
-      (nodeRow c (suc last) (c .nodes) l (nodeText c i (described k w) ++ rest)) _ (rw z at (ends-node (suc last) (c .nodes) i l k w rest)) (λ x y g p.
-      rw (p .0) (ends-weaken (Placed noSlot Read-back n (suc i) (set xs i (slotOf x))) (Placed noSlot Read-back (suc n) i xs) s (firstOf (λ j. placeFault c q j (d j)) n (suc i)) (furtherNodes c f i (set xs i (slotOf x)) y rest)
-      (λ ys. placed-set noSlot Read-back n i xs ys (slotOf x) (rw e (p .1)))
+      (ends-then _ (rw z at (ends-node (suc last) (c .nodes) i l k w (concat lines n (suc i) ++ s))) (λ x y g p.
+      rw (p .0) (ends-weaken (λ ys. placed-set noSlot Read-back n i xs ys (slotOf x) (rw e (p .1)))
       (ends-further o s h n (suc i) f i (omega arith) (omega arith) (omega arith) (set xs i (slotOf x)) (λ j g. getD-set-other xs i j (slotOf x) noSlot (λ p. omega arith) ∙ b j (omega arith)) y)))))
 
   -- closed, with suc m places
   ends-closed : t .closed ≡ true → (m : ℕ) → q .nodes ≡ suc m → (s : List ℕ) (l : ℕ) → Lacking (after (bytes "node=") s)
-      → Ends (Placed noSlot Read-back (suc m) 0 noSlots) s (firstOf (λ j. placeFault c q j (d j)) (suc m) 0) (closedNodes c l (concat lines (suc m) 0 ++ s))
+      → Ends (Placed noSlot Read-back (suc m) 0 noSlots) s (firstOf faultAt (suc m) 0) (closedNodes c l (concat lines (suc m) 0 ++ s))
   unfolding firstOf concat
-  ends-closed o m e s l h =
-      let rest = concat lines m 1 ++ s in
-      by-line c (nodeIn q 0)
+  ends-closed o m e s l h = by-line c (nodeIn q 0)
       (λ a b.
-      let z : q .nodes - 1 ≡ m = omega arith in
-      let f : placeFault c q 0 noLine ≡ some (gap q m 1) = rw (o, z) in
-      rw (b, f) (ends-then (λ x. Unit {0}) (Placed noSlot Read-back (suc m) 0 noSlots) s s (some (gap q m 1)) (firstOf (λ j. placeFault c q j (d j)) m 1) (nodeRow c 0 1 l rest) _
-      (ends-gap (λ x. Unit {0}) 0 m 1 l s s (omega arith) h) (λ x y g p. no (cc))))
+      let k : q .nodes - 1 ≡ m = omega arith in
+      let z : placeFault c q 0 noLine ≡ some (gap q m 1) = rw (o, k) in
+      rw (b, z) (ends-last {P = λ x. ⊥} {s = []} _ (ends-gap 0 m 1 l s (omega arith) h) (λ x y p. absurd {0} p)))
       (λ k w a b.
       rw (b, append-assoc (nodeText c 0 (described k w)) (concat lines m 1) s)
-      (ends-then (λ x. (x .at ≡ 0) × (x .node ≡ nodeOf c k w)) (Placed noSlot Read-back (suc m) 0 noSlots) rest s (lineFault (nodeLine c 0 1) (0, (k, w))) (firstOf (λ j. placeFault c q j (d j)) m 1)
-      (nodeRow c 0 1 l (nodeText c 0 (described k w) ++ rest)) _ (ends-node 0 1 0 l k w rest) (λ x y g p.
-      ends-weaken (Placed noSlot Read-back m 1 (set noSlots 0 (slotOf x))) (Placed noSlot Read-back (suc m) 0 noSlots) s (firstOf (λ j. placeFault c q j (d j)) m 1) (furtherNodes c (q .nodes) 0 (set noSlots 0 (slotOf x)) y rest)
-      (λ ys. placed-set noSlot Read-back m 0 noSlots ys (slotOf x) (rw b (p .1)))
+      (ends-then _ (ends-node 0 1 0 l k w (concat lines m 1 ++ s)) (λ x y g p.
+      ends-weaken (λ ys. placed-set noSlot Read-back m 0 noSlots ys (slotOf x) (rw b (p .1)))
       (ends-further o s h m 1 (q .nodes) 0 (omega arith) (omega arith) (omega arith) (set noSlots 0 (slotOf x)) (λ j u. getD-set-other noSlots 0 j (slotOf x) noSlot (λ p. omega arith) ∙ all-same noSlot 32 j) y))))
 
   ends-nodes : (b : Bool) → t .closed ≡ b → 1 ≤ q .nodes → (s : List ℕ) (l : ℕ) → Lacking (after (bytes "node=") s)
-      → Ends (Placed noSlot Read-back (q .nodes) 0 noSlots) s (nodesFault t q) (nodesOf c b l (concat lines (q .nodes) 0 ++ s))
+      → Ends (Placed noSlot Read-back (q .nodes) 0 noSlots) s (firstOf faultAt (q .nodes) 0) (nodesOf c b l (concat lines (q .nodes) 0 ++ s))
   ends-nodes false o m s l h = ends-open o s l h
   ends-nodes true o m s l h =
       let e : q .nodes ≡ suc (q .nodes - 1) = omega arith in
-      subst (λ (k : ℕ). Ends (Placed noSlot Read-back k 0 noSlots) s (firstOf (λ j. placeFault c q j (d j)) k 0) (closedNodes c l (concat lines k 0 ++ s))) (sym e) (ends-closed o (q .nodes - 1) e s l h)
+      subst (λ (k : ℕ). Ends (Placed noSlot Read-back k 0 noSlots) s (firstOf faultAt k 0) (closedNodes c l (concat lines k 0 ++ s))) (sym e) (ends-closed o (q .nodes - 1) e s l h)
 
 -- ---- procedures
 
@@ -303,10 +271,6 @@ vals-scope : (closed : Bool) (procs sems queues i : ℕ) (q : Proc)
 vals-scope false procs sems queues i q = refl
 vals-scope true procs sems queues i q = refl
 
-vals-nodes : (closed : Bool) (i : ℕ) (q : Proc) → lineFault (procLine closed i) (procVals closed i q) ≡ none → 1 ≤ q .nodes
-vals-nodes false i q e = let h = line-is (procLine false i) (procVals false i q) .0 e in omega (arith, h .1 .1 .1 .0 .0)
-vals-nodes true i q e = let h = line-is (procLine true i) (procVals true i q) .0 e in omega (arith, h .1 .1 .1 .0 .0)
-
 vals-same : (t : Table) (closed : Bool) → t .closed ≡ closed → (i : ℕ) (q : Proc) (l : List Slot) → Placed noSlot (Read-back t q) (q .nodes) 0 noSlots l → ProcSame t q (procOf closed i (procVals closed i q) l)
 vals-same t false o i q l h = record { params = refl; nodes = refl; drop = λ e. no (cc); node = λ j u v. h .inside j (omega arith) (omega arith) v }
 vals-same t true o i q l h = record { params = refl; nodes = refl; drop = λ e. refl; node = λ j u v. h .inside j (omega arith) (omega arith) v }
@@ -319,10 +283,8 @@ ends-proc t p l s h =
     let v = procVals b p q in
     let nodes = concat (lines t q) (q .nodes) 0 in
     rw (append-assoc (write (procLine b p) v) nodes s)
-    (line-then (ProcSame t q) (procLine b p) (proc-sound b p) v l (nodes ++ s) s (nodesFault t q) _ (λ l n.
-    rw (vals-scope b (t .procs) (t .sems) (t .queues) p q)
-    (ends-map (Placed noSlot (Read-back t q) (q .nodes) 0 noSlots) (ProcSame t q) s (nodesFault t q) (nodesOf (scope t q) b l (nodes ++ s)) (λ l. procOf b p v l)
-    (ends-nodes t q b refl (vals-nodes b p q n) s l h) (λ l k. vals-same t b refl p q l k))))
+    (line-then (procLine b p) (proc-sound b p) v l (nodes ++ s) _ (λ l n.
+    rw (vals-scope b (t .procs) (t .sems) (t .queues) p q) (ends-map _ (ends-nodes t q b refl (omega (arith, proc-is b p q .0 n .3)) s l h) (λ xs k. vals-same t b refl p q xs k))))
 
 -- what follows a procedure's lines
 procs-lacking : (t : Table) (n i : ℕ) → Lacking (after (bytes "node=") (concat (procText t) n i ++ []))
@@ -358,22 +320,20 @@ ends-table t =
     let queues = concat (λ i. write (queueLine b i) (queueVals b i (queueAt t i))) (t .queues) 0 ++ procs in
     let sems = concat (λ i. write (semLine i) (semVals i)) (t .sems) 0 ++ queues in
     let tasks = concat (λ i. write (taskLine (t .procs) i) (taskVals i)) (t .tasks) 0 ++ sems in
-    line-then (Same t) headLine head-sound (t .trap, (b, tt)) 1 (write countsLine counts ++ tasks) [] _ _ (λ l e.
-    line-then (Same t) countsLine counts-sound counts l tasks [] _ _ (λ l e.
-    rows-then noTask (λ i x. x .top ≡ taskAt t i .top) (Same t) (taskLine (t .procs)) (task-sound (t .procs)) taskVals (λ i w. record { top = w .1 .0 }) (λ i. refl) (t .tasks) (replicate 4 noTask) l sems [] _ _ (λ ts l h₁.
-    rows-then noSem (λ i x. x .count ≡ semAt t i .count) (Same t) semLine sem-sound semVals (λ i w. record { count = w .1 .0 }) (λ i. refl) (t .sems) (replicate 8 noSem) l queues [] _ _ (λ ss l h₂.
-    rows-then noQueue (λ i x. b ≡ true → x .blank ≡ queueAt t i .blank) (Same t) (queueLine b) (queue-sound b) (λ i. queueVals b i (queueAt t i)) (queueOf b) (λ i. vals-queue b i (queueAt t i)) (t .queues) (replicate 8 noQueue) l procs [] _ _ (λ qs l h₃.
-    let ps = ends-rows outside (λ p. ProcSame t (procAt t p)) (procRow b (t .procs) (t .sems) (t .queues)) (procText t) (procFault t) [] (t .procs) (λ i n l e. ends-proc t i l (concat (procText t) n (suc i) ++ []) (procs-lacking t n (suc i))) (t .procs) 0 (omega arith) (replicate 8 noProc) l in
-    ends-last (Placed outside (λ p. ProcSame t (procAt t p)) (t .procs) 0 (replicate 8 noProc)) (Same t) [] [] (firstOf (procFault t) (t .procs) 0) (rows (procRow b (t .procs) (t .sems) (t .queues)) (t .procs) 0 (replicate 8 noProc) l procs) _ (rw append-nil at ps) (λ ps l h₄. (
-      record {
-        closed = refl;
-        tasks = refl;
-        procs = refl;
-        sems = refl;
-        queues = refl;
-        top = λ i l u. h₁ .inside i (omega arith) (omega arith) u;
-        blank = λ i l u. h₃ .inside i (omega arith) (omega arith) u;
-        proc = λ p l u. h₄ .inside p (omega arith) (omega arith) u;
-      },
-      refl,
-    )))))))
+    line-then headLine head-sound (t .trap, (b, tt)) 1 (write countsLine counts ++ tasks) _ (λ l e.
+    line-then countsLine counts-sound counts l tasks _ (λ l e.
+    rows-then noTask (λ i x. x .top ≡ taskAt t i .top) (taskLine (t .procs)) (task-sound (t .procs)) taskVals (λ i w. record { top = w .1 .0 }) (λ i. refl) (t .tasks) (replicate 4 noTask) l sems _ (λ ts l h₁.
+    rows-then noSem (λ i x. x .count ≡ semAt t i .count) semLine sem-sound semVals (λ i w. record { count = w .1 .0 }) (λ i. refl) (t .sems) (replicate 8 noSem) l queues _ (λ ss l h₂.
+    rows-then noQueue (λ i x. b ≡ true → x .blank ≡ queueAt t i .blank) (queueLine b) (queue-sound b) (λ i. queueVals b i (queueAt t i)) (queueOf b) (λ i. vals-queue b i (queueAt t i)) (t .queues) (replicate 8 noQueue) l procs _ (λ qs l h₃.
+    let ps = ends-rows outside (λ p. ProcSame t (procAt t p)) (procRow b (t .procs) (t .sems) (t .queues)) (procText t) (procFault t) [] (t .procs) (λ i n l e. ends-proc t i l _ (procs-lacking t n (suc i))) (t .procs) 0 (omega arith) (replicate 8 noProc) l in
+    ends-last _ (rw append-nil at ps) (λ ps l h₄. ends-took (
+    record {
+      closed = refl;
+      tasks = refl;
+      procs = refl;
+      sems = refl;
+      queues = refl;
+      top = λ i l u. h₁ .inside i (omega arith) (omega arith) u;
+      blank = λ i l u. h₃ .inside i (omega arith) (omega arith) u;
+      proc = λ p l u. h₄ .inside p (omega arith) (omega arith) u;
+    })))))))

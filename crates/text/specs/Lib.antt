@@ -12,8 +12,9 @@ pub mod LineLaws
 pub mod MaskLists
 pub mod Structure
 pub mod Right
+pub mod RightLaws
 pub mod Valid
-pub mod EndsLaws
 pub mod LinedLaws
+pub mod EndsLaws
 pub mod StructureLaws
 pub mod ValidLaws

@@ -1,16 +1,16 @@
 -- The lines of a table have no fault if and only if the table is `Lined`.
-use Prim.Native.Nat.{ℕ, zero, suc, _+_, _-_, _≤_, _<_, min}
-use mathlib.Core.Path.{_≡_, refl, sym, _∙_, ap}
-use mathlib.Core.Logic.{_↔_, _≢_, inl, inr}
-use mathlib.Core.List.{List, [], _∷_, _++_, map, List·Memᴰ, List·Memᴰ·append-cases, List·Memᴰ·not-nil}
+use Prim.Native.Nat.{ℕ, zero, suc, _+_, _-_, _≤_, _<_}
+use mathlib.Core.Path.{_≡_, refl, _∙_, ap}
+use mathlib.Core.Logic.{_↔_, inl, inr}
+use mathlib.Core.List.{List, [], _∷_, _++_, List·Memᴰ·append-cases, List·Memᴰ·not-nil}
 use mathlib.Core.Option.{Option, none, some}
-use mathlib.Core.Bool.{Bool, true, false, _&&_, not, false≢true}
+use mathlib.Core.Bool.{Bool, true, false, false≢true}
 use native.Mathlib.Omega.{arith}
 use lib.Dec.{ltb, eqb}
-use lib.ListN.{length, getD, take, replicate, length-take, length-append, length-replicate, length-map, List·getD-map}
+use lib.ListN.{length, getD, take, replicate, length-take, length-replicate, length-map, List·getD-map}
 use lib.Seq.{getD-take}
-use borrow.Author.Tests.{ltb-true, lt-ltb, eqb-true, eqb-false, eq-eqb, ne-eqb, not-true}
-use Rattle.table.specs.Mask.{pick, bit, membersFrom, members}
+use borrow.Author.Tests.{ltb-true, lt-ltb, eqb-true, eqb-false, not-true}
+use Rattle.table.specs.Mask.{bit, membersFrom, members}
 use Rattle.table.specs.Table.{removed, argPlaces, argAt, taskAt, semAt, queueAt, procAt, nodeIn, arcTo, arcNo, arcs}
 use Rattle.table.specs.declared.Args.{Args}
 use Rattle.table.specs.declared.Node.{Node}
@@ -20,16 +20,15 @@ use Rattle.table.specs.declared.Queue.{Queue}
 use Rattle.table.specs.declared.Table.{Table}
 use Rattle.text.specs.declared.Fault.{Fault}
 use Rattle.text.specs.NumberLaws.{cases}
-use Rattle.text.specs.ValueLaws.{no}
-use Rattle.text.specs.Value.{orElse, Sort, start, set, test, read, call, wait, signal, send, recv, assert, out, return, variable, arguments, isOne, check}
+use Rattle.text.specs.Value.{orElse, Sort, start, set, test, read, call, wait, signal, send, recv, assert, out, return, arguments, isOne}
 use Rattle.text.specs.Line.{Vals, lineFault}
 use Rattle.text.specs.Format.{headLine, countsLine, taskLine, semLine, queueLine, procLine, Scope, targets, nodeLine, fields, nameOf, argNames, describe}
 use Rattle.text.specs.Writer.{queueVals, procVals, scope}
 use Rattle.text.specs.MaskLists.{members-ascends}
-use Rattle.text.specs.Right.{Sorted, Right, Rights, NameIn, Within, unless-is, else-is, and-is, line-is}
+use Rattle.text.specs.Right.{Sorted, Right, Rights, NameIn, Within}
+use Rattle.text.specs.RightLaws.{unless-is, else-is, and-is, line-is}
 use Rattle.text.specs.Structure.{firstOf, placeFault, nodesFault, procFault, headFault, countsFault, tasksFault, semsFault, queuesFault, procsFault, linesFault}
 use Rattle.text.specs.Valid.{Named, Arc, NodeValid, ProcValid, Lined}
-use Rattle.text.specs.EndsLaws.{all-same}
 
 -- ---- the first fault of n things
 
@@ -61,6 +60,11 @@ name-is : (c : Scope) (v : ℕ) → NameIn (c .closed) (c .vars) (nameOf v) ↔ 
 name-is c v = cases (eqb v removed)
     (λ q. rw q (λ h. (λ e. h, λ n. absurd (n (eqb-true v removed q))), λ h. h .0 (eqb-true v removed q)))
     (λ q. rw q (λ h. (λ e. absurd (eqb-false v removed q e), λ n. h), λ h. h .1 (eqb-false v removed q)))
+
+pub all-same : {A : Type 0} (d : A) (n j : ℕ) → getD (replicate n d) j d ≡ d
+all-same d zero j = refl
+all-same d (suc n) zero = refl
+all-same d (suc n) (suc j) = all-same d n j
 
 padded : (xs : List ℕ) (n i : ℕ) → getD (xs ++ replicate n 0) i 0 ≡ getD xs i 0
 padded [] n i = all-same 0 n i
@@ -157,10 +161,10 @@ arcs-within c n Return v = within-append 1 (c .nodes) (members 0) (members 0) (w
 -- ---- procedures
 
 -- what a procedure's line says of it
-abbrev LineValid : Bool → Proc → Type 0
+abbrev pub LineValid : Bool → Proc → Type 0
 LineValid c q = (q .params ≤ 4) × (q .params ≤ q .vars) × (q .vars ≤ 16) × (2 ≤ q .nodes) × (q .nodes ≤ 32) × (c ≡ true → Within 0 (q .params) (members (q .drop)))
 
-proc-is : (c : Bool) (p : ℕ) (q : Proc) → (lineFault (procLine c p) (procVals c p q) ≡ none) ↔ LineValid c q
+pub proc-is : (c : Bool) (p : ℕ) (q : Proc) → (lineFault (procLine c p) (procVals c p q) ≡ none) ↔ LineValid c q
 proc-is false p q = (
   λ e. let h = line-is (procLine false p) (procVals false p q) .0 e in (omega arith, omega arith, omega arith, omega arith, omega arith, λ o. absurd (false≢true o)),
   λ v. line-is (procLine false p) (procVals false p q) .1 ((omega arith, omega arith), ((omega arith, omega arith), ((omega arith, omega arith), ((omega arith, omega arith), tt)))),

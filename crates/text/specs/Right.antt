@@ -1,26 +1,17 @@
--- Values and lines without a fault, in words: `Right` says of each kind of value what no fault of it means.
-use Prim.Native.Nat.{ℕ, zero, suc, _≤_, _<_}
-use mathlib.Core.Path.{_≡_, refl, sym}
-use mathlib.Core.Logic.{_↔_}
-use mathlib.Core.List.{List, [], _∷_, List·Memᴰ, List·Memᴰ·head, List·Memᴰ·tail, List·Memᴰ·not-nil}
+-- What is right: of each kind of value what it means that it has no fault.
+use Prim.Native.Nat.{ℕ, _≤_, _<_}
+use mathlib.Core.Path.{_≡_}
+use mathlib.Core.List.{List, List·Memᴰ}
 use mathlib.Core.Option.{Option, none, some}
-use mathlib.Core.Bool.{Bool, true, false, _&&_, _||_, not, false≢true}
-use native.Mathlib.Omega.{arith}
-use lib.Dec.{ltb, leb}
+use mathlib.Core.Bool.{Bool, true, false}
 use lib.IntN.{pos, negsuc}
 use lib.ListN.{length, getD}
-use borrow.Author.Tests.{ltb-true, lt-ltb, leb-true, le-leb}
 use Rattle.table.specs.declared.Operand.{Operand}
 use Rattle.table.specs.declared.Operand.the-variants.{Var, Const}
 use Rattle.table.specs.declared.Op.{Op}
 use Rattle.table.specs.declared.Op.the-variants.{Add, Sub, And, Or, Xor, Shr, Lt, Eq}
-use Rattle.text.specs.declared.Fault.{Fault}
-use Rattle.text.specs.NumberLaws.{and-left, and-right}
-use Rattle.text.specs.ValueLaws.{no}
-use Rattle.text.specs.Value.{Sort, start, set, test, read, call, wait, signal, send, recv, assert, out, return, Kind, number, choice, sort, operation, operand, variable, ascending, arguments, Of, unless, orElse, sortFault, opFault, operandFault, variableFault, ascends, within, isOne, noneRemoved, allDeclared, check}
-use Rattle.text.specs.Line.{Line, end, field, Vals, lineFault}
-
--- ---- what is right
+use Rattle.text.specs.Value.{Sort, start, set, test, read, call, wait, signal, send, recv, assert, out, return, Kind, number, choice, sort, operation, operand, variable, ascending, arguments, Of, ascends, isOne}
+use Rattle.text.specs.Line.{Line, end, field, Vals}
 
 -- node 0 is the only start, and only an open table reads
 abbrev pub Sorted : Bool → ℕ → Sort → Type 0
@@ -79,139 +70,3 @@ Right (arguments c n) v = (i : ℕ) → i < length v → NameIn c n (getD v i (s
 abbrev pub Rights : (d : Line) → Vals d → Type 0
 Rights end w = Unit {0}
 Rights (field key k next) w = Right k (w .0) × Rights (next (w .0)) (w .1)
-
--- ---- the first of some faults
-
-pub unless-is : (b : Bool) (f : Fault) → (unless b f ≡ none) ↔ (b ≡ true)
-unless-is true f = (λ e. refl, λ e. refl)
-unless-is false f = (λ e. no (cc), λ e. absurd (false≢true e))
-
-pub else-is : (a b : Option Fault) → (orElse a b ≡ none) ↔ ((a ≡ none) × (b ≡ none))
-else-is none b = (λ e. (refl, e), λ e. e .1)
-else-is (some f) b = (λ e. no (cc), λ e. no (cc (e .0)))
-
-pub and-is : (a b : Bool) → (a && b ≡ true) ↔ ((a ≡ true) × (b ≡ true))
-and-is a b = (λ e. (and-left a b e, and-right a b e), λ e. rw (e .0) (e .1))
-
--- ---- a value has no fault if and only if it is right
-
-sort-is : (c : Bool) (j : ℕ) (v : Sort) → (sortFault c j v ≡ none) ↔ Sorted c j v
-sort-is c zero start = (λ e. refl, λ h. refl)
-sort-is c (suc j) start = (λ e. no (cc), λ h. absurd (omega arith))
-sort-is c zero set = (λ e. no (cc), λ h. absurd (omega arith))
-sort-is c (suc j) set = (λ e. omega arith, λ h. refl)
-sort-is c zero test = (λ e. no (cc), λ h. absurd (omega arith))
-sort-is c (suc j) test = (λ e. omega arith, λ h. refl)
-sort-is false zero read = (λ e. no (cc), λ h. absurd (omega arith))
-sort-is false (suc j) read = (λ e. (omega arith, refl), λ h. refl)
-sort-is true j read = (λ e. no (cc), λ h. absurd (false≢true (sym (h .1))))
-sort-is c zero call = (λ e. no (cc), λ h. absurd (omega arith))
-sort-is c (suc j) call = (λ e. omega arith, λ h. refl)
-sort-is c zero wait = (λ e. no (cc), λ h. absurd (omega arith))
-sort-is c (suc j) wait = (λ e. omega arith, λ h. refl)
-sort-is c zero signal = (λ e. no (cc), λ h. absurd (omega arith))
-sort-is c (suc j) signal = (λ e. omega arith, λ h. refl)
-sort-is c zero send = (λ e. no (cc), λ h. absurd (omega arith))
-sort-is c (suc j) send = (λ e. omega arith, λ h. refl)
-sort-is c zero recv = (λ e. no (cc), λ h. absurd (omega arith))
-sort-is c (suc j) recv = (λ e. omega arith, λ h. refl)
-sort-is c zero assert = (λ e. no (cc), λ h. absurd (omega arith))
-sort-is c (suc j) assert = (λ e. omega arith, λ h. refl)
-sort-is c zero out = (λ e. no (cc), λ h. absurd (omega arith))
-sort-is c (suc j) out = (λ e. omega arith, λ h. refl)
-sort-is c zero return = (λ e. no (cc), λ h. absurd (omega arith))
-sort-is c (suc j) return = (λ e. omega arith, λ h. refl)
-
-op-is : (t : Bool) (v : Op) → (opFault t v ≡ none) ↔ Fits t v
-op-is false v = (λ e. tt, λ h. refl)
-op-is true Add = (λ e. no (cc), λ h. absurd h)
-op-is true Sub = (λ e. no (cc), λ h. absurd h)
-op-is true And = (λ e. no (cc), λ h. absurd h)
-op-is true Or = (λ e. no (cc), λ h. absurd h)
-op-is true Xor = (λ e. no (cc), λ h. absurd h)
-op-is true Shr = (λ e. no (cc), λ h. absurd h)
-op-is true Lt = (λ e. tt, λ h. refl)
-op-is true Eq = (λ e. tt, λ h. refl)
-
-below-is : (v n : ℕ) (f : Fault) → (unless (ltb v n) f ≡ none) ↔ (v < n)
-below-is v n f = (λ e. ltb-true v n (unless-is (ltb v n) f .0 e), λ h. unless-is (ltb v n) f .1 (lt-ltb v n h))
-
-upto-is : (v n : ℕ) (f : Fault) → (unless (leb v n) f ≡ none) ↔ (v ≤ n)
-upto-is v n f = (λ e. leb-true v n (unless-is (leb v n) f .0 e), λ h. unless-is (leb v n) f .1 (le-leb v n h))
-
-operand-is : (n : ℕ) (v : Operand) → (operandFault n v ≡ none) ↔ OperandIn n v
-operand-is n (Var v) = below-is v n _
-operand-is n (Const (pos x)) = upto-is x 2147483647 _
-operand-is n (Const (negsuc x)) = upto-is x 2147483647 _
-
-variable-is : (c : Bool) (n : ℕ) (v : Option ℕ) → (variableFault c n v ≡ none) ↔ NameIn c n v
-variable-is c n none = unless-is c _
-variable-is c n (some v) = below-is v n _
-
-range-is : (lo v n : ℕ) → (leb lo v && ltb v n ≡ true) ↔ ((lo ≤ v) × (v < n))
-range-is lo v n = (λ e. (leb-true lo v (and-left (leb lo v) (ltb v n) e), ltb-true v n (and-right (leb lo v) (ltb v n) e)), λ h. rw (le-leb lo v (h .0)) (lt-ltb v n (h .1)))
-
-within-all : (lo n : ℕ) (xs : List ℕ) → within lo n xs ≡ true → Within lo n xs
-unfolding within
-within-all lo n [] e m d = absurd (List·Memᴰ·not-nil d)
-within-all lo n (x ∷ xs) e m (List·Memᴰ·head p) = rw p (range-is lo x n .0 (and-left (leb lo x && ltb x n) (within lo n xs) e))
-within-all lo n (x ∷ xs) e m (List·Memᴰ·tail d) = within-all lo n xs (and-right (leb lo x && ltb x n) (within lo n xs) e) m d
-
-all-within : (lo n : ℕ) (xs : List ℕ) → Within lo n xs → within lo n xs ≡ true
-unfolding within
-all-within lo n [] f = refl
-all-within lo n (x ∷ xs) f = rw (range-is lo x n .1 (f x (List·Memᴰ·head refl)), all-within lo n xs (λ m d. f m (List·Memᴰ·tail d)))
-
--- each argument is right by itself
-names-all : (c : Bool) (n : ℕ) (xs : List (Option ℕ)) → c || noneRemoved xs ≡ true → allDeclared n xs ≡ true → (i : ℕ) → i < length xs → NameIn c n (getD xs i (some 0))
-unfolding noneRemoved allDeclared
-names-all c n [] r a i l = absurd (omega arith)
-names-all true n (none ∷ xs) r a zero l = refl
-names-all true n (none ∷ xs) r a (suc i) l = names-all true n xs refl a i (omega arith)
-names-all false n (none ∷ xs) r a i l = absurd (false≢true r)
-names-all c n (some v ∷ xs) r a zero l = ltb-true v n (and-left (ltb v n) (allDeclared n xs) a)
-names-all c n (some v ∷ xs) r a (suc i) l = names-all c n xs r (and-right (ltb v n) (allDeclared n xs) a) i (omega arith)
-
-all-names : (c : Bool) (n : ℕ) (xs : List (Option ℕ)) → ((i : ℕ) → i < length xs → NameIn c n (getD xs i (some 0))) → (c || noneRemoved xs ≡ true) × (allDeclared n xs ≡ true)
-unfolding noneRemoved allDeclared
-all-names true n [] f = (refl, refl)
-all-names false n [] f = (refl, refl)
-all-names c n (none ∷ xs) f = let ih = all-names c n xs (λ i l. f (suc i) (omega arith)) in (rw (f 0 (omega arith)), ih .1)
-all-names c n (some v ∷ xs) f = let ih = all-names c n xs (λ i l. f (suc i) (omega arith)) in (ih .0, rw (lt-ltb v n (f 0 (omega arith))) (ih .1))
-
-check-right : (k : Kind) (v : Of k) → check k v ≡ none → Right k v
-unfolding check
-check-right (number lo n f) v e = range-is lo v n .0 (unless-is _ f .0 e)
-check-right (choice a b) v e = tt
-check-right (sort c j) v e = sort-is c j v .0 e
-check-right (operation t) v e = op-is t v .0 e
-check-right (operand n) v e = operand-is n v .0 e
-check-right (variable c n) v e = variable-is c n v .0 e
-check-right (ascending one lo n) v e =
-    let h = else-is _ _ .0 e in
-    let a = and-is (ascends v) (not one || isOne v) .0 (unless-is _ _ .0 (h .0)) in
-    (a .0, λ o. rw o at (a .1), within-all lo n v (unless-is _ _ .0 (h .1)))
-check-right (arguments c n) v e = let h = else-is _ _ .0 e in names-all c n v (unless-is _ _ .0 (h .0)) (unless-is _ _ .0 (h .1))
-
-right-check : (k : Kind) (v : Of k) → Right k v → check k v ≡ none
-unfolding check
-right-check (number lo n f) v h = unless-is _ f .1 (range-is lo v n .1 h)
-right-check (choice a b) v h = refl
-right-check (sort c j) v h = sort-is c j v .1 h
-right-check (operation t) v h = op-is t v .1 h
-right-check (operand n) v h = operand-is n v .1 h
-right-check (variable c n) v h = variable-is c n v .1 h
-right-check (ascending one lo n) v h = rw (h .0, one-of one (h .1), all-within lo n v (h .2))
-  where
-    one-of : (one : Bool) → (one ≡ true → isOne v ≡ true) → not one || isOne v ≡ true
-    one-of true f = f refl
-    one-of false f = refl
-right-check (arguments c n) v h = let a = all-names c n v h in rw (a .0, a .1)
-
--- a line has no fault if and only if its values are right
-pub line-is : (d : Line) (w : Vals d) → (lineFault d w ≡ none) ↔ Rights d w
-unfolding lineFault
-line-is end w = (λ e. tt, λ h. refl)
-line-is (field key k next) w =
-    let ih = line-is (next (w .0)) (w .1) in
-    (λ e. let h = else-is (check k (w .0)) (lineFault (next (w .0)) (w .1)) .0 e in (check-right k (w .0) (h .0), ih .0 (h .1)), λ h. rw (right-check k (w .0) (h .0)) (ih .1 (h .1)))

@@ -1,15 +1,14 @@
 -- The fault of a hand-made table is the fault from its parts.
 use Prim.Native.Nat.{ℕ, zero, suc, _+_, _≤_, _<_, min}
 use mathlib.Core.Path.{_≡_, refl, sym, _∙_, ap}
-use mathlib.Core.List.{List, [], _∷_, _++_, List·Memᴰ, List·Memᴰ·head, List·Memᴰ·tail}
+use mathlib.Core.List.{List, [], _∷_, List·Memᴰ·head, List·Memᴰ·tail}
 use mathlib.Core.Option.{Option, none, some}
 use mathlib.Core.Bool.{Bool, true, false, _&&_, _||_, not}
 use native.Mathlib.Omega.{arith}
 use lib.Dec.{eqb}
-use lib.ListN.{length, getD}
 use borrow.Author.Tests.{eqb-true, ne-eqb}
-use Rattle.table.specs.Mask.{pick, bit, membersFrom, members}
-use Rattle.table.specs.Table.{removed, argAt, taskAt, queueAt, procAt, nodeIn, nodeAt, arcTo, arcNo, arcs, isAbsent}
+use Rattle.table.specs.Mask.{bit}
+use Rattle.table.specs.Table.{removed, argAt, taskAt, queueAt, procAt, nodeAt, arcTo, arcNo, arcs, isAbsent}
 use Rattle.table.specs.declared.Args.{Args}
 use Rattle.table.specs.declared.Node.{Node}
 use Rattle.table.specs.declared.Node.the-variants.{Absent, Start, Set, Test, Read, Call, Wait, Signal, Send, Recv, Assert, Out, Return}
@@ -20,16 +19,16 @@ use Rattle.text.specs.declared.Fault.the-variants.{Arguments, Closing, U
 use Rattle.text.specs.Fault.{number}
 use Rattle.text.specs.NumberLaws.{cases, byOrder}
 use Rattle.text.specs.Value.{unless, orElse}
-use Rattle.text.specs.Line.{Outcome, took, refused}
-use Rattle.text.specs.Format.{Scope, setOf, variableOf, nameOf, argOf, argsOf, argNames, nodeOf, Described, noLine, described, describe}
-use Rattle.text.specs.Reader.{table, allBelow, allPresent, isRemoved, iff, countRight, removedRight, nodeFault, taskFault, concat, nodeLate, procLate, late, Result, good, bad, firstLate, resultOf, readLines}
+use Rattle.text.specs.Line.{Outcome}
+use Rattle.text.specs.Format.{Scope, variableOf, nameOf, argOf, argsOf, argNames, nodeOf, describe}
+use Rattle.text.specs.Reader.{table, allBelow, allPresent, isRemoved, iff, countRight, removedRight, nodeFault, taskFault, concat, nodeLate, procLate, late, firstLate, resultOf, readLines}
 use Rattle.text.specs.Writer.{text, scope, tidy, faultIn, fault}
 use Rattle.text.specs.MaskLists.{bit-again, members-again}
 use Rattle.text.specs.Right.{Within}
 use Rattle.text.specs.Structure.{firstIn, linesFault, tableFault, numbered}
-use Rattle.text.specs.Valid.{NodeValid, ProcValid, Lined}
+use Rattle.text.specs.Valid.{NodeValid, Lined}
 use Rattle.text.specs.LinedLaws.{names-length, name-at, arcs-within, lined-of}
-use Rattle.text.specs.EndsLaws.{Ends, back, ProcSame, Same, ends-table}
+use Rattle.text.specs.EndsLaws.{Ends, ends-took, ends-refused, back, ProcSame, Same, ends-table}
 
 -- ---- the same for each
 
@@ -210,7 +209,5 @@ unfolding fault readLines tableFault
 fault-is t = go (linesFault t) (table 1 (text t)) refl (ends-table t)
   where
     go : (c : Option Fault) (o : Outcome Table) → linesFault t ≡ c → Ends (Same t) [] c o → faultIn t (resultOf o) ≡ numbered (orElse c (orElse (firstIn (late t)) (unless (tidy t) Unused)))
-    go none (took r l s) e h = rw (late-same t r (h .0) (lined-of t e)) (late-fault t r 1 (late t))
-    go none (refused f l) e h = absurd h
-    go (some c) (took r l s) e h = absurd h
-    go (some c) (refused f l) e h = h
+    go c o e (ends-took {a = r} h) = rw (late-same t r h (lined-of t e)) (late-fault t r 1 (late t))
+    go c o e (ends-refused h) = h

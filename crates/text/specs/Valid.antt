@@ -1,12 +1,11 @@
 -- What a table is that has no fault.
-use Prim.Native.Nat.{ℕ, zero, suc, _≤_, _<_}
+use Prim.Native.Nat.{ℕ, _≤_, _<_}
 use mathlib.Core.Path.{_≡_}
 use mathlib.Core.Logic.{_≢_}
-use mathlib.Core.List.{List, [], _∷_, List·Memᴰ}
+use mathlib.Core.List.{[], _∷_, List·Memᴰ}
 use mathlib.Core.Bool.{true, false}
 use Rattle.table.specs.Mask.{bit, members}
-use Rattle.table.specs.Table.{taskAt, semAt, queueAt, procAt, nodeIn, nodeAt, removed, argAt, arcs, isAbsent}
-use Rattle.table.specs.declared.Args.{Args}
+use Rattle.table.specs.Table.{taskAt, semAt, queueAt, procAt, nodeAt, removed, argAt, arcs, isAbsent}
 use Rattle.table.specs.declared.Node.{Node}
 use Rattle.table.specs.declared.Node.the-variants.{Absent, Start, Set, Test, Read, Call, Wait, Signal, Send, Recv, Assert, Out, Return}
 use Rattle.table.specs.declared.Table.{Table}

@@ -1,6 +1,6 @@
 -- A table has no fault if and only if it is valid; and where its nodes are.
 use Prim.Native.Nat.{ℕ, zero, suc, _+_, _-_, _≤_, _<_}
-use mathlib.Core.Path.{_≡_, refl, sym, _∙_, ap, fun-ext}
+use mathlib.Core.Path.{_≡_, refl, sym, _∙_, fun-ext}
 use mathlib.Core.Logic.{_↔_, _⊎_, inl, inr}
 use mathlib.Core.List.{List, [], _∷_, _++_, List·Memᴰ, List·Memᴰ·head, List·Memᴰ·tail, List·Memᴰ·not-nil}
 use mathlib.Core.Option.{Option, none, some}
@@ -10,7 +10,7 @@ use lib.Dec.{eqb}
 use lib.ListN.{getD, drop, replicate}
 use lib.Seq.{getD-drop}
 use borrow.Author.Tests.{eqb-true, eqb-false, not-true}
-use Rattle.table.specs.Mask.{pick, bit, membersFrom}
+use Rattle.table.specs.Mask.{bit, membersFrom}
 use Rattle.table.specs.Table.{noSlot, outside, taskAt, queueAt, procAt, nodeIn, nodeAt, arcTo, arcNo, arcs, isAbsent}
 use Rattle.table.specs.declared.Node.{Node}
 use Rattle.table.specs.declared.Node.the-variants.{Absent, Start, Set, Test, Read, Call, Wait, Signal, Send, Recv, Assert, Out, Return}
@@ -24,8 +24,8 @@ use Rattle.text.specs.ValueLaws.{no}
 use Rattle.text.specs.Value.{unless, orElse}
 use Rattle.text.specs.Reader.{allBelow, allPresent, countRight, removedRight, nodeFault, taskFault, concat, nodeLate, procLate, late}
 use Rattle.text.specs.Format.{Scope}
-use Rattle.text.specs.Writer.{scope, all, isZero, slotEmpty, taskEmpty, semEmpty, queueEmpty, procEmpty, argsEmpty, procTidy, tidy, fault}
-use Rattle.text.specs.Right.{unless-is, else-is, and-is}
+use Rattle.text.specs.Writer.{scope, all, isZero, slotEmpty, taskEmpty, semEmpty, queueEmpty, procEmpty, procTidy, tidy, fault}
+use Rattle.text.specs.RightLaws.{unless-is, else-is, and-is}
 use Rattle.text.specs.Structure.{firstOf, firstIn, linesFault, tableFault, numbered}
 use Rattle.text.specs.Valid.{NodeValid, Valid}
 use Rattle.text.specs.EndsLaws.{by-line}
@@ -83,10 +83,10 @@ in-none zero = refl
 in-none (suc n) = in-none n
 
 -- a task's, a node's
-task-is : (t : Table) (i : ℕ)
+late-task : (t : Table) (i : ℕ)
     → (firstIn (taskFault t i ∷ []) ≡ none) ↔ (t .closed ≡ true → (j : ℕ) → j < procAt t (taskAt t i .top) .params → bit j (procAt t (taskAt t i .top) .drop) ≡ true)
 unfolding firstIn
-task-is t i =
+late-task t i =
     let q = procAt t (taskAt t i .top) in
     let f : ℕ → Bool = λ j. bit j (q .drop) in
     let b = allBelow (q .params) f in (
@@ -97,18 +97,18 @@ task-is t i =
 abbrev LateValid : Table → Proc → Node → Type 0
 LateValid t q x = (countRight t x ≡ true) × (t .closed ≡ true → (allPresent q (arcs x) ≡ true) × (removedRight t x ≡ true))
 
-absent-late : (t : Table) (q : Proc) → (firstIn (nodeLate t q Absent) ≡ none) ↔ LateValid t q Absent
+late-absent : (t : Table) (q : Proc) → (firstIn (nodeLate t q Absent) ≡ none) ↔ LateValid t q Absent
 unfolding firstIn isAbsent countRight allPresent removedRight arcTo arcNo membersFrom bit
-absent-late t q = (λ z. (refl, λ o. (refl, refl)), λ v. refl)
+late-absent t q = (λ z. (refl, λ o. (refl, refl)), λ v. refl)
 
-node-is : (t : Table) (q : Proc) (x : Node) → (firstIn (nodeLate t q x) ≡ none) ↔ LateValid t q x
+late-node : (t : Table) (q : Proc) (x : Node) → (firstIn (nodeLate t q x) ≡ none) ↔ LateValid t q x
 unfolding firstIn
-node-is t q x =
+late-node t q x =
     let k = countRight t x in
     let a = allPresent q (arcs x) in
     let m = removedRight t x in
     cases (isAbsent x)
-    (λ e. rw (absent-is x e) (absent-late t q))
+    (λ e. rw (absent-is x e) (late-absent t q))
     (λ e. rw e (
       λ z.
           let h = else-is (unless k Arguments) (unless (not (t .closed) || (a && m)) Closing) .0 (else-is (nodeFault t q x) none .0 z .0) in
@@ -151,11 +151,11 @@ valid-of t z =
     let l = else-is (tasksLate t) (firstOf (nodesLate t) (t .procs) 0) .0 (sym (late-parts t) ∙ k .0) in
     let task : (i : ℕ) → i < t .tasks → firstIn (taskFault t i ∷ []) ≡ none = λ i u. first-none (λ i. firstIn (taskFault t i ∷ [])) (t .tasks) 0 (l .0) i (omega arith) (omega arith) in
     let node : (p n : ℕ) → p < t .procs → n < procAt t p .nodes → LateValid t (procAt t p) (nodeAt t p n) =
-    λ p n u w. node-is t (procAt t p) (nodeAt t p n) .0 (first-none (λ n. firstIn (nodeLate t (procAt t p) (nodeAt t p n))) (procAt t p .nodes) 0 (first-none (nodesLate t) (t .procs) 0 (l .1) p (omega arith) (omega arith)) n (omega arith) (omega arith))
+    λ p n u w. late-node t (procAt t p) (nodeAt t p n) .0 (first-none (λ n. firstIn (nodeLate t (procAt t p) (nodeAt t p n))) (procAt t p .nodes) 0 (first-none (nodesLate t) (t .procs) 0 (l .1) p (omega arith) (omega arith)) n (omega arith) (omega arith))
     in
     record {
       lines = lined-of t (h .0);
-      dropped = λ o i u. task-is t i .0 (task i u) o;
+      dropped = λ o i u. late-task t i .0 (task i u) o;
       counts = λ p n u w. node p n u w .0;
       present = λ o p n u w. present-all (procAt t p) (arcs (nodeAt t p n)) (node p n u w .1 o .0);
       removals = λ o p n u w. node p n u w .1 o .1;
@@ -165,11 +165,11 @@ valid-of t z =
 pub of-valid : (t : Table) → Valid t → fault t ≡ 0
 unfolding tableFault tasksLate nodesLate
 of-valid t v =
-    let tasks : tasksLate t ≡ none = none-first (λ i. firstIn (taskFault t i ∷ [])) (t .tasks) 0 (λ i l u. task-is t i .1 (λ o. v .dropped o i (omega arith))) in
+    let tasks : tasksLate t ≡ none = none-first (λ i. firstIn (taskFault t i ∷ [])) (t .tasks) 0 (λ i l u. late-task t i .1 (λ o. v .dropped o i (omega arith))) in
     let nodes : firstOf (nodesLate t) (t .procs) 0 ≡ none = none-first (nodesLate t) (t .procs) 0 (λ p l u. none-first (λ n. firstIn (nodeLate t (procAt t p) (nodeAt t p n))) (procAt t p .nodes) 0 (λ n k w.
     let x : p < t .procs = omega arith in
     let y : n < procAt t p .nodes = omega arith in
-    node-is t (procAt t p) (nodeAt t p n) .1 (v .counts p n x y, λ o. (all-present (procAt t p) (arcs (nodeAt t p n)) (v .present o p n x y), v .removals o p n x y))))
+    late-node t (procAt t p) (nodeAt t p n) .1 (v .counts p n x y, λ o. (all-present (procAt t p) (arcs (nodeAt t p n)) (v .present o p n x y), v .removals o p n x y))))
     in
     fault-is t ∙ rw (of-lined t (v .lines), late-parts t, tasks, nodes, v .unused)
 
