@@ -10,3 +10,4 @@ pub mod NumberLaws
 pub mod ValueLaws
 pub mod LineLaws
 pub mod MaskLists
+pub mod RowLaws
