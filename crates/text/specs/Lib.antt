@@ -11,3 +11,4 @@ pub mod ValueLaws
 pub mod LineLaws
 pub mod MaskLists
 pub mod RowLaws
+pub mod NodeLaws
