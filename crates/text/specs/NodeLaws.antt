@@ -22,7 +22,7 @@ use Rattle.text.specs.Number.{bytes}
 use Rattle.text.specs.NumberLaws.{cases, byOrder, and-left, and-right}
 use Rattle.text.specs.Value.{Sort, start, set as setting, test, read, call, wait, signal, send, recv, assert, out, return, number, variable, ascending, arguments, spell, unless, orElse, ascends, within, isOne, noneRemoved, allDeclared, check}
 use Rattle.text.specs.ValueLaws.{no}
-use Rattle.text.specs.Line.{Line, Vals, write, Outcome, took, refused, Parser, onto, After, at, differs, broken, after, line}
+use Rattle.text.specs.Line.{Line, Vals, write, Outcome, took, refused, Parser, onto, _>>=_, give, After, at, differs, broken, after, line}
 use Rattle.text.specs.LineLaws.{line-read, onto-read, node-sound}
 use Rattle.text.specs.MaskLists.{members-set, set-members}
 use Rattle.text.specs.Format.{Scope, fields, nodeLine, variableOf, nameOf, setOf, argsOf, argNames, nodeOf, Described, noLine, described, describe}
@@ -214,13 +214,19 @@ pub no-line : (c : Scope) (lo n l : ℕ) (s : List ℕ) → NoNode s → (v : Va
 unfolding write after
 no-line c lo n l s h v l′ r e = h _ (ap (after (bytes "node=")) (line-read (nodeLine c lo n) l s v l′ r e .0))
 
-pub next-node : (c : Scope) (i : ℕ) (d : Described c) (s : List ℕ) → NotBefore c (suc i) s → NotBefore c i (nodeText c i d ++ s)
+-- a text from which a node line was read begins with no line of another number
+one-number : (c : Scope) (lo n l : ℕ) (s : List ℕ) (v : Vals (nodeLine c lo n)) (l′ : ℕ) (r : List ℕ) → line (nodeLine c lo n) l s ≡ took v l′ r
+    → (i : ℕ) (k : Sort) (w : Vals (fields c k)) (s′ : List ℕ) → s ≡ nodeText c i (described k w) ++ s′ → i ≡ v .0
 unfolding write spell
+one-number c lo n l s v l′ r e i k w s′ q = ap (λ (u : Vals (nodeLine c lo n)). u .0) (line-only (nodeLine c lo n) (node-sound c lo n) l s v l′ r e (i, (k, w)) s′ q .0)
+
+pub next-node : (c : Scope) (i : ℕ) (d : Described c) (s : List ℕ) → NotBefore c (suc i) s → NotBefore c i (nodeText c i d ++ s)
 next-node c i noLine s x lo n l v l′ r e = let h = x lo n l v l′ r e in omega arith
-next-node c i (described k w) s x lo n l v l′ r e =
-    let p = line-only (nodeLine c lo n) (node-sound c lo n) l _ v l′ r e (i, (k, w)) s refl in
-    let q : i ≡ v .0 = ap (λ (u : Vals (nodeLine c lo n)). u .0) (p .0) in
-    omega arith
+next-node c i (described k w) s x lo n l v l′ r e = let q = one-number c lo n l _ v l′ r e i k w s refl in omega arith
+
+no-node : (c : Scope) (i : ℕ) (s : List ℕ) → NoNode s → (k : Sort) (w : Vals (fields c k)) (s′ : List ℕ) → s ≡ nodeText c i (described k w) ++ s′ → ⊥
+unfolding write after
+no-node c i s h k w s′ q = h _ (ap (after (bytes "node=")) q)
 
 -- the places of a procedure with scope c, in table t
 abbrev pub nodeRows : Table → Scope → Rows Slot
@@ -237,6 +243,11 @@ nodeRows t c = record {
 own-number : (j : ℕ) (f : Fault) → check (number j (suc j) f) j ≡ none
 unfolding check
 own-number j f = rw (le-leb j j (omega arith), lt-ltb j (suc j) (omega arith))
+
+getD-all : {A : Type 0} (n j : ℕ) (a : A) → getD (replicate n a) j a ≡ a
+getD-all zero j a = refl
+getD-all (suc n) zero a = refl
+getD-all (suc n) (suc j) a = getD-all n j a
 
 module _ (t : Table) (c : Scope) (few-vars : c .vars ≤ removed) (few-nodes : c .nodes ≤ 32) where
   -- a clean node is known by its line
@@ -274,3 +285,88 @@ module _ (t : Table) (c : Scope) (few-vars : c .vars ≤ removed) (few-nodes : c
       go : FitsIn t Absent → (b : Slot) (s′ : List ℕ) → CleanNode (b .node) → (d : Described c) → describe c (b .node) ≡ d → s ≡ nodeText c j d ++ s′ → (b ≡ noSlot) × (s′ ≡ s)
       go g b s′ u noLine p q = (ap (λ (y : Node). record { node = y }) (known b u noLine p g), sym q)
       go g b s′ u (described k w) p q = absurd (h k w s′ q)
+
+  -- where a node line was read, the number, node and rest are those of its values
+  row-read : {P : Type 0} (lo n l : ℕ) (s : List ℕ) (x : Numbered) (l′ : ℕ) (r : List ℕ) → nodeRow c lo n l s ≡ took x l′ r
+      → ((v : Vals (nodeLine c lo n)) → line (nodeLine c lo n) l s ≡ took v l′ r → record { at = v .0; node = nodeOf c (v .1 .0) (v .1 .1) } ≡ x → P) → P
+  row-read lo n l s x l′ r e then = onto-read (line (nodeLine c lo n) l s) _ x l′ r e (λ v k q p h.
+      let a : k ≡ l′ = cc h in
+      let b : q ≡ r = cc h in
+      then v (p ∙ rw (a, b)) (cc h))
+
+  number-of : (lo n l : ℕ) (s : List ℕ) (v : Vals (nodeLine c lo n)) (l′ : ℕ) (r : List ℕ) → line (nodeLine c lo n) l s ≡ took v l′ r → (lo ≤ v .0) × (v .0 < n)
+  number-of lo n l s v l′ r e = number-fact lo n _ (v .0) (faultless (nodeLine c lo n) v (line-read (nodeLine c lo n) l s v l′ r e .2) .0)
+
+  -- the further lines of a closed procedure: none, for want of the word `node=` or of a count, or one and those behind it
+  further-read : {P : Type 0} (f last : ℕ) (l : List Slot) (k : ℕ) (s : List ℕ) (L : List Slot) (k′ : ℕ) (r : List ℕ) → furtherNodes c f last l k s ≡ took L k′ r
+      → (l ≡ L → s ≡ r → (0 < f → NoNode s) → P)
+      → ((g : ℕ) (v : Vals (nodeLine c (suc last) (c .nodes))) (k₁ : ℕ) (s₁ : List ℕ) → f ≡ suc g → line (nodeLine c (suc last) (c .nodes)) k s ≡ took v k₁ s₁
+      → furtherNodes c g (v .0) (set l (v .0) (record { node = nodeOf c (v .1 .0) (v .1 .1) })) k₁ s₁ ≡ took L k′ r → P) → P
+  unfolding furtherNodes
+  further-read zero last l k s L k′ r e stop more = stop (cc e) (cc e) (λ h. absurd (omega arith))
+  further-read {P} (suc f) last l k s L k′ r e stop more = go (after (bytes "node=") s) refl e
+    where
+      go : (o : After) → after (bytes "node=") s ≡ o
+          → ifKey o (nodeRow c (suc last) (c .nodes) >>= λ x. furtherNodes c f (x .at) (set l (x .at) (slotOf x))) (give l) k s ≡ took L k′ r → P
+      go (at x) q e = onto-read (nodeRow c (suc last) (c .nodes) k s) _ L k′ r e (λ x k₁ s₁ a b. row-read (suc last) (c .nodes) k s x k₁ s₁ a (λ v u h. more f v k₁ s₁ refl u (rw (← h) at b)))
+      go differs q e = stop (cc e) (cc e) (λ h x p. no (cc (p, q)))
+      go broken q e = stop (cc e) (cc e) (λ h x p. no (cc (p, q)))
+
+  -- places from i on, of which the first due is at least i, filled by further lines
+  abbrev Further : ℕ → Type 0
+  Further n = (f last i : ℕ) (l : List Slot) (k : ℕ) (s : List ℕ) (L : List Slot) (k′ : ℕ) (r : List ℕ) → c .nodes ≡ i + n → last < i → c .nodes ≤ i + f → c .nodes ≤ length l
+      → ((j : ℕ) → i ≤ j → getD l j noSlot ≡ noSlot)
+      → ((v : Vals (nodeLine c (suc last) (c .nodes))) (l′ : ℕ) (r′ : List ℕ) → line (nodeLine c (suc last) (c .nodes)) k s ≡ took v l′ r′ → i ≤ v .0)
+      → furtherNodes c f last l k s ≡ took L k′ r → Filled (nodeRows t c) n i (c .nodes) l L s r
+
+  -- no line for place i: it stays empty
+  skip : (n : ℕ) → Further n → (f last i : ℕ) (l : List Slot) (k : ℕ) (s : List ℕ) (L : List Slot) (k′ : ℕ) (r : List ℕ) → c .nodes ≡ i + suc n → last < i → c .nodes ≤ i + f → c .nodes ≤ length l
+      → ((j : ℕ) → i ≤ j → getD l j noSlot ≡ noSlot) → furtherNodes c f last l k s ≡ took L k′ r
+      → ((k₁ : Sort) (w : Vals (fields c k₁)) (s₁ : List ℕ) → s ≡ nodeText c i (described k₁ w) ++ s₁ → ⊥)
+      → ((v : Vals (nodeLine c (suc last) (c .nodes))) (l′ : ℕ) (r′ : List ℕ) → line (nodeLine c (suc last) (c .nodes)) k s ≡ took v l′ r′ → suc i ≤ v .0)
+      → Filled (nodeRows t c) (suc n) i (c .nodes) l L s r
+  skip n ih f last i l k s L k′ r a b d h z e free due =
+      let m : set l i noSlot ≡ l = ap (set l i) (sym (z i (omega arith))) ∙ set-getD l i noSlot in
+      fill-step (nodeRows t c) n i (c .nodes) l s noSlot s L r a (omega arith) (absent-row i s free)
+      (rw m (ih f last (suc i) l k s L k′ r (omega arith) (omega arith) (omega arith) h (λ j u. z j (omega arith)) due e))
+
+  further : (n : ℕ) → Further n
+  further zero f last i l k s L k′ r a b d h z due e = further-read f last l k s L k′ r e
+      (λ p q u. let j : c .nodes ≡ i = omega arith in rw (← j, ← p, ← q) (fill-done (nodeRows t c) (c .nodes) l s))
+      (λ g v k₁ s₁ p q u. let x = due v k₁ s₁ q in let y = number-of (suc last) (c .nodes) k s v k₁ s₁ q in absurd (omega arith))
+  further (suc n) f last i l k s L k′ r a b d h z due e = further-read f last l k s L k′ r e
+      (λ p q u.
+      let x = u (omega arith) in
+      skip n (further n) f last i l k s L k′ r a b d h z e (no-node c i s x) (λ v l′ r′ y. absurd (no-line c (suc last) (c .nodes) k s x v l′ r′ y)))
+      (λ g v k₁ s₁ p q u. byOrder i (v .0)
+      (λ x.
+      skip n (further n) f last i l k s L k′ r a b d h z e (λ k₂ w s₂ y. let m = one-number c (suc last) (c .nodes) k s v k₁ s₁ q i k₂ w s₂ y in omega arith)
+      (λ v′ l′ r′ y. let m : v ≡ v′ = cc (q, y) in rw (← m) x))
+      (λ x.
+      let m = due v k₁ s₁ q in
+      let y = number-of (suc last) (c .nodes) k s v k₁ s₁ q in
+      let j : i ≡ v .0 = omega arith in
+      rw j (fill-step (nodeRows t c) n (v .0) (c .nodes) l s _ s₁ L r (omega arith) (omega arith) (node-row (suc last) (c .nodes) k s v k₁ s₁ q)
+      (further n g (v .0) (suc (v .0)) (set l (v .0) _) k₁ s₁ L k′ r (omega arith) (omega arith) (omega arith) (rw (length-set l (v .0) _) h)
+      (λ j′ o. getD-set-other l (v .0) j′ _ noSlot (λ p. omega arith) ∙ z j′ (omega arith)) (λ v′ l′ r′ o. number-of (suc (v .0)) (c .nodes) k₁ s₁ v′ l′ r′ o .0) u))))
+
+  -- a procedure's node lines fill its places, in either form
+  pub nodes-fill : (closed : Bool) (k : ℕ) (s : List ℕ) (L : List Slot) (k′ : ℕ) (r : List ℕ) → 1 ≤ c .nodes → nodesOf c closed k s ≡ took L k′ r
+      → Filled (nodeRows t c) (c .nodes) 0 (c .nodes) noSlots L s r
+  nodes-fill false k s L k′ r h e = rows-fill (nodeRows t c) _ row (c .nodes) 0 (c .nodes) noSlots k s L k′ r (omega arith) few-nodes e
+    where
+      row : (i l : ℕ) (s : List ℕ) (a : Slot) (l′ : ℕ) (r : List ℕ) → onto (nodeRow c i (suc i) l s) (λ x. give (slotOf x)) ≡ took a l′ r → Row (nodeRows t c) i s a r
+      row i l s a l′ r e = onto-read (nodeRow c i (suc i) l s) _ a l′ r e (λ x l₁ s₁ p q. row-read i (suc i) l s x l₁ s₁ p (λ v u h.
+          let y = number-of i (suc i) l s v l₁ s₁ u in
+          let m : v .0 ≡ i = omega arith in
+          let n : record { node = nodeOf c (v .1 .0) (v .1 .1) } ≡ a = ap slotOf h ∙ cc q in
+          let o : s₁ ≡ r = cc q in
+          rw (← m, ← n, ← o) (node-row i (suc i) l s v l₁ s₁ u)))
+  nodes-fill true k s L k′ r h e = onto-read (nodeRow c 0 1 k s) _ L k′ r e (λ x k₁ s₁ p q. row-read 0 1 k s x k₁ s₁ p (λ v u w.
+      let y = number-of 0 1 k s v k₁ s₁ u in
+      let z : v .0 ≡ 0 = omega arith in
+      let n : suc (c .nodes - 1) ≡ c .nodes = omega arith in
+      subst (λ (m : ℕ). Filled (nodeRows t c) m 0 (c .nodes) noSlots L s r) n
+      (fill-step (nodeRows t c) (c .nodes - 1) 0 (c .nodes) noSlots s _ s₁ L r (omega arith) (omega arith) (rw z at (node-row 0 1 k s v k₁ s₁ u))
+      (further (c .nodes - 1) (c .nodes) 0 1 (set noSlots 0 _) k₁ s₁ L k′ r (omega arith) (omega arith) (omega arith) few-nodes
+      (λ j o. getD-set-other noSlots 0 j _ noSlot (λ p. omega arith) ∙ getD-all 32 j noSlot) (λ v′ l′ r′ o. number-of 1 (c .nodes) k₁ s₁ v′ l′ r′ o .0) (rw (← w) at q)))))
