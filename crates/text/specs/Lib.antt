@@ -12,3 +12,4 @@ pub mod LineLaws
 pub mod MaskLists
 pub mod RowLaws
 pub mod NodeLaws
+pub mod RoundTrip
