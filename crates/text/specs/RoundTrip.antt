@@ -5,7 +5,7 @@ use mathlib.Core.List.{List, [], _∷_, _++_, append-assoc, append-nil}
 use mathlib.Core.Option.{Option, none, some}
 use mathlib.Core.Bool.{Bool, true, false, _&&_, _||_, not}
 use native.Mathlib.Omega.{arith}
-use lib.Dec.{eqb}
+use lib.Dec.{ltb, eqb}
 use lib.ListN.{length, getD, set, drop, replicate, getD-replicate, List·getD-eq-default}
 use lib.Seq.{getD-drop}
 use borrow.Author.Tests.{eqb-true, not-true}
@@ -20,6 +20,8 @@ use Rattle.table.specs.declared.Queue.{Queue}
 use Rattle.table.specs.declared.Proc.{Proc}
 use Rattle.table.specs.declared.Table.{Table}
 use Rattle.text.specs.declared.Fault.{Fault}
+use Rattle.text.specs.declared.Fault.the-variants.{Long, Form, Misspelt, Ended, Range, Index, Reference, Arguments, Closing, Unused, Short}
+use Rattle.text.specs.Fault.{number}
 use Rattle.text.specs.NumberLaws.{cases, byOrder, and-left, and-right}
 use Rattle.text.specs.Value.{due, unless, orElse, check}
 use Rattle.text.specs.ValueLaws.{no}
@@ -27,9 +29,9 @@ use Rattle.text.specs.Line.{Line, Vals, write, Outcome, took, refused, P
 use Rattle.text.specs.LineLaws.{Sound, line-read, onto-read, head-sound, counts-sound, task-sound, sem-sound, queue-sound, proc-sound}
 use Rattle.text.specs.MaskLists.{set-members}
 use Rattle.text.specs.Format.{headLine, countsLine, taskLine, semLine, queueLine, procLine, Scope, setOf, describe}
-use Rattle.text.specs.Reader.{taskRow, semRow, queueOf, queueRow, droppedBy, procOf, scopeOf, nodesOf, procRow, atEnd, body, table, allBelow, countRight, concat, late, nodeLate, nodeFault, procLate, firstLate, Result, good, bad, resultOf, readLines, read}
-use Rattle.text.specs.Writer.{queueVals, procVals, scope, text, all, isZero, slotEmpty, taskEmpty, semEmpty, queueEmpty, procEmpty, argsEmpty, procTidy, tidy, fault}
-use Rattle.text.specs.RowLaws.{Faultless, or-left, or-right, unless-none, faultless, line-only, Rows, Row, written, Filled, rows-fill}
+use Rattle.text.specs.Reader.{rows, taskRow, semRow, queueOf, queueRow, droppedBy, procOf, scopeOf, nodesOf, procRow, atEnd, body, table, allBelow, countRight, concat, late, nodeLate, taskFault, procLate, firstLate, Result, good, bad, resultOf, readLines, reading, read}
+use Rattle.text.specs.Writer.{queueVals, procVals, scope, text, all, isZero, slotEmpty, taskEmpty, semEmpty, queueEmpty, procEmpty, argsEmpty, procTidy, tidy, faultIn, fault}
+use Rattle.text.specs.RowLaws.{Faultless, or-left, unless-none, faultless, line-only, Rows, Row, written, Filled, atOrLater, rows-fill}
 use Rattle.text.specs.NodeLaws.{number-fact, list-back, FitsIn, FaultlessNode, NoNode, no-line, nodeRows, nodes-fill}
 
 -- ---- rows of one line each
@@ -233,3 +235,312 @@ proc-row t closed procs sems queues i l s a l′ r e =
           let o = line-only (procLine closed i) (proc-sound closed i) l s w l₁ s₁ p (procVals closed i x) _ (z ∙ append-assoc (write (procLine closed i) (procVals closed i x)) _ s′) in
           proc-only t closed procs sems queues i w L s₁ s₂ F (λ j h k. g j k) x s′ h y (o .0) (o .1);
     })))
+
+-- ---- tables
+
+-- a value of the declared type: the lengths of its arrays, and masks of 32 places
+pub record Shaped (t : Table) : Type 0 where
+  pub tasks : length (t .task) ≡ 4
+  pub sems : length (t .sem) ≡ 8
+  pub queues : length (t .queue) ≡ 8
+  pub procs : length (t .proc) ≡ 8
+  pub slots : (p : ℕ) → p < 8 → length (procAt t p .slots) ≡ 32
+  pub drops : (p : ℕ) → procAt t p .drop < 2 ^ 32
+  pub arcs : (p n : ℕ) → (arcTo (nodeAt t p n) < 2 ^ 32) × (arcNo (nodeAt t p n) < 2 ^ 32)
+
+-- no line of the table has a fault
+pub record Lines (t : Table) : Type 0 where
+  pub head : Faultless headLine (t .trap, (t .closed, tt))
+  pub counts : Faultless countsLine (t .tasks, (t .procs, (t .sems, (t .queues, tt))))
+  pub tasks : (i : ℕ) → i < t .tasks → Faultless (taskLine (t .procs) i) (i, (taskAt t i .top, tt))
+  pub sems : (i : ℕ) → i < t .sems → Faultless (semLine i) (i, (semAt t i .count, tt))
+  pub queues : (i : ℕ) → i < t .queues → Faultless (queueLine (t .closed) i) (queueVals (t .closed) i (queueAt t i))
+  pub procs : (p : ℕ) → p < t .procs → Faultless (procLine (t .closed) p) (procVals (t .closed) p (procAt t p))
+  pub nodes : (p : ℕ) → p < t .procs → (j : ℕ) → j < procAt t p .nodes → FaultlessNode (scope t (procAt t p)) j (describe (scope t (procAt t p)) (nodeAt t p j))
+
+-- every call passes as many arguments as its callee has parameters, at most four
+abbrev Fitting : Table → Type 0
+Fitting t = (p : ℕ) → p < t .procs → FitNodes t (procAt t p)
+
+-- t was read from s
+record Parsed (s : List ℕ) (t : Table) : Type 0 where
+  small : (q : ℕ) → procAt t q .params ≤ 4
+  neat : tidy t ≡ true
+  lines : Fitting t → Lines t
+  same : Fitting t → s ≡ text t
+  only : Fitting t → (b : Table) → Shaped b → tidy b ≡ true → s ≡ text b → b ≡ t
+
+-- the table made of the first two lines and the lists read behind them
+abbrev tableOf : Vals headLine → Vals countsLine → List Task → List Sem → List Queue → List Proc → Table
+tableOf h c ts ss qs ps = record {
+  trap = h .0;
+  closed = h .1 .0;
+  tasks = c .0;
+  procs = c .1 .0;
+  sems = c .1 .1 .0;
+  queues = c .1 .1 .1 .0;
+  task = ts;
+  sem = ss;
+  queue = qs;
+  proc = ps;
+}
+
+-- a procedure behind the last is empty
+proc-past : (n q : ℕ) (ps : List Proc) → n ≤ q → drop n ps ≡ drop n (replicate 8 noProc) → getD ps q outside .params ≡ 0
+proc-past n q ps h e =
+    let p : n + (q - n) ≡ q = omega arith in
+    let m : getD ps (n + (q - n)) outside ≡ getD (replicate 8 noProc) (n + (q - n)) outside = sym (getD-drop n ps (q - n) outside) ∙ ap (λ (l : List Proc). getD l (q - n) outside) e ∙ getD-drop n (replicate 8 noProc) (q - n) outside in
+    ap (λ (x : Proc). x .params) (rw p at m) ∙ byOrder q 8 (λ k. ap (λ (x : Proc). x .params) (getD-replicate 8 q noProc outside k)) (λ k. ap (λ (x : Proc). x .params) (List·getD-eq-default (replicate 8 noProc) outside k))
+
+no-end : NoNode []
+unfolding after
+no-end x e = no (cc)
+
+proc-small : (closed : Bool) (i : ℕ) (q : Proc) → Faultless (procLine closed i) (procVals closed i q) → q .params ≤ 4
+proc-small false i q f = let h = number-fact 0 5 _ (q .params) (f .1 .0) in omega arith
+proc-small true i q f = let h = number-fact 0 5 _ (q .params) (f .1 .0) in omega arith
+
+-- what is known of the table's lists by its form and counts, and the text s behind the first two lines
+abbrev Behind : Table → Bool → ℕ → ℕ → ℕ → ℕ → List ℕ → Type 0
+Behind t closed tasks procs sems queues s =
+    (drop tasks (t .task) ≡ drop tasks (replicate 4 noTask))
+    × (drop sems (t .sem) ≡ drop sems (replicate 8 noSem))
+    × (drop queues (t .queue) ≡ drop queues (replicate 8 noQueue))
+    × (drop procs (t .proc) ≡ drop procs (replicate 8 noProc))
+    × ((i : ℕ) → i < queues → closed || not (queueAt t i .blank) ≡ true)
+    × ((p : ℕ) → p < procs → p < 8 → CleanProc closed (procAt t p))
+    × (s ≡ written (taskRows procs) (t .task) tasks 0 ++ (written semRows (t .sem) sems 0 ++ (written (queueRows closed) (t .queue) queues 0 ++ written (procRows t closed procs sems queues) (t .proc) procs 0)))
+
+empty-queue : (x : Queue) → queueEmpty x ≡ true → x ≡ noQueue
+empty-queue x e =
+    let a = eqb-true (x .cap) 0 (and-left (isZero (x .cap)) (not (x .blank)) e) in
+    let b = not-true (x .blank) (and-right (isZero (x .cap)) (not (x .blank)) e) in
+    λ ι. record { cap = a ι; blank = b ι }
+
+empty-proc : (x : Proc) → length (x .slots) ≡ 32 → procEmpty x ≡ true → x ≡ noProc
+empty-proc x h e =
+    let e₁ = and-right (isZero (x .params)) _ e in
+    let e₂ = and-right (isZero (x .vars)) _ e₁ in
+    let e₃ = and-right (isZero (x .nodes)) _ e₂ in
+    let a = eqb-true (x .params) 0 (and-left (isZero (x .params)) _ e) in
+    let b = eqb-true (x .vars) 0 (and-left (isZero (x .vars)) _ e₁) in
+    let c = eqb-true (x .nodes) 0 (and-left (isZero (x .nodes)) _ e₂) in
+    let d = eqb-true (x .drop) 0 (and-left (isZero (x .drop)) _ e₃) in
+    let f = slots-rest 0 (x .slots) h (and-right (isZero (x .drop)) _ e₃) in
+    λ ι. record { params = a ι; vars = b ι; nodes = c ι; drop = d ι; slots = f ι }
+
+behind : (t : Table) (s : List ℕ) → Shaped t → tidy t ≡ true
+    → s ≡ written (taskRows (t .procs)) (t .task) (t .tasks) 0 ++ (written semRows (t .sem) (t .sems) 0 ++ (written (queueRows (t .closed)) (t .queue) (t .queues) 0 ++ written (procRows t (t .closed) (t .procs) (t .sems) (t .queues)) (t .proc) (t .procs) 0))
+    → Behind t (t .closed) (t .tasks) (t .procs) (t .sems) (t .queues) s
+unfolding tidy
+behind t s v w e =
+    let tasks = all taskEmpty (drop (t .tasks) (t .task)) in
+    let sems = all semEmpty (drop (t .sems) (t .sem)) in
+    let queues = all queueEmpty (drop (t .queues) (t .queue)) in
+    let procs = all procEmpty (drop (t .procs) (t .proc)) in
+    let blanks = allBelow (t .queues) (λ i. t .closed || not (queueAt t i .blank)) in
+    let w₁ = and-right tasks _ w in
+    let w₂ = and-right sems _ w₁ in
+    let w₃ = and-right queues _ w₂ in
+    let w₄ = and-right procs _ w₃ in
+    (
+      all-rest taskEmpty noTask noTask 4 (t .tasks) (t .task) (v .tasks) (λ j k q. ap (λ (n : ℕ). record { top = n }) (eqb-true (taskAt t j .top) 0 q)) (and-left tasks _ w),
+      all-rest semEmpty noSem noSem 8 (t .sems) (t .sem) (v .sems) (λ j k q. ap (λ (n : ℕ). record { count = n }) (eqb-true (semAt t j .count) 0 q)) (and-left sems _ w₁),
+      all-rest queueEmpty noQueue noQueue 8 (t .queues) (t .queue) (v .queues) (λ j k q. empty-queue (queueAt t j) q) (and-left queues _ w₂),
+      all-rest procEmpty noProc outside 8 (t .procs) (t .proc) (v .procs) (λ j k q. empty-proc (procAt t j) (v .slots j k) q) (and-left procs _ w₃),
+      all-below (t .queues) (λ i. t .closed || not (queueAt t i .blank)) (and-left blanks _ w₄),
+      λ p k u. (v .slots p u, v .drops p, all-below (t .procs) (λ p. procTidy (t .closed) (procAt t p)) (and-right blanks _ w₄) p k, v .arcs p),
+      e,
+    )
+
+parsed : (h : Vals headLine) (c : Vals countsLine) (ts : List Task) (ss : List Sem) (qs : List Queue) (ps : List Proc) (l m n : ℕ) (s s₁ s₂ s₃ s₄ s₅ : List ℕ)
+    → line headLine l s ≡ took h m s₁ → line countsLine m s₁ ≡ took c n s₂
+    → Filled (taskRows (c .1 .0)) (c .0) 0 (c .0) (replicate 4 noTask) ts s₂ s₃
+    → Filled semRows (c .1 .1 .0) 0 (c .1 .1 .0) (replicate 8 noSem) ss s₃ s₄
+    → Filled (queueRows (h .1 .0)) (c .1 .1 .1 .0) 0 (c .1 .1 .1 .0) (replicate 8 noQueue) qs s₄ s₅
+    → Filled (procRows (tableOf h c ts ss qs ps) (h .1 .0) (c .1 .0) (c .1 .1 .0) (c .1 .1 .1 .0)) (c .1 .0) 0 (c .1 .0) (replicate 8 noProc) ps s₅ []
+    → Parsed s (tableOf h c ts ss qs ps)
+unfolding tidy text isAbsent all
+parsed h c ts ss qs ps l m n s s₁ s₂ s₃ s₄ s₅ a b T S Q P =
+    let x = line-read headLine l s h m s₁ a in
+    let y = line-read countsLine m s₁ c n s₂ b in
+    let f = faultless headLine h (x .2) in
+    let g = faultless countsLine c (y .2) in
+    let few = number-fact 1 9 _ (c .1 .0) (g .1 .0) in
+    record {
+      small = λ q. byOrder q (c .1 .0)
+        (λ k. proc-small (h .1 .0) q (getD ps q outside) (P .fine q (omega arith) k .0))
+        (λ k. rw (proc-past (c .1 .0) q ps k (P .later)) (omega arith));
+      neat = rw (
+        T .later,
+        rest-all taskEmpty noTask refl 4 (c .0),
+        S .later,
+        rest-all semEmpty noSem refl 8 (c .1 .1 .0),
+        Q .later,
+        rest-all queueEmpty noQueue refl 8 (c .1 .1 .1 .0),
+        P .later,
+        rest-all procEmpty noProc refl 8 (c .1 .0),
+        below-all (c .1 .1 .1 .0) (λ i. h .1 .0 || not (getD qs i noQueue .blank)) (λ i k. Q .fine i (omega arith) k .1),
+        below-all (c .1 .0) (λ p. procTidy (h .1 .0) (getD ps p outside)) (λ i k. P .fine i (omega arith) k .1),
+      );
+      lines = λ u. record {
+        head = f;
+        counts = g;
+        tasks = λ i k. T .fine i (omega arith) k .0;
+        sems = λ i k. S .fine i (omega arith) k .0;
+        queues = λ i k. Q .fine i (omega arith) k .0;
+        procs = λ i k. P .fine i (omega arith) k .0;
+        nodes = λ i k. P .fine i (omega arith) k .2 (u i k);
+      };
+      same = λ u. x .0 ∙ rw (y .0, T .same (λ i j k. tt), S .same (λ i j k. tt), Q .same (λ i j k. tt), P .same (λ i j k. u i k), append-nil);
+      only = λ u t v w e.
+          let p = line-only headLine head-sound l s h m s₁ a (t .trap, (t .closed, tt)) _ e in
+          let q = line-only countsLine counts-sound m s₁ c n s₂ b (t .tasks, (t .procs, (t .sems, (t .queues, tt)))) _ (sym (p .1)) in
+          let trap = ap (λ (i : Vals headLine). i .0) (p .0) in
+          let closed = ap (λ (i : Vals headLine). i .1 .0) (p .0) in
+          let tasks = ap (λ (i : Vals countsLine). i .0) (q .0) in
+          let procs = ap (λ (i : Vals countsLine). i .1 .0) (q .0) in
+          let sems = ap (λ (i : Vals countsLine). i .1 .1 .0) (q .0) in
+          let queues = ap (λ (i : Vals countsLine). i .1 .1 .1 .0) (q .0) in
+          let k : Behind t (h .1 .0) (c .0) (c .1 .0) (c .1 .1 .0) (c .1 .1 .1 .0) s₂ = rw (closed, tasks, procs, sems, queues) at (behind t s₂ v w (sym (q .1))) in
+          let o₁ = T .only (λ i j k. tt) (t .task) _ (v .tasks) (λ j k. absurd (omega arith)) (k .0) (λ i j k. tt) tt (k .6) in
+          let o₂ = S .only (λ i j k. tt) (t .sem) _ (v .sems) (λ j k. absurd (omega arith)) (k .1) (λ i j k. tt) tt (sym (o₁ .1)) in
+          let o₃ = Q .only (λ i j k. tt) (t .queue) _ (v .queues) (λ j k. absurd (omega arith)) (k .2) (λ i j z. k .4 i z) tt (sym (o₂ .1)) in
+          let o₄ = P .only (λ i j k. u i k) (t .proc) [] (v .procs) (λ j k. absurd (omega arith)) (k .3) (λ i j z. k .5 i z (omega arith)) (no-end) (rw append-nil (sym (o₃ .1))) in
+          λ ι. record { trap = trap ι; closed = closed ι; tasks = tasks ι; procs = procs ι; sems = sems ι; queues = queues ι; task = o₁ .0 ι; sem = o₂ .0 ι; queue = o₃ .0 ι; proc = o₄ .0 ι };
+    }
+
+end-read : {A P : Type 0} (p : Unit {0} → Parser A) (l : ℕ) (s : List ℕ) (a : A) (l′ : ℕ) (r : List ℕ) → onto (atEnd l s) p ≡ took a l′ r → (s ≡ [] → p tt l [] ≡ took a l′ r → P) → P
+end-read p l [] a l′ r e then = then refl e
+end-read p l (b ∷ s) a l′ r e then = no (cc)
+
+table-parsed : (l : ℕ) (s : List ℕ) (t : Table) (l′ : ℕ) (r : List ℕ) → table l s ≡ took t l′ r → Parsed s t
+unfolding table body
+table-parsed l s t l′ r e =
+    onto-read (line headLine l s) _ t l′ r e (λ h l₁ s₁ a e₁.
+    onto-read (line countsLine l₁ s₁) _ t l′ r e₁ (λ c l₂ s₂ b e₂.
+    onto-read (rows (taskRow (c .1 .0)) (c .0) 0 (replicate 4 noTask) l₂ s₂) _ t l′ r e₂ (λ ts l₃ s₃ p e₃.
+    onto-read (rows semRow (c .1 .1 .0) 0 (replicate 8 noSem) l₃ s₃) _ t l′ r e₃ (λ ss l₄ s₄ q e₄.
+    onto-read (rows (queueRow (h .1 .0)) (c .1 .1 .1 .0) 0 (replicate 8 noQueue) l₄ s₄) _ t l′ r e₄ (λ qs l₅ s₅ u e₅.
+    onto-read (rows (procRow (h .1 .0) (c .1 .0) (c .1 .1 .0) (c .1 .1 .1 .0)) (c .1 .0) 0 (replicate 8 noProc) l₅ s₅) _ t l′ r e₅ (λ ps l₆ s₆ v e₆.
+    end-read _ l₆ s₆ t l′ r e₆ (λ z e₇.
+    let x : tableOf h c ts ss qs ps ≡ t = cc e₇ in
+    let g = faultless countsLine c (line-read countsLine l₁ s₁ c l₂ s₂ b .2) in
+    let k = number-fact 1 5 _ (c .0) (g .0) in
+    let m = number-fact 1 9 _ (c .1 .0) (g .1 .0) in
+    let n = number-fact 0 9 _ (c .1 .1 .0) (g .1 .1 .0) in
+    let o = number-fact 0 9 _ (c .1 .1 .1 .0) (g .1 .1 .1 .0) in
+    rw (← x) (parsed h c ts ss qs ps l l₁ l₂ s s₁ s₂ s₃ s₄ s₅ a b
+    (rows-fill (taskRows (c .1 .0)) (taskRow (c .1 .0)) (task-row (c .1 .0)) (c .0) 0 (c .0) (replicate 4 noTask) l₂ s₂ ts l₃ s₃ (omega arith) (omega arith) p)
+    (rows-fill semRows semRow sem-row (c .1 .1 .0) 0 (c .1 .1 .0) (replicate 8 noSem) l₃ s₃ ss l₄ s₄ (omega arith) (omega arith) q)
+    (rows-fill (queueRows (h .1 .0)) (queueRow (h .1 .0)) (queue-row (h .1 .0)) (c .1 .1 .1 .0) 0 (c .1 .1 .1 .0) (replicate 8 noQueue) l₄ s₄ qs l₅ s₅ (omega arith) (omega arith) u)
+    (rw z at (rows-fill (procRows (tableOf h c ts ss qs ps) (h .1 .0) (c .1 .0) (c .1 .1 .0) (c .1 .1 .1 .0)) (procRow (h .1 .0) (c .1 .0) (c .1 .1 .0) (c .1 .1 .1 .0))
+    (proc-row (tableOf h c ts ss qs ps) (h .1 .0) (c .1 .0) (c .1 .1 .0) (c .1 .1 .1 .0)) (c .1 .0) 0 (c .1 .0) (replicate 8 noProc) l₅ s₅ ps l₆ s₆ (omega arith) (omega arith) v))))))))))
+
+-- ---- no line has a late fault
+
+abbrev AllNone : List (Option Fault) → Type 0
+AllNone [] = Unit {0}
+AllNone (f ∷ fs) = (f ≡ none) × AllNone fs
+
+none-left : (xs ys : List (Option Fault)) → AllNone (xs ++ ys) → AllNone xs
+none-left [] ys h = tt
+none-left (x ∷ xs) ys h = (h .0, none-left xs ys (h .1))
+
+none-right : (xs ys : List (Option Fault)) → AllNone (xs ++ ys) → AllNone ys
+none-right [] ys h = h
+none-right (x ∷ xs) ys h = none-right xs ys (h .1)
+
+none-each : (f : ℕ → List (Option Fault)) (n i : ℕ) → AllNone (concat f n i) → (j : ℕ) → i ≤ j → j < i + n → AllNone (f j)
+unfolding concat
+none-each f zero i h j k u = absurd (omega arith)
+none-each f (suc n) i h j k u = atOrLater (λ j. AllNone (f j)) i j k (none-left (f i) (concat f n (suc i)) h) (λ k. none-each f n (suc i) (none-right (f i) (concat f n (suc i)) h) j k (omega arith))
+
+good-late : (t u : Table) (l : ℕ) (fs : List (Option Fault)) → firstLate t l fs ≡ good u → (t ≡ u) × AllNone fs
+unfolding firstLate
+good-late t u l [] e = (cc e, tt)
+good-late t u l (none ∷ fs) e = let r = good-late t u (suc l) fs e in (r .0, (refl, r .1))
+good-late t u l (some f ∷ fs) e = no (cc)
+
+count-right : (t : Table) (q : Proc) (x : Node) → AllNone (nodeLate t q x) → countRight t x ≡ true
+unfolding countRight
+count-right t q x h = cases (isAbsent x) (λ e. rw (absent-is x e)) (λ e. let f = (rw e at h) .0 in unless-none (countRight t x) _ (or-left (unless (countRight t x) Arguments) _ f))
+
+fitting : (t : Table) → AllNone (late t) → ((q : ℕ) → procAt t q .params ≤ 4) → Fitting t
+unfolding late
+fitting t h small p k j u =
+    let f = none-right (concat (λ i. taskFault t i ∷ []) (t .tasks) 0) _ (h .1 .1) in
+    let g = none-right (replicate (t .queues) none) _ (none-right (replicate (t .sems) none) _ f) in
+    let m = none-each (procLate t) (t .procs) 0 g p (omega arith) (omega arith) in
+    (count-right t (procAt t p) (nodeAt t p j) (none-each (λ n. nodeLate t (procAt t p) (nodeAt t p n)) (procAt t p .nodes) 0 (m .1) j (omega arith) (omega arith)), small)
+
+-- ---- the round trips
+
+accepted : (s : List ℕ) (t : Table) → readLines s ≡ good t → Parsed s t × Fitting t
+unfolding readLines
+accepted s t e = go (table 1 s) refl e
+  where
+    go : (o : Outcome Table) → table 1 s ≡ o → resultOf o ≡ good t → Parsed s t × Fitting t
+    go (took u l r) q e =
+        let g = good-late u t 1 (late u) e in
+        let p = table-parsed 1 s u l r q in
+        rw (← g .0) (p, fitting u (g .1) (p .small))
+    go (refused f l) q e = no (cc)
+
+-- an accepted text, read and written, is the same text
+pub read-write : (s : List ℕ) (t : Table) → readLines s ≡ good t → text t ≡ s
+read-write s t e = let a = accepted s t e in sym (a .0 .same (a .1))
+
+-- and its table has no fault
+pub read-fault : (s : List ℕ) (t : Table) → readLines s ≡ good t → fault t ≡ 0
+unfolding fault
+read-fault s t e = ap (faultIn t) (ap readLines (read-write s t e) ∙ e) ∙ rw (accepted s t e .0 .neat, faultIn)
+
+-- every fault has a number above 0
+fault-number : (f : Fault) → number f ≡ 0 → ⊥
+unfolding number
+fault-number Long e = omega arith
+fault-number Form e = omega arith
+fault-number Misspelt e = omega arith
+fault-number Ended e = omega arith
+fault-number Range e = omega arith
+fault-number Index e = omega arith
+fault-number Reference e = omega arith
+fault-number Arguments e = omega arith
+fault-number Closing e = omega arith
+fault-number Unused e = omega arith
+fault-number Short e = omega arith
+
+-- the same of texts that are not too long: where the reader's number is 0, the lines say its table
+pub read-good : (s : List ℕ) → read s .number ≡ 0 → readLines s ≡ good (read s .table)
+unfolding read
+read-good s e = cases (ltb 65536 (length s))
+    (λ q. absurd (fault-number Long (rw (q, read) at e)))
+    (λ q. rw (q, read) (go (readLines s) refl (rw (q, read) at e)))
+  where
+    go : (o : Result) → readLines s ≡ o → reading o .number ≡ 0 → readLines s ≡ good (reading (readLines s) .table)
+    go (good t) q e = q ∙ rw q
+    go (bad f l) q e = absurd (fault-number f e)
+
+pub read-text : (s : List ℕ) → read s .number ≡ 0 → text (read s .table) ≡ s
+read-text s e = read-write s (read s .table) (read-good s e)
+
+-- a table without a fault is tidy, and its text says some table
+fault-none : (t : Table) → fault t ≡ 0 → (r : Table) × (readLines (text t) ≡ good r) × (tidy t ≡ true)
+unfolding fault
+fault-none t e = go (readLines (text t)) refl e
+  where
+    go : (o : Result) → readLines (text t) ≡ o → faultIn t o ≡ 0 → (r : Table) × (readLines (text t) ≡ good r) × (tidy t ≡ true)
+    go (good r) q e = (r, q, cases (tidy t) (λ h. h) (λ h. absurd (fault-number Unused (rw (h, faultIn) at e))))
+    go (bad f l) q e = absurd (fault-number f e)
+
+-- a table without a fault, written and read, is the same table
+pub write-read : (t : Table) → Shaped t → fault t ≡ 0 → readLines (text t) ≡ good t
+write-read t v e =
+    let f = fault-none t e in
+    let a = accepted (text t) (f .0) (f .1) in
+    f .1 ∙ ap good (sym (a .0 .only (a .1) t v (f .2) refl))
+
+-- the lines of an accepted text have no fault
+pub read-lines : (s : List ℕ) (t : Table) → readLines s ≡ good t → Lines t
+read-lines s t e = let a = accepted s t e in a .0 .lines (a .1)
