@@ -13,3 +13,4 @@ pub mod MaskLists
 pub mod RowLaws
 pub mod NodeLaws
 pub mod RoundTrip
+pub mod TextLength

@@ -125,7 +125,7 @@ args-forth x z l = go (x .len) (x .a0) (x .a1) (x .a2) (x .a3) z l
 abbrev pub FitsIn : Table → Node → Type 0
 FitsIn t x = (countRight t x ≡ true) × ((q : ℕ) → procAt t q .params ≤ 4)
 
-few : (t : Table) (q : ℕ) (xs : Args) (to : ℕ) → FitsIn t (Call q xs to) → xs .len ≤ 4
+pub few : (t : Table) (q : ℕ) (xs : Args) (to : ℕ) → FitsIn t (Call q xs to) → xs .len ≤ 4
 unfolding countRight
 few t q xs to f = let e = eqb-true (xs .len) (procAt t q .params) (f .0) in rw e (f .1 q)
 

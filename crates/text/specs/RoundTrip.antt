@@ -23,7 +23,7 @@ use Rattle.text.specs.declared.Fault.{Fault}
 use Rattle.text.specs.declared.Fault.the-variants.{Long, Form, Misspelt, Ended, Range, Index, Reference, Arguments, Closing, Unused, Short}
 use Rattle.text.specs.Fault.{number}
 use Rattle.text.specs.NumberLaws.{cases, byOrder, and-left, and-right}
-use Rattle.text.specs.Value.{due, unless, orElse, check}
+use Rattle.text.specs.Value.{from, due, unless, orElse, check}
 use Rattle.text.specs.ValueLaws.{no}
 use Rattle.text.specs.Line.{Line, Vals, write, Outcome, took, refused, Parser, onto, _>>=_, give, at, after, line}
 use Rattle.text.specs.LineLaws.{Sound, line-read, onto-read, head-sound, counts-sound, task-sound, sem-sound, queue-sound, proc-sound}
@@ -128,7 +128,7 @@ scopeIn closed procs sems queues q = record { closed = closed; procs = procs; se
 abbrev FineNodes : Table → Scope → Proc → Type 0
 FineNodes t c q = (j : ℕ) → j < q .nodes → FaultlessNode c j (describe c (nodeIn q j))
 
-abbrev FitNodes : Table → Proc → Type 0
+abbrev pub FitNodes : Table → Proc → Type 0
 FitNodes t q = (j : ℕ) → j < q .nodes → FitsIn t (nodeIn q j)
 
 -- of the declared type, with nothing behind its nodes, its arguments and an open table's fields
@@ -248,7 +248,7 @@ pub record Shaped (t : Table) : Type 0 where
   pub drops : (p : ℕ) → procAt t p .drop < 2 ^ 32
   pub arcs : (p n : ℕ) → (arcTo (nodeAt t p n) < 2 ^ 32) × (arcNo (nodeAt t p n) < 2 ^ 32)
 
--- no line of the table has a fault
+-- no line of the table has a fault, and its calls fit
 pub record Lines (t : Table) : Type 0 where
   pub head : Faultless headLine (t .trap, (t .closed, tt))
   pub counts : Faultless countsLine (t .tasks, (t .procs, (t .sems, (t .queues, tt))))
@@ -257,6 +257,7 @@ pub record Lines (t : Table) : Type 0 where
   pub queues : (i : ℕ) → i < t .queues → Faultless (queueLine (t .closed) i) (queueVals (t .closed) i (queueAt t i))
   pub procs : (p : ℕ) → p < t .procs → Faultless (procLine (t .closed) p) (procVals (t .closed) p (procAt t p))
   pub nodes : (p : ℕ) → p < t .procs → (j : ℕ) → j < procAt t p .nodes → FaultlessNode (scope t (procAt t p)) j (describe (scope t (procAt t p)) (nodeAt t p j))
+  pub fits : (p : ℕ) → p < t .procs → FitNodes t (procAt t p)
 
 -- every call passes as many arguments as its callee has parameters, at most four
 abbrev Fitting : Table → Type 0
@@ -296,9 +297,17 @@ no-end : NoNode []
 unfolding after
 no-end x e = no (cc)
 
-proc-small : (closed : Bool) (i : ℕ) (q : Proc) → Faultless (procLine closed i) (procVals closed i q) → q .params ≤ 4
-proc-small false i q f = let h = number-fact 0 5 _ (q .params) (f .1 .0) in omega arith
-proc-small true i q f = let h = number-fact 0 5 _ (q .params) (f .1 .0) in omega arith
+bounds : (q : Proc) → check (from 0 4) (q .params) ≡ none → check (from (q .params) 16) (q .vars) ≡ none → check (from 2 32) (q .nodes) ≡ none
+    → (q .params ≤ 4) × (q .vars ≤ 16) × (q .nodes ≤ 32)
+bounds q a b c =
+    let p = number-fact 0 5 _ (q .params) a in
+    let v = number-fact (q .params) 17 _ (q .vars) b in
+    let n = number-fact 2 33 _ (q .nodes) c in
+    omega arith
+
+pub proc-bounds : (closed : Bool) (i : ℕ) (q : Proc) → Faultless (procLine closed i) (procVals closed i q) → (q .params ≤ 4) × (q .vars ≤ 16) × (q .nodes ≤ 32)
+proc-bounds false i q f = bounds q (f .1 .0) (f .1 .1 .0) (f .1 .1 .1 .0)
+proc-bounds true i q f = bounds q (f .1 .0) (f .1 .1 .0) (f .1 .1 .1 .0)
 
 -- what is known of the table's lists by its form and counts, and the text s behind the first two lines
 abbrev Behind : Table → Bool → ℕ → ℕ → ℕ → ℕ → List ℕ → Type 0
@@ -369,7 +378,7 @@ parsed h c ts ss qs ps l m n s s₁ s₂ s₃ s₄ s₅ a b T S Q P =
     let few = number-fact 1 9 _ (c .1 .0) (g .1 .0) in
     record {
       small = λ q. byOrder q (c .1 .0)
-        (λ k. proc-small (h .1 .0) q (getD ps q outside) (P .fine q (omega arith) k .0))
+        (λ k. proc-bounds (h .1 .0) q (getD ps q outside) (P .fine q (omega arith) k .0) .0)
         (λ k. rw (proc-past (c .1 .0) q ps k (P .later)) (omega arith));
       neat = rw (
         T .later,
@@ -391,6 +400,7 @@ parsed h c ts ss qs ps l m n s s₁ s₂ s₃ s₄ s₅ a b T S Q P =
         queues = λ i k. Q .fine i (omega arith) k .0;
         procs = λ i k. P .fine i (omega arith) k .0;
         nodes = λ i k. P .fine i (omega arith) k .2 (u i k);
+        fits = u;
       };
       same = λ u. x .0 ∙ rw (y .0, T .same (λ i j k. tt), S .same (λ i j k. tt), Q .same (λ i j k. tt), P .same (λ i j k. u i k), append-nil);
       only = λ u t v w e.
@@ -526,7 +536,7 @@ pub read-text : (s : List ℕ) → read s .number ≡ 0 → text (read s .table)
 read-text s e = read-write s (read s .table) (read-good s e)
 
 -- a table without a fault is tidy, and its text says some table
-fault-none : (t : Table) → fault t ≡ 0 → (r : Table) × (readLines (text t) ≡ good r) × (tidy t ≡ true)
+pub fault-none : (t : Table) → fault t ≡ 0 → (r : Table) × (readLines (text t) ≡ good r) × (tidy t ≡ true)
 unfolding fault
 fault-none t e = go (readLines (text t)) refl e
   where
