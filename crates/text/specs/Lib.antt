@@ -12,5 +12,6 @@ pub mod LineLaws
 pub mod MaskLists
 pub mod RowLaws
 pub mod NodeLaws
+pub mod TableLaws
 pub mod RoundTrip
 pub mod TextLength

@@ -6,11 +6,11 @@ use mathlib.Core.Option.{Option, none, some}
 use mathlib.Core.Bool.{Bool, true, false, _&&_, _||_, not}
 use native.Mathlib.Omega.{arith}
 use lib.Dec.{ltb, leb, eqb}
-use lib.ListN.{length, getD, set, take, drop, replicate, length-set, length-replicate, getD-replicate}
-use lib.Seq.{getD-set-same, getD-set-other, set-getD}
-use borrow.Author.Tests.{ltb-true, lt-ltb, leb-true, le-leb, eqb-true, eqb-false, ne-eqb}
+use lib.ListN.{length, getD, set, take, drop, replicate, length-set}
+use lib.Seq.{getD-set-other, set-getD}
+use borrow.Author.Tests.{ltb-true, lt-ltb, leb-true, le-leb, eqb-true, ne-eqb}
 use Rattle.table.specs.Mask.{members}
-use Rattle.table.specs.Table.{noSlot, noSlots, procAt, removed, argPlaces, arcTo, arcNo, isAbsent}
+use Rattle.table.specs.Table.{noSlot, noSlots, procAt, removed, argPlaces, arcTo, arcNo}
 use Rattle.table.specs.declared.Args.{Args}
 use Rattle.table.specs.declared.Node.{Node}
 use Rattle.table.specs.declared.Node.the-variants.{Absent, Start, Set, Test, Read, Call, Wait, Signal, Send, Recv, Assert, Out, Return}
@@ -20,13 +20,13 @@ use Rattle.text.specs.declared.Fault.{Fault}
 use Rattle.text.specs.declared.Fault.the-variants.{Misspelt, Reference}
 use Rattle.text.specs.Number.{bytes}
 use Rattle.text.specs.NumberLaws.{cases, byOrder, and-left, and-right}
-use Rattle.text.specs.Value.{Sort, start, set as setting, test, read, call, wait, signal, send, recv, assert, out, return, number, variable, ascending, arguments, spell, unless, orElse, ascends, within, isOne, noneRemoved, allDeclared, check}
+use Rattle.text.specs.Value.{Sort, start, set as setting, test, read, call, wait, signal, send, recv, assert, out, return, number, variable, ascending, arguments, spell, unless, ascends, within, isOne, noneRemoved, allDeclared, check}
 use Rattle.text.specs.ValueLaws.{no}
-use Rattle.text.specs.Line.{Line, Vals, write, Outcome, took, refused, Parser, onto, _>>=_, give, After, at, differs, broken, after, line}
+use Rattle.text.specs.Line.{Vals, write, took, onto, _>>=_, give, After, at, differs, broken, after, line}
 use Rattle.text.specs.LineLaws.{line-read, onto-read, node-sound}
 use Rattle.text.specs.MaskLists.{members-set, set-members}
 use Rattle.text.specs.Format.{Scope, fields, nodeLine, variableOf, nameOf, setOf, argsOf, argNames, nodeOf, Described, noLine, described, describe}
-use Rattle.text.specs.Reader.{Numbered, nodeRow, slotOf, openNodes, ifKey, furtherNodes, closedNodes, nodesOf, countRight}
+use Rattle.text.specs.Reader.{Numbered, nodeRow, slotOf, ifKey, furtherNodes, nodesOf, countRight}
 use Rattle.text.specs.Writer.{nodeText, all, isZero, argsEmpty}
 use Rattle.text.specs.RowLaws.{Faultless, or-left, or-right, unless-none, faultless, line-only, Rows, Row, Filled, fill-done, fill-step, rows-fill}
 
@@ -43,9 +43,10 @@ number-fact lo n f v e =
 pub list-fact : (one : Bool) (lo n : ℕ) (xs : List ℕ) → check (ascending one lo n) xs ≡ none → (ascends xs ≡ true) × (within lo n xs ≡ true)
 unfolding check
 list-fact one lo n xs e =
-    let a = ascends xs && (not one || isOne xs) in
-    (and-left (ascends xs) (not one || isOne xs) (unless-none a Misspelt (or-left (unless a Misspelt) (unless (within lo n xs) Reference) e)),
-      unless-none (within lo n xs) Reference (or-right (unless a Misspelt) (unless (within lo n xs) Reference) e))
+    let a = ascends xs && (not one || isOne xs) in (
+      and-left (ascends xs) (not one || isOne xs) (unless-none a Misspelt (or-left (unless a Misspelt) (unless (within lo n xs) Reference) e)),
+      unless-none (within lo n xs) Reference (or-right (unless a Misspelt) (unless (within lo n xs) Reference) e),
+    )
 
 within-more : (lo n m : ℕ) (xs : List ℕ) → n ≤ m → within lo n xs ≡ true → within lo m xs ≡ true
 unfolding within
@@ -59,6 +60,7 @@ within-more lo n m (x ∷ xs) h e =
 pub list-back : (one : Bool) (lo n : ℕ) (xs : List ℕ) → n ≤ 32 → check (ascending one lo n) xs ≡ none → members (setOf xs) ≡ xs
 list-back one lo n xs h e = let f = list-fact one lo n xs e in members-set lo xs (f .0) (within-more lo n 32 xs h (f .1))
 
+-- so do a variable, a number, and a call's arguments where they are no more than four
 name-back : (n v : ℕ) → n ≤ removed → v < n → nameOf v ≡ some v
 name-back n v h l = rw (ne-eqb v removed (λ q. omega arith))
 
@@ -89,6 +91,7 @@ args-back c n xs h e l = go xs l (names-back n xs h (unless-none (allDeclared n 
     go (a ∷ b ∷ c ∷ d ∷ []) l e = e
     go (a ∷ b ∷ c ∷ d ∷ f ∷ xs) l e = absurd (omega arith)
 
+-- and arguments with nothing behind them
 zero-all : (n : ℕ) (ns : List ℕ) → all isZero (n ∷ ns) ≡ true → (n ≡ 0) × (all isZero ns ≡ true)
 unfolding all
 zero-all n ns e = (eqb-true n 0 (and-left (isZero n) (all isZero ns) e), and-right (isZero n) (all isZero ns) e)
@@ -210,6 +213,7 @@ NoNode s = (x : List ℕ) → after (bytes "node=") s ≡ at x → ⊥
 abbrev pub NotBefore : Scope → ℕ → List ℕ → Type 0
 NotBefore c i s = (lo n l : ℕ) (v : Vals (nodeLine c lo n)) (l′ : ℕ) (r : List ℕ) → line (nodeLine c lo n) l s ≡ took v l′ r → i ≤ v .0
 
+-- no node line is read from such a text, and none is written at its beginning
 pub no-line : (c : Scope) (lo n l : ℕ) (s : List ℕ) → NoNode s → (v : Vals (nodeLine c lo n)) (l′ : ℕ) (r : List ℕ) → line (nodeLine c lo n) l s ≡ took v l′ r → ⊥
 unfolding write after
 no-line c lo n l s h v l′ r e = h _ (ap (after (bytes "node=")) (line-read (nodeLine c lo n) l s v l′ r e .0))
@@ -220,6 +224,7 @@ one-number : (c : Scope) (lo n l : ℕ) (s : List ℕ) (v : Vals (nodeLine c lo 
 unfolding write spell
 one-number c lo n l s v l′ r e i k w s′ q = ap (λ (u : Vals (nodeLine c lo n)). u .0) (line-only (nodeLine c lo n) (node-sound c lo n) l s v l′ r e (i, (k, w)) s′ q .0)
 
+-- behind a node's line stand later numbers
 pub next-node : (c : Scope) (i : ℕ) (d : Described c) (s : List ℕ) → NotBefore c (suc i) s → NotBefore c i (nodeText c i d ++ s)
 next-node c i noLine s x lo n l v l′ r e = let h = x lo n l v l′ r e in omega arith
 next-node c i (described k w) s x lo n l v l′ r e = let q = one-number c lo n l _ v l′ r e i k w s refl in omega arith
@@ -244,6 +249,7 @@ own-number : (j : ℕ) (f : Fault) → check (number j (suc j) f) j ≡ none
 unfolding check
 own-number j f = rw (le-leb j j (omega arith), lt-ltb j (suc j) (omega arith))
 
+-- every place of an empty list is empty
 getD-all : {A : Type 0} (n j : ℕ) (a : A) → getD (replicate n a) j a ≡ a
 getD-all zero j a = refl
 getD-all (suc n) zero a = refl

@@ -1,7 +1,7 @@
 -- Lines without fault, and rows: what a reader of rows took from a text is what the rows write, and no other rows write it.
 use Prim.Native.Nat.{ℕ, zero, suc, _+_, _-_, _≤_, _<_}
 use mathlib.Core.Path.{_≡_, refl, sym, _∙_, ap, subst}
-use mathlib.Core.List.{List, [], _∷_, _++_, append-assoc}
+use mathlib.Core.List.{List, _++_, append-assoc}
 use mathlib.Core.Option.{Option, none, some}
 use mathlib.Core.Bool.{Bool, true, false}
 use native.Mathlib.Omega.{arith}
@@ -9,9 +9,9 @@ use lib.ListN.{length, getD, set, drop, length-set}
 use lib.Seq.{getD-set-same, getD-set-other, drop-set-lt, getD-drop, ext-getD}
 use Rattle.text.specs.declared.Fault.{Fault}
 use Rattle.text.specs.NumberLaws.{byOrder}
-use Rattle.text.specs.Value.{Kind, Of, unless, orElse, check}
+use Rattle.text.specs.Value.{unless, orElse, check}
 use Rattle.text.specs.ValueLaws.{no}
-use Rattle.text.specs.Line.{Line, end, field, Vals, write, Outcome, took, refused, Parser, onto, line, lineFault}
+use Rattle.text.specs.Line.{Line, end, field, Vals, write, took, Parser, line, lineFault}
 use Rattle.text.specs.LineLaws.{Sound, judgement, line-write, onto-read}
 use Rattle.text.specs.Reader.{rows, concat}
 
@@ -53,8 +53,8 @@ line-only d g l s w l′ r e v s′ q = go (lineFault d v) (sym (line-write d g 
 
 -- ---- rows
 
--- what is known of the rows of a list: what each writes at its number; what is true of each that was read; which are told apart by
--- what they write; what a row written by hand must keep to; and what may stand in a text where row i would begin
+-- rows of one kind: what row i writes; the place with no row; what is true of every row that was read; which rows say all that
+-- their lines said; what a row made by hand must keep to, to be known by what it writes; and which texts may stand behind row i - 1
 pub record Rows (A : Type 0) : Type 1 where
   pub text : ℕ → A → List ℕ
   pub empty : A
@@ -93,12 +93,14 @@ pub atOrLater {ℓ} : (P : ℕ → Type ℓ) (i j : ℕ) → i ≤ j → P i →
 atOrLater P i j h p q = byOrder i j q (λ k. let e : i ≡ j = omega arith in subst P e p)
 
 module _ {A : Type 0} (R : Rows A) where
+  -- what stands behind a row may be more rows
   next-all : (M : List A) (n i e : ℕ) → e ≡ i + n → (s : List ℕ) → R .Next e s → R .Next i (written R M n i ++ s)
   unfolding concat
   next-all M zero i e q s x = let p : e ≡ i = omega arith in rw p at x
   next-all M (suc n) i e q s x = rw (append-assoc (R .text i (getD M i (R .empty))) (written R M n (suc i)) s)
       (R .next i (getD M i (R .empty)) (written R M n (suc i) ++ s) (next-all M n (suc i) e (omega arith) s x))
 
+  -- no row, and one row before others
   pub fill-done : (e : ℕ) (l : List A) (s : List ℕ) → Filled R 0 e e l l s s
   unfolding concat
   fill-done e l s =
@@ -109,10 +111,13 @@ module _ {A : Type 0} (R : Rows A) where
         later = refl;
         fine = λ j h k. absurd (omega arith);
         same = λ f. refl;
-        only = λ f M s′ a b c d x q. (ext-getD z M l a (λ j h. byOrder j e (b j)
-          (λ k.
-          let p : e + (j - e) ≡ j = omega arith in
-          rw p at (sym (getD-drop e M (j - e) z) ∙ ap (λ (m : List A). getD m (j - e) z) c ∙ getD-drop e l (j - e) z))), sym q);
+        only = λ f M s′ a b c d x q. (
+          ext-getD z M l a (λ j h. byOrder j e (b j)
+              (λ k.
+              let p : e + (j - e) ≡ j = omega arith in
+              rw p at (sym (getD-drop e M (j - e) z) ∙ ap (λ (m : List A). getD m (j - e) z) c ∙ getD-drop e l (j - e) z))),
+          sym q,
+        );
       }
 
   pub fill-step : (n i e : ℕ) (l : List A) (s : List ℕ) (a : A) (t : List ℕ) (L : List A) (r : List ℕ) → e ≡ i + suc n → i < length l
@@ -132,13 +137,14 @@ module _ {A : Type 0} (R : Rows A) where
             ∙ rw (here, f .same (λ j k u. g j (omega arith) u)) (sym (append-assoc (R .text i a) (written R L n (suc i)) r));
         only = λ g M s′ b c d m x q.
             let o = w .only (rw here at (g i (omega arith) (omega arith))) (getD M i z) (written R M n (suc i) ++ s′) (m i (omega arith) (omega arith))
-              (next-all M n (suc i) e (omega arith) s′ x) (q ∙ append-assoc (R .text i (getD M i z)) (written R M n (suc i)) s′) in
+            (next-all M n (suc i) e (omega arith) s′ x) (q ∙ append-assoc (R .text i (getD M i z)) (written R M n (suc i)) s′) in
             f .only (λ j k u. g j (omega arith) u) M s′ (b ∙ sym (length-set l i a))
-              (λ j k. byOrder j i (λ u. c j u ∙ sym (getD-set-other l i j a z (λ q. omega arith)))
-              (λ u. let y : j ≡ i = omega arith in rw y (o .0 ∙ sym (getD-set-same l i a z h))))
-              (d ∙ sym past) (λ j k u. m j (omega arith) u) x (sym (o .1));
+            (λ j k. byOrder j i (λ u. c j u ∙ sym (getD-set-other l i j a z (λ q. omega arith)))
+            (λ u. let y : j ≡ i = omega arith in rw y (o .0 ∙ sym (getD-set-same l i a z h))))
+            (d ∙ sym past) (λ j k u. m j (omega arith) u) x (sym (o .1));
       }
 
+  -- so many rows, counted up
   pub rows-fill : (f : ℕ → Parser A) → ((i l : ℕ) (s : List ℕ) (a : A) (l′ : ℕ) (r : List ℕ) → f i l s ≡ took a l′ r → Row R i s a r)
       → (n i e : ℕ) (l : List A) (k : ℕ) (s : List ℕ) (L : List A) (k′ : ℕ) (r : List ℕ) → e ≡ i + n → e ≤ length l
       → rows f n i l k s ≡ took L k′ r → Filled R n i e l L s r

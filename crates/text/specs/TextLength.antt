@@ -1,7 +1,7 @@
 -- The text of a table without a fault has at most 65,536 bytes, so the reader takes whatever the writer writes.
-use Prim.Native.Nat.{ℕ, zero, suc, _+_, _*_, _^_, _/_, _≤_, _<_, min}
-use mathlib.Core.Path.{_≡_, refl, sym, _∙_, ap}
-use mathlib.Core.List.{List, [], _∷_, _++_, map}
+use Prim.Native.Nat.{ℕ, zero, suc, _+_, _*_, _^_, _/_, _≤_, _<_}
+use mathlib.Core.Path.{_≡_, refl}
+use mathlib.Core.List.{List, [], _∷_, map}
 use mathlib.Core.Option.{Option, none, some}
 use mathlib.Core.Bool.{Bool, true, false, _&&_, _||_}
 use native.Mathlib.Omega.{arith}
@@ -12,7 +12,6 @@ use borrow.Author.Tests.{ltb-true, leb-true, le-ltb}
 use Rattle.table.specs.Table.{taskAt, semAt, queueAt, procAt, nodeIn}
 use Rattle.table.specs.declared.Operand.{Operand}
 use Rattle.table.specs.declared.Operand.the-variants.{Var, Const}
-use Rattle.table.specs.declared.Op.{Op}
 use Rattle.table.specs.declared.Op.the-variants.{Add, Sub, And, Or, Xor, Shr, Lt, Eq}
 use Rattle.table.specs.declared.Args.{Args}
 use Rattle.table.specs.declared.Node.{Node}
@@ -21,17 +20,19 @@ use Rattle.table.specs.declared.Table.{Table}
 use Rattle.text.specs.declared.Fault.the-variants.{Misspelt, Range, Reference}
 use Rattle.text.specs.Number.{digits}
 use Rattle.text.specs.NumberLaws.{byOrder, and-left, and-right, digits-small, digits-large}
-use Rattle.text.specs.Value.{Sort, start, set, test, read as reading, call, wait, signal, send, recv, assert, out, return, Kind, number, choice, sort, operation, operand, variable, ascending, arguments, Of, sortWord, opWord, chosen, spellVariable, spellOperand, commas, spellList, spell, unless, ascends, within, noneRemoved, allDeclared, check}
+use Rattle.text.specs.Value.{start, set, test, read as reading, call, wait, signal, send, recv, assert, out, return, Kind, number, choice, sort, operation, operand, variable, ascending, arguments, Of, spellVariable, spellOperand, commas, spellList, spell, unless, ascends, within, noneRemoved, allDeclared, check}
 use Rattle.text.specs.Line.{Line, end, field, Vals, write}
-use Rattle.text.specs.Format.{headLine, countsLine, taskLine, semLine, queueLine, procLine, Scope, nodeLine, fields, argNames, Described, noLine, described, describe}
+use Rattle.text.specs.Format.{headLine, countsLine, taskLine, semLine, queueLine, procLine, Scope, nodeLine, argNames, describe}
 use Rattle.text.specs.Reader.{concat, good, readLines, read}
 use Rattle.text.specs.Writer.{queueVals, procVals, nodeText, scope, procText, text, fault}
 use Rattle.text.specs.RowLaws.{Faultless, or-right, unless-none}
 use Rattle.text.specs.NodeLaws.{number-fact, list-fact, FitsIn, few, FaultlessNode}
-use Rattle.text.specs.RoundTrip.{Shaped, Lines, proc-bounds, read-write, read-lines, fault-none, write-read}
+use Rattle.text.specs.TableLaws.{Lines, proc-bounds}
+use Rattle.text.specs.RoundTrip.{Shaped, read-write, read-lines, fault-none, write-read}
 
 -- ---- values
 
+-- a number below 10^k has at most k digits
 digits-short : (k n : ℕ) → n < 10 ^ suc k → length (digits n) ≤ suc k
 digits-short zero n h = rw (digits-small n h) (omega arith)
 digits-short (suc k) n h = byOrder n 10
@@ -57,6 +58,7 @@ ascending-count lo n x (y ∷ xs) a w =
     let h = ltb-true x y (and-left (ltb x y) (ascends (y ∷ xs)) a) in
     omega arith
 
+-- targets have two digits, variables three
 numbers-short : (lo n : ℕ) (xs : List ℕ) → n ≤ 100 → within lo n xs ≡ true → AllShort 2 (map digits xs)
 unfolding within
 numbers-short lo n [] h w = tt
@@ -151,6 +153,7 @@ write-short (field key k next) w f h =
     let b = write-short (next (w .0)) (w .1) (f .1) (h .1) in
     rw (length-append key _, length-append (spell k (w .0)) _) (omega arith)
 
+-- lines that depend on the form
 queue-short : (closed : Bool) (i : ℕ) (w : Vals (queueLine closed i)) → i < 8 → Faultless (queueLine closed i) w → length (write (queueLine closed i) w) ≤ 30
 queue-short false i w h f = let a = write-short (queueLine false i) w f (omega arith) in omega arith
 queue-short true i w h f = let a = write-short (queueLine true i) w f (omega arith) in omega arith
@@ -167,6 +170,7 @@ args-few x h = rw (length-map (take (x .len) _) _, length-take (x .len) _) (omeg
 abbrev Bounded : Scope → Type 0
 Bounded c = (c .procs ≤ 8) × (c .sems ≤ 8) × (c .queues ≤ 8) × (c .vars ≤ 16) × (c .nodes ≤ 32)
 
+-- the longest is a test's
 node-short : (t : Table) (c : Scope) (j : ℕ) (x : Node) → Bounded c → j < 32 → FitsIn t x → FaultlessNode c j (describe c x) → length (nodeText c j (describe c x)) ≤ 249
 unfolding describe
 node-short t c j Absent b h g f = omega arith
@@ -185,6 +189,7 @@ node-short t c j Return b h g f = let a = write-short (nodeLine c j (suc j)) _ f
 
 -- ---- tables
 
+-- n texts of at most m bytes each
 concat-short : (f : ℕ → List ℕ) (m n i : ℕ) → ((j : ℕ) → i ≤ j → j < i + n → length (f j) ≤ m) → length (concat f n i) ≤ n * m
 unfolding concat
 concat-short f m zero i h = omega arith
@@ -204,7 +209,7 @@ proc-text t h p k =
     let b = proc-bounds (t .closed) p q (h .procs p k) in
     let x = proc-short (t .closed) p _ (omega arith) (h .procs p k) in
     let y = concat-short (λ j. nodeText (scope t q) j (describe (scope t q) (nodeIn q j))) 249 (q .nodes) 0
-      (λ j l u. node-short t (scope t q) j (nodeIn q j) (omega arith) (omega arith) (h .fits p k j (omega arith)) (h .nodes p k j (omega arith))) in
+    (λ j l u. node-short t (scope t q) j (nodeIn q j) (omega arith) (omega arith) (h .fits p k j (omega arith)) (h .nodes p k j (omega arith))) in
     rw (length-append (write (procLine (t .closed) p) (procVals (t .closed) p q)) _) (omega arith)
 
 lines-short : (t : Table) → Lines t → length (text t) ≤ 65536
@@ -231,7 +236,7 @@ read-length s t e = rw (← read-write s t e) (lines-short t (read-lines s t e))
 pub text-length : (t : Table) → fault t ≡ 0 → length (text t) ≤ 65536
 text-length t e = let f = fault-none t e in read-length (text t) (f .0) (f .1)
 
--- a table without a fault, written and read, is the same table, and the reader's number is 0
-pub write-read-whole : (t : Table) → Shaped t → fault t ≡ 0 → (read (text t) .table ≡ t) × (read (text t) .number ≡ 0)
+-- so a table without a fault, written and read, is the same table, with number and line 0
+pub write-read-whole : (t : Table) → Shaped t → fault t ≡ 0 → read (text t) ≡ record { number = 0; line = 0; table = t }
 unfolding read
-write-read-whole t v e = rw (le-ltb 65536 (length (text t)) (text-length t e), read, write-read t v e) (refl, refl)
+write-read-whole t v e = rw (le-ltb 65536 (length (text t)) (text-length t e), read, write-read t v e)
