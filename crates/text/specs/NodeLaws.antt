@@ -218,6 +218,10 @@ pub no-line : (c : Scope) (lo n l : ℕ) (s : List ℕ) → NoNode s → (v : Va
 unfolding write after
 no-line c lo n l s h v l′ r e = h _ (ap (after (bytes "node=")) (line-read (nodeLine c lo n) l s v l′ r e .0))
 
+no-node : (c : Scope) (i : ℕ) (s : List ℕ) → NoNode s → (k : Sort) (w : Vals (fields c k)) (s′ : List ℕ) → s ≡ nodeText c i (described k w) ++ s′ → ⊥
+unfolding write after
+no-node c i s h k w s′ q = h _ (ap (after (bytes "node=")) q)
+
 -- a text from which a node line was read begins with no line of another number
 one-number : (c : Scope) (lo n l : ℕ) (s : List ℕ) (v : Vals (nodeLine c lo n)) (l′ : ℕ) (r : List ℕ) → line (nodeLine c lo n) l s ≡ took v l′ r
     → (i : ℕ) (k : Sort) (w : Vals (fields c k)) (s′ : List ℕ) → s ≡ nodeText c i (described k w) ++ s′ → i ≡ v .0
@@ -228,10 +232,6 @@ one-number c lo n l s v l′ r e i k w s′ q = ap (λ (u : Vals (nodeLine c lo 
 pub next-node : (c : Scope) (i : ℕ) (d : Described c) (s : List ℕ) → NotBefore c (suc i) s → NotBefore c i (nodeText c i d ++ s)
 next-node c i noLine s x lo n l v l′ r e = let h = x lo n l v l′ r e in omega arith
 next-node c i (described k w) s x lo n l v l′ r e = let q = one-number c lo n l _ v l′ r e i k w s refl in omega arith
-
-no-node : (c : Scope) (i : ℕ) (s : List ℕ) → NoNode s → (k : Sort) (w : Vals (fields c k)) (s′ : List ℕ) → s ≡ nodeText c i (described k w) ++ s′ → ⊥
-unfolding write after
-no-node c i s h k w s′ q = h _ (ap (after (bytes "node=")) q)
 
 -- the places of a procedure with scope c, in table t
 abbrev pub nodeRows : Table → Scope → Rows Slot
