@@ -18,3 +18,8 @@ pub mod LinedLaws
 pub mod EndsLaws
 pub mod StructureLaws
 pub mod ValidLaws
+pub mod RowLaws
+pub mod NodeLaws
+pub mod TableLaws
+pub mod RoundTrip
+pub mod TextLength

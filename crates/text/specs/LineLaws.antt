@@ -97,7 +97,7 @@ key-read {P = P} key s p l v l′ r e then = go (after key s) refl e
     go differs q e = no (cc)
     go broken q e = no (cc)
 
-onto-read : {A B P : Type 0} (o : Outcome A) (p : A → Parser B) (w : B) (l : ℕ) (r : List ℕ) → onto o p ≡ took w l r
+pub onto-read : {A B P : Type 0} (o : Outcome A) (p : A → Parser B) (w : B) (l : ℕ) (r : List ℕ) → onto o p ≡ took w l r
     → ((v : A) (k : ℕ) (s : List ℕ) → o ≡ took v k s → p v k s ≡ took w l r → P) → P
 onto-read (took v k s) p w l r e then = then v k s refl e
 onto-read (refused f k) p w l r e then = no (cc)
