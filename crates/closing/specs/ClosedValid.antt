@@ -85,8 +85,9 @@ module _ (t : Table) (z : fault t ≡ 0) (o : t .closed ≡ false) where
       (λ u. absurd (omega (arith, v .lines .cap q u .0, ap (λ (x : Queue). x .cap) (List·getD-eq-default (t .queue) noQueue l))))
       (λ u. rw (not-blank q u)))
 
-  -- ---- arcs
+  -- ---- arcs: the targets of every node, and so all that an arc leads to, lie within the procedure
 
+  -- node n of procedure p is kept
   abbrev Stays : ℕ → ℕ → Type 0
   Stays p n = kept (dirty t) p n (nodeAt t p n) ≡ true
 
@@ -107,12 +108,13 @@ module _ (t : Table) (z : fault t ≡ 0) (o : t .closed ≡ false) where
   leads-in p m k w (target e) = w k e
   leads-in p m k w (through n u e l) = targets p n k e
 
-  -- a new arc's targets lie within the procedure and are kept
+  -- a new arc's targets do too, and are kept
   arc-in : (p m : ℕ) → Within 1 (procAt t p .nodes) (members m) → All (λ k. ((1 ≤ k) × (k < procAt t p .nodes)) × Stays p k) (members (arc p m))
   arc-in p m w k e = let h = arc-is t p m k .0 (members-is k (arc p m) .0 e .0) in (leads-in p m k w (h .0), h .1)
 
   -- ---- nodes
 
+  -- where the closed nodes of procedure p stand
   abbrev shut : ℕ → Scope
   shut p = record { closed = true; procs = t .procs; sems = t .sems; queues = t .queues; vars = procAt t p .vars; nodes = procAt t p .nodes }
 
@@ -232,8 +234,11 @@ module _ (t : Table) (z : fault t ≡ 0) (o : t .closed ≡ false) where
 
   drop-in : (p : ℕ) → Within 0 (procAt c p .params) (members (procAt c p .drop))
   unfolding closedProc
-  drop-in p k e = rw (close-params t p) (omega arith, byOrder k (procAt t p .params) (λ l. l)
-      (λ l. absurd (true≢false (sym (members-is k (procAt c p .drop) .0 e .0) ∙ ap (λ (q : Proc). bit k (q .drop)) (close-proc t p) ∙ bit-maskOf-above (procAt t p .params) k _ l))))
+  drop-in p k e = rw (close-params t p) (
+    omega arith,
+    byOrder k (procAt t p .params) (λ l. l)
+        (λ l. absurd (true≢false (sym (members-is k (procAt c p .drop) .0 e .0) ∙ ap (λ (q : Proc). bit k (q .drop)) (close-proc t p) ∙ bit-maskOf-above (procAt t p .params) k _ l))),
+  )
 
   proc-valid : (p : ℕ) → p < t .procs → ProcValid c p
   proc-valid p l = let h = v .lines .proc p l in record {
@@ -283,7 +288,7 @@ module _ (t : Table) (z : fault t ≡ 0) (o : t .closed ≡ false) where
   proc-tidy : (p : ℕ) → p < t .procs → procTidy true (procAt c p) ≡ true
   proc-tidy p l = let q = procAt c p in rw (
     behind-all slotEmpty (q .slots) noSlot (q .nodes) (λ n m. absent-at p n (inr (rw (close-nodes t p) at m))),
-    all-below (q .nodes) (λ j. argsEmpty (nodeAt c p j)) (λ n m. right-at p n l m .behind)
+    all-below (q .nodes) (λ j. argsEmpty (nodeAt c p j)) (λ n m. right-at p n l m .behind),
   )
 
   tidied : tidy c ≡ true
@@ -293,7 +298,7 @@ module _ (t : Table) (z : fault t ≡ 0) (o : t .closed ≡ false) where
 
   -- ---- the closed table
 
-  pub closed-valid : Valid c
+  pub closed-valid : Valid (closeTable t)
   unfolding closeTable closedWith
   closed-valid = record {
     lines = lined;
@@ -304,5 +309,5 @@ module _ (t : Table) (z : fault t ≡ 0) (o : t .closed ≡ false) where
     unused = tidied;
   }
 
-  pub closed-fault : fault c ≡ 0
+  pub closed-fault : fault (closeTable t) ≡ 0
   closed-fault = of-valid c closed-valid
