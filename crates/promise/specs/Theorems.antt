@@ -12,7 +12,7 @@ use Rattle.promise.specs.Proof3
 granted : (t : Table) → close t .number ≡ 0 → Wf t
 granted t ok = let a = Proof3.accepted t ok in wf t (a .sound) (a .open-form)
 
--- its closed table has no fault: every call takes it
+-- its closed table has no fault
 pub closed-reads-back : (t : Table) → close t .number ≡ 0 → fault (close t .table) ≡ 0
 closed-reads-back t ok = let a = Proof3.accepted t ok in rw (a .answer-is) (closed-fault t (a .sound) (a .open-form))
 
