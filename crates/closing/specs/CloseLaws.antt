@@ -3,18 +3,20 @@ use Prim.Native.Nat.{ℕ, zero, suc, _+_, _<_, _≤_}
 use native.Mathlib.Omega.{arith}
 use native.Mathlib.Nat.{add-zero, zero-add, add-suc, suc-add}
 use mathlib.Core.Path.{_≡_, refl, sym, _∙_, ap}
+use mathlib.Core.Bool.{true, false}
 use mathlib.Core.List.{List, [], _∷_}
 use lib.ListN.{length, getD}
 use Rattle.table.specs.Mask.{bit, maskOf}
 use Rattle.table.specs.MaskLaws.{bit-maskOf}
 use Rattle.table.specs.Table.{nodeAt, procAt, queueAt, noSlot, noQueue, outside, keeping}
+use Rattle.table.specs.declared.Node.the-variants.{Absent}
 use Rattle.table.specs.declared.Slot.{Slot}
 use Rattle.table.specs.declared.Queue.{Queue}
 use Rattle.table.specs.declared.Proc.{Proc}
 use Rattle.table.specs.declared.Table.{Table}
 use Rattle.closing.specs.Dirty.{dropped, blank}
 use Rattle.closing.specs.Closing.{dirty, isDirty, kept}
-use Rattle.closing.specs.Close.{mapFrom, unkeptArcs, closedSlot, closedProc, closedQueue, closedWith, closeTable}
+use Rattle.closing.specs.Close.{mapFrom, unkeptArcs, newArc, closedNode, closedSlot, closedProc, closedQueue, closedWith, closeTable}
 
 -- place k of a list that `mapFrom` made; past the list's end the two defaults must agree
 mapFrom-at : {A B : Type 0} (f : ℕ → A → B) (i k : ℕ) (xs : List A) (a : A) (b : B) → (length xs ≤ k → f (i + k) a ≡ b) → getD (mapFrom f i xs) k b ≡ f (i + k) (getD xs k a)
@@ -24,7 +26,7 @@ mapFrom-at f i zero (x ∷ xs) a b h = rw add-zero
 mapFrom-at f i (suc k) (x ∷ xs) a b h = rw (add-suc, ← suc-add i k) (mapFrom-at f (suc i) k xs a b (λ l. rw (suc-add, ← add-suc i k) (h (omega arith))))
 
 -- the same of a list counted from 0
-map-at : {A B : Type 0} (f : ℕ → A → B) (k : ℕ) (xs : List A) (a : A) (b : B) → (length xs ≤ k → f k a ≡ b) → getD (mapFrom f zero xs) k b ≡ f k (getD xs k a)
+pub map-at : {A B : Type 0} (f : ℕ → A → B) (k : ℕ) (xs : List A) (a : A) (b : B) → (length xs ≤ k → f k a ≡ b) → getD (mapFrom f zero xs) k b ≡ f k (getD xs k a)
 map-at f k xs a b h = rw zero-add at (mapFrom-at f zero k xs a b (λ l. rw zero-add (h l)))
 
 module _ (t : Table) where
@@ -60,6 +62,14 @@ module _ (t : Table) where
   unfolding closedProc closedSlot kept keeping
   close-node p n = ap (λ (q : Proc). getD (q .slots) n noSlot .node) (close-proc p)
       ∙ ap (λ (x : Slot). x .node) (map-at (closedSlot t (dirty t) p (unkeptArcs t (dirty t) p)) n (procAt t p .slots) noSlot noSlot (λ _. refl))
+
+  pub kept-node : (p n : ℕ) → kept (dirty t) p n (nodeAt t p n) ≡ true → nodeAt (closeTable t) p n ≡ closedNode t (dirty t) p n (newArc t (dirty t) p (unkeptArcs t (dirty t) p)) (nodeAt t p n)
+  unfolding closedSlot
+  kept-node p n e = close-node p n ∙ rw (e, closedSlot)
+
+  pub unkept-node : (p n : ℕ) → kept (dirty t) p n (nodeAt t p n) ≡ false → nodeAt (closeTable t) p n ≡ Absent
+  unfolding closedSlot
+  unkept-node p n e = close-node p n ∙ rw (e, closedSlot)
 
   -- ---- queues
 

@@ -8,6 +8,7 @@ pub mod KeptLaws
 pub mod Close
 pub mod ArcLaws
 pub mod CloseLaws
+pub mod ClosedValid
 pub mod Program
 pub mod Computing
 pub mod Examples

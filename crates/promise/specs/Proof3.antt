@@ -45,7 +45,7 @@ pub record Accepted (t : Table) : Type 0 where
   pub open-form : t .closed ≡ false
   pub answer-is : close t .table ≡ closeTable t
 
-accepted : (t : Table) → close t .number ≡ 0 → Accepted t
+pub accepted : (t : Table) → close t .number ≡ 0 → Accepted t
 unfolding close
 accepted t e = go (fault t) (t .closed) refl refl e
   where

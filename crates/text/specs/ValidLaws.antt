@@ -4,7 +4,7 @@ use mathlib.Core.Path.{_≡_, refl, sym, _∙_, fun-ext}
 use mathlib.Core.Logic.{_↔_, _⊎_, inl, inr}
 use mathlib.Core.List.{List, [], _∷_, _++_, List·Memᴰ, List·Memᴰ·head, List·Memᴰ·tail, List·Memᴰ·not-nil}
 use mathlib.Core.Option.{Option, none, some}
-use mathlib.Core.Bool.{Bool, true, false, _&&_, _||_, not}
+use mathlib.Core.Bool.{Bool, true, false, true≢false, _&&_, _||_, not}
 use native.Mathlib.Omega.{arith}
 use lib.Dec.{eqb}
 use lib.ListN.{getD, drop, replicate}
@@ -27,7 +27,7 @@ use Rattle.text.specs.Format.{Scope}
 use Rattle.text.specs.Writer.{scope, all, isZero, slotEmpty, taskEmpty, semEmpty, queueEmpty, procEmpty, procTidy, tidy, fault}
 use Rattle.text.specs.RightLaws.{unless-is, else-is, and-is}
 use Rattle.text.specs.Structure.{firstOf, firstIn, linesFault, tableFault, numbered}
-use Rattle.text.specs.Valid.{NodeValid, Valid}
+use Rattle.text.specs.Valid.{Named, NodeValid, Valid}
 use Rattle.text.specs.EndsLaws.{by-line}
 use Rattle.text.specs.LinedLaws.{first-none, none-first, lined-of, of-lined}
 use Rattle.text.specs.StructureLaws.{fault-is}
@@ -38,14 +38,14 @@ or-is : (a b : Bool) → (not a || b ≡ true) ↔ (a ≡ true → b ≡ true)
 or-is true b = (λ e o. e, λ f. f refl)
 or-is false b = (λ e o. no (cc), λ f. refl)
 
-below-all : (n : ℕ) (f : ℕ → Bool) → allBelow n f ≡ true → (i : ℕ) → i < n → f i ≡ true
+pub below-all : (n : ℕ) (f : ℕ → Bool) → allBelow n f ≡ true → (i : ℕ) → i < n → f i ≡ true
 unfolding allBelow
 below-all zero f e i l = absurd (omega arith)
 below-all (suc n) f e i l = cases (eqb i n)
     (λ q. rw (eqb-true i n q) (and-left (f n) (allBelow n f) e))
     (λ q. below-all n f (and-right (f n) (allBelow n f) e) i (omega (arith, eqb-false i n q)))
 
-all-below : (n : ℕ) (f : ℕ → Bool) → ((i : ℕ) → i < n → f i ≡ true) → allBelow n f ≡ true
+pub all-below : (n : ℕ) (f : ℕ → Bool) → ((i : ℕ) → i < n → f i ≡ true) → allBelow n f ≡ true
 unfolding allBelow
 all-below zero f h = refl
 all-below (suc n) f h = rw (h n (omega arith)) (all-below n f (λ i l. h i (omega arith)))
@@ -181,9 +181,16 @@ all-at f [] d e h i = h
 all-at f (x ∷ xs) d e h zero = and-left (f x) (all f xs) e
 all-at f (x ∷ xs) d e h (suc i) = all-at f xs d (and-right (f x) (all f xs) e) h i
 
--- behind what is counted
-all-behind : {A : Type 0} (f : A → Bool) (xs : List A) (d : A) (n i : ℕ) → all f (drop n xs) ≡ true → f d ≡ true → n ≤ i → f (getD xs i d) ≡ true
+-- behind what is counted, and back
+pub all-behind : {A : Type 0} (f : A → Bool) (xs : List A) (d : A) (n i : ℕ) → all f (drop n xs) ≡ true → f d ≡ true → n ≤ i → f (getD xs i d) ≡ true
 all-behind f xs d n i e h l = let p : n + (i - n) ≡ i = omega arith in rw (p) at (rw (getD-drop n xs (i - n) d) at (all-at f (drop n xs) d e h (i - n)))
+
+pub behind-all : {A : Type 0} (f : A → Bool) (xs : List A) (d : A) (n : ℕ) → ((i : ℕ) → n ≤ i → f (getD xs i d) ≡ true) → all f (drop n xs) ≡ true
+unfolding all
+behind-all f [] d zero h = refl
+behind-all f [] d (suc n) h = refl
+behind-all f (x ∷ xs) d zero h = rw (h 0 (omega arith)) (behind-all f xs d zero (λ i l. h (suc i) (omega arith)))
+behind-all f (x ∷ xs) d (suc n) h = behind-all f xs d n (λ i l. h (suc i) (omega arith))
 
 -- the unused places, part by part
 pub tidy-parts : (t : Table) → tidy t ≡ true
@@ -198,14 +205,20 @@ tidy-parts t e =
     let h₅ = and-is (allBelow (t .queues) (λ i. t .closed || not (queueAt t i .blank))) (allBelow (t .procs) (λ p. procTidy (t .closed) (procAt t p))) .0 (h₄ .1) in
     (h₁ .0, h₂ .0, h₃ .0, h₄ .0, below-all (t .queues) _ (h₅ .0), below-all (t .procs) _ (h₅ .1))
 
--- behind the procedures no place holds a node
-far-absent : (t : Table) → tidy t ≡ true → (p n : ℕ) → t .procs ≤ p → nodeAt t p n ≡ Absent
-unfolding all isAbsent
-far-absent t e p n l =
+-- behind the procedures every place is 0,
+pub far-empty : (t : Table) → tidy t ≡ true → (p : ℕ) → t .procs ≤ p → (procAt t p .params ≡ 0) × (procAt t p .vars ≡ 0) × (procAt t p .nodes ≡ 0) × (all slotEmpty (procAt t p .slots) ≡ true)
+unfolding all
+far-empty t e p l =
     let q = procAt t p in
-    let h = all-behind procEmpty (t .proc) outside (t .procs) p (tidy-parts t e .3) refl l in
-    let s = and-is (isZero (q .drop)) (all slotEmpty (q .slots)) .0 (and-is (isZero (q .nodes)) _ .0 (and-is (isZero (q .vars)) _ .0 (and-is (isZero (q .params)) _ .0 h .1) .1) .1) .1 in
-    absent-is (nodeIn q n) (all-at slotEmpty (q .slots) noSlot s refl n)
+    let h₁ = and-is (isZero (q .params)) _ .0 (all-behind procEmpty (t .proc) outside (t .procs) p (tidy-parts t e .3) refl l) in
+    let h₂ = and-is (isZero (q .vars)) _ .0 (h₁ .1) in
+    let h₃ = and-is (isZero (q .nodes)) _ .0 (h₂ .1) in
+    (eqb-true (q .params) 0 (h₁ .0), eqb-true (q .vars) 0 (h₂ .0), eqb-true (q .nodes) 0 (h₃ .0), and-right (isZero (q .drop)) (all slotEmpty (q .slots)) (h₃ .1))
+
+-- and no place holds a node
+far-absent : (t : Table) → tidy t ≡ true → (p n : ℕ) → t .procs ≤ p → nodeAt t p n ≡ Absent
+unfolding isAbsent
+far-absent t e p n l = absent-is (nodeAt t p n) (all-at slotEmpty (procAt t p .slots) noSlot (far-empty t e p l .3) refl n)
 
 -- nor does one behind a procedure's nodes
 pub outside-absent : (t : Table) → fault t ≡ 0 → (p n : ℕ) → (t .procs ≤ p) ⊎ (procAt t p .nodes ≤ n) → nodeAt t p n ≡ Absent
@@ -252,3 +265,7 @@ start-is c Return v = absurd (omega arith)
 
 pub start-at : (t : Table) → Valid t → (p : ℕ) → p < t .procs → (to : ℕ) × (nodeAt t p 0 ≡ Start to)
 start-at t v p u = let h = v .lines .proc p u in start-is (scope t (procAt t p)) (nodeAt t p 0) (h .node 0 (omega (arith, h .nodesLow)))
+
+-- what names a variable in an open table names one of the procedure's
+pub named-open : (c : Scope) (x : ℕ) → c .closed ≡ false → Named c x → x < c .vars
+named-open c x o h = h .1 (λ e. true≢false (sym (h .0 e) ∙ o))

@@ -11,7 +11,7 @@ use Rattle.table.specs.declared.Node.{Node}
 use Rattle.table.specs.declared.Node.the-variants.{Absent, Start, Set, Test, Read, Call, Wait, Signal, Send, Recv, Assert, Out, Return}
 use Rattle.table.specs.declared.Table.{Table}
 use Rattle.closing.specs.Close.{closedNode, closeTable}
-use Rattle.closing.specs.CloseLaws.{close-cap}
+use Rattle.closing.specs.CloseLaws.{close-cap, kept-node}
 use Rattle.machine.specs.declared.Entries.{Entries}
 use Rattle.machine.specs.declared.State.{State}
 use Rattle.machine.specs.State.{openFrames, frameAt, topmost, semCount, standsBefore, blockedAt, blocked}
@@ -19,7 +19,7 @@ use Rattle.machine.specs.History.{History, lastSetting}
 use Rattle.promise.specs.Demand3.{SameState}
 use Rattle.promise.specs.Sim.Wf.{Declared, Wf}
 use Rattle.promise.specs.Sim.Locals.{keptAt, clean-is}
-use Rattle.promise.specs.Sim.Exec.{closing, closed-node}
+use Rattle.promise.specs.Sim.Exec.{closing}
 use Rattle.promise.specs.Sim.Same.{Same}
 
 module _ (t : Table) (h : History) (s s′ : State) where
@@ -44,7 +44,7 @@ module _ (t : Table) (h : History) (s s′ : State) where
 
     -- the node before which the task stands
     pub stands-closed : standsBefore (closeTable t) s′ k ≡ closing t (topmost s k .proc) (topmost s k .node) (standsBefore t s k)
-    stands-closed = ap₂ (nodeAt (closeTable t)) (sym top-proc) (sym (q .next k k<)) ∙ closed-node t (topmost s k .proc) (topmost s k .node) keeps
+    stands-closed = ap₂ (nodeAt (closeTable t)) (sym top-proc) (sym (q .next k k<)) ∙ kept-node t (topmost s k .proc) (topmost s k .node) keeps
 
     blocked-at : (p n : ℕ) (x : Node) → Declared t x → blockedAt t s k x ≡ blockedAt (closeTable t) s′ k (closing t p n x)
     unfolding blockedAt closedNode

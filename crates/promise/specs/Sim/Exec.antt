@@ -22,9 +22,8 @@ use Rattle.table.specs.declared.Table.{Table}
 use Rattle.closing.specs.ReachLaws.{cases}
 use Rattle.closing.specs.Dirty.{settingAt, useAt, blank, Dirty, by-read, by-set, by-recv, sent, Unkept, is-read, dirty-use}
 use Rattle.closing.specs.Closing.{dirty, kept}
-use Rattle.closing.specs.Close.{unkeptArcs, newArc, useOr, queueOr, closedNode, closedSlot, closeTable}
+use Rattle.closing.specs.Close.{unkeptArcs, newArc, useOr, queueOr, closedNode}
 use Rattle.closing.specs.KeptLaws.{unkept-is}
-use Rattle.closing.specs.CloseLaws.{close-node}
 use Rattle.machine.specs.declared.Entries.{Entries}
 use Rattle.machine.specs.State.{varAt, entriesAt, semCount}
 use Rattle.machine.specs.Step.{Memory, operandIn, assign, withSem, withEntries, appended, oldest, shortened, Did, stops, goes, readOf, exec, stays, flow, valueOf, shown}
@@ -51,11 +50,6 @@ module _ (t : Table) where
 
   abbrev pub closing : ℕ → ℕ → Node → Node
   closing p n x = closedNode t (dirty t) p n (arcOf p) x
-
-  -- a kept node of the closed table
-  pub closed-node : (p n : ℕ) → keptAt t p n ≡ true → nodeAt (closeTable t) p n ≡ closing p n (nodeAt t p n)
-  unfolding closedSlot
-  closed-node p n e = close-node t p n ∙ rw (e, closedSlot)
 
   -- node n goes on by arc a to its one target
   pub record Leading (p n a : ℕ) : Type 0 where

@@ -17,6 +17,7 @@ use Rattle.table.specs.declared.Table.{Table}
 use Rattle.closing.specs.ReachLaws.{cases}
 use Rattle.closing.specs.Closing.{dirty}
 use Rattle.closing.specs.Close.{argsOr, closedNode, closeTable}
+use Rattle.closing.specs.CloseLaws.{kept-node}
 use Rattle.machine.specs.declared.Frame.{Frame}
 use Rattle.machine.specs.declared.State.{State}
 use Rattle.machine.specs.State.{openFrames, isLost, frameAt, topmost, standsBefore, blockedAt, blocked}
@@ -24,7 +25,7 @@ use Rattle.machine.specs.Step.{Memory, Did, exec, choose, Walk, halts, arrives,
 use Rattle.machine.specs.History.{History, executed, entered, afterFlow, afterEntry, lastSetting}
 use Rattle.promise.specs.Sim.Wf.{Wf}
 use Rattle.promise.specs.Sim.Locals.{Last, keptAt, mark, marks, marks-append, mark-other, sets-nothing, Locals, still, move, Shared}
-use Rattle.promise.specs.Sim.Exec.{SameValue, arcOf, closing, closed-node, Leading, by-to, Matched, exec-sim, log-sim}
+use Rattle.promise.specs.Sim.Exec.{SameValue, arcOf, closing, Leading, by-to, Matched, exec-sim, log-sim}
 use Rattle.promise.specs.Sim.Walk.{WhenArrives, allKept, Landed, along-sim}
 use Rattle.promise.specs.Sim.Same.{IsCall, Touched, stays-touch, call-touch, return-touch, lastOf, SameFrame, nodeOf, SameTask, Same, rebuild}
 use Rattle.promise.specs.Sim.Call.{executed-here, executed-other, entered-here, entered-other, first-kept, call-kept, call-arc, call-locals}
@@ -237,7 +238,7 @@ module _ (t : Table) (wf : Wf t) (most most′ : ℕ) (h : History) (s s′ : St
           ap (λ (z : Node). flowed t′ allKept most′ e′ s′ k f′ z us (flow z)) (x′-is ∙ ap (closing t (f .proc) (f .node)) i)
           ∙ ap (λ (i : ℕ). resume us i (frameAt s′ k i .proc) (frameAt s′ k i) (arcTo (nodeOf t′ (frameAt s′ k i)))) (omega (arith, task .depth))
           ∙ ap₂ (λ (p a : ℕ). resume us j p g′ a) (sym (caller .proc)) (ap₂ (λ (p n : ℕ). arcTo (nodeAt t′ p n)) (sym (caller .proc)) (sym (caller .node))
-          ∙ ap arcTo (closed-node t (g .proc) (g .node) (call-kept t (g .proc) (g .node) its-call)) ∙ call-arc t (g .proc) (g .node) (nodeOf t g) its-call)
+          ∙ ap arcTo (kept-node t (g .proc) (g .node) (call-kept t (g .proc) (g .node) its-call)) ∙ call-arc t (g .proc) (g .node) (nodeOf t g) its-call)
 
     return-sim : x ≡ Return → (vs : List ℤ) → WhenStepped Done (flowed t (keptAt t) most e s k f x vs returns)
     unfolding flow blockedAt resume
