@@ -2,3 +2,4 @@ pub mod State
 pub mod Step
 pub mod Run
 pub mod History
+pub mod StepLaws

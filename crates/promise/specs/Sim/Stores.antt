@@ -63,10 +63,6 @@ at-in [] i a e = let z : _≡_ {A = ℕ} 0 1 = cc in absurd (omega arith)
 at-in (x ∷ xs) zero a e = let z : a ≡ x = cc in List·Memᴰ·head z
 at-in (x ∷ xs) (suc i) a e = List·Memᴰ·tail (at-in xs i a e)
 
-pub index-of : {A : Type 0} (a : A) (l : List A) → List·Memᴰ a l → (i : ℕ) × (getElem? l i ≡ some a)
-index-of a l (List·Memᴰ·head e) = (zero, ap some (sym e))
-index-of a l (List·Memᴰ·tail {xs = r} m) = let j = index-of a r m in (suc (j .0), j .1)
-
 -- ---- a run of stores
 
 pub sets-before : {A : Type 0} (vs l : List A) (i j : ℕ) (d : A) → j < i → getD (sets l i vs) j d ≡ getD l j d

@@ -4,7 +4,7 @@ use mathlib.Core.Path.{_≡_, refl, sym, _∙_, ap}
 use mathlib.Core.Bool.{true, false}
 use mathlib.Core.Option.{Option, some}
 use mathlib.Core.List.{List, [], _∷_, _++_, List·Memᴰ, List·Memᴰ·head, List·Memᴰ·tail, List·Memᴰ·not-nil}
-use lib.IntN.{ℤ, pos}
+use lib.IntN.{ℤ}
 use Rattle.table.specs.Mask.{members}
 use Rattle.table.specs.MaskLaws.{members-is}
 use Rattle.table.specs.Table.{nodeAt, isAbsent}
@@ -14,10 +14,10 @@ use Rattle.closing.specs.Dirty.{Leads, target, through}
 use Rattle.closing.specs.Close.{closeTable}
 use Rattle.closing.specs.KeptLaws.{unkept-is}
 use Rattle.closing.specs.ArcLaws.{leads-below, arc-is}
-use Rattle.machine.specs.Step.{Memory, Did, stops, goes, exec, node, tossed, chooseFrom, choose, Kept, Walk, halts, arrives, along, onward, noting, walk}
+use Rattle.machine.specs.Step.{Memory, Did, stops, goes, exec, choose, Kept, Walk, halts, arrives, along, onward, noting, walk}
+use Rattle.machine.specs.StepLaws.{choose-one, choose-some}
 use Rattle.machine.specs.History.{lastSetting}
 use Rattle.promise.specs.Sim.Wf.{Wf}
-use Rattle.promise.specs.Sim.Stores.{index-of}
 use Rattle.promise.specs.Sim.Locals.{Last, keptAt, mark, marks, Locals, Shared}
 use Rattle.promise.specs.Sim.Exec.{WhenGoes, arcOf, Leading, Passed, dropped-sim}
 
@@ -35,24 +35,6 @@ when-onward : (P : Option ℕ → Memory → List ℤ → List ℕ → Type 0) (
     → ((a : ℕ) (m : Memory) (vs : List ℤ) → Q a m vs → WhenArrives P (along k m (choose a vs))) → WhenArrives P (onward k r)
 when-onward P Q k (stops c) q f = tt
 when-onward P Q k (goes a m vs) q f = f a m vs q
-
--- ---- choices
-
--- an arc with one target
-pub choose-one : (a m : ℕ) (vs : List ℤ) → members a ≡ m ∷ [] → choose a vs ≡ node m vs
-unfolding choose
-choose-one a m vs e = ap (λ (ms : List ℕ). chooseFrom ms vs) e
-
--- some toss, or none where there is nothing to choose, leads to a given target
-choose-from : (k : ℕ) (ms : List ℕ) → List·Memᴰ k ms → (ts : List ℤ) × ((ws : List ℤ) → chooseFrom ms (ts ++ ws) ≡ node k ws)
-choose-from k [] m = absurd (List·Memᴰ·not-nil m)
-choose-from k (a ∷ []) (List·Memᴰ·head e) = ([], λ ws. ap (λ (z : ℕ). node z ws) (sym e))
-choose-from k (a ∷ []) (List·Memᴰ·tail m) = absurd (List·Memᴰ·not-nil m)
-choose-from k (a ∷ b ∷ ms) m = let i = index-of k (a ∷ b ∷ ms) m in (pos (i .0) ∷ [], λ ws. ap (λ (z : Option ℕ). tossed z ws) (i .1))
-
-choose-sim : (k a : ℕ) → List·Memᴰ k (members a) → (ts : List ℤ) × ((ws : List ℤ) → choose a (ts ++ ws) ≡ node k ws)
-unfolding choose
-choose-sim k a m = choose-from k (members a) m
 
 -- where every node counts as kept, a walk ends where it begins
 abbrev pub allKept : Kept
@@ -119,7 +101,7 @@ module _ (t : Table) (wf : Wf t) (p : ℕ) where
   land : (most′ a : ℕ) (g : Memory) (la : Last) (w : Walk) → WhenArrives (Arrived a g la) w → WhenArrives (Landed most′ a g la) w
   land most′ a g la (halts c) r = tt
   land most′ a g la (arrives w m vs ns) r =
-      let c = choose-sim (r .at) (arcOf t p a) (new-in a (r .at) (r .leads) (r .keeps)) in
+      let c = choose-some (r .at) (arcOf t p a) (new-in a (r .at) (r .leads) (r .keeps)) in
       record {
         at = r .at;
         is = r .is;
