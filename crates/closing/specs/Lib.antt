@@ -12,3 +12,4 @@ pub mod ClosedValid
 pub mod Program
 pub mod Computing
 pub mod Examples
+pub mod ClosedShaped

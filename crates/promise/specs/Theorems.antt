@@ -1,9 +1,16 @@
 -- The promise, with no premise: what is proved of every table that the closer accepts.
+use Prim.Native.Nat.{ℕ}
 use mathlib.Core.Path.{_≡_}
+use mathlib.Core.List.{List}
 use Rattle.table.specs.declared.Table.{Table}
-use Rattle.text.specs.Writer.{fault}
+use Rattle.text.specs.declared.Reading.{Reading}
+use Rattle.text.specs.Reader.{read}
+use Rattle.text.specs.Writer.{text, fault}
+use Rattle.text.specs.RoundTrip.{Shaped, read-text}
+use Rattle.text.specs.TextLength.{write-read-whole}
 use Rattle.closing.specs.Close.{close}
 use Rattle.closing.specs.ClosedValid.{closed-fault}
+use Rattle.closing.specs.ClosedShaped.{closed-shaped}
 use Rattle.promise.specs.Demand3.{Demand3, SameStandstill, SameFailure}
 use Rattle.promise.specs.Sim.Wf.{Wf}
 use Rattle.promise.specs.Sim.Grants.{wf}
@@ -13,15 +20,29 @@ granted : (t : Table) → close t .number ≡ 0 → Wf t
 granted t ok = let a = Proof3.accepted t ok in wf t (a .sound) (a .open-form)
 
 -- its closed table has no fault
-pub closed-reads-back : (t : Table) → close t .number ≡ 0 → fault (close t .table) ≡ 0
-closed-reads-back t ok = let a = Proof3.accepted t ok in rw (a .answer-is) (closed-fault t (a .sound) (a .open-form))
+pub closed-sound : (t : Table) → close t .number ≡ 0 → fault (close t .table) ≡ 0
+closed-sound t ok = let a = Proof3.accepted t ok in rw (a .answer-is) (closed-fault t (a .sound) (a .open-form))
+
+-- "a table written and read is the same table": t is a value of the declared type, which has so many places and bits
+pub written-read : (t : Table) → Shaped t → fault t ≡ 0 → read (text t) ≡ record { number = 0; line = 0; table = t }
+written-read = write-read-whole
+
+-- "and an accepted text read and written is the same text"
+pub read-written : (s : List ℕ) → read s .number ≡ 0 → text (read s .table) ≡ s
+read-written = read-text
+
+-- so the closed table's text reads back
+pub closed-reads-back : (t : Table) → Shaped t → close t .number ≡ 0 → read (text (close t .table)) ≡ record { number = 0; line = 0; table = close t .table }
+closed-reads-back t s ok =
+    let a = Proof3.accepted t ok in
+    written-read (close t .table) (rw (a .answer-is) (closed-shaped t s (granted t ok .params))) (closed-sound t ok)
 
 -- demand 3, and its two consequences
 pub demand-3 : Demand3
-demand-3 = Proof3.demand-3 granted closed-reads-back
+demand-3 = Proof3.demand-3 granted closed-sound
 
 pub same-standstill : SameStandstill
-same-standstill = Proof3.same-standstill granted closed-reads-back
+same-standstill = Proof3.same-standstill granted closed-sound
 
 pub same-failure : SameFailure
-same-failure = Proof3.same-failure granted closed-reads-back
+same-failure = Proof3.same-failure granted closed-sound

@@ -1,0 +1,69 @@
+-- The closed table of a value of the declared type is one too: as many places, and masks of 32 bits.
+use Prim.Native.Nat.{ℕ, zero, suc, _^_, _<_, _≤_}
+use native.Mathlib.Omega.{arith}
+use mathlib.Core.Path.{_≡_, refl, _∙_, ap}
+use mathlib.Core.Bool.{Bool, true, false}
+use mathlib.Core.List.{List, [], _∷_}
+use lib.ListN.{length}
+use lib.Pow.{pow-mono}
+use native.Mathlib.Nat.{lt-of-lt-of-le}
+use Rattle.table.specs.Mask.{maskOf}
+use Rattle.table.specs.MaskLaws.{maskOf-lt}
+use Rattle.table.specs.Table.{nodeAt, procAt, arcTo, arcNo}
+use Rattle.table.specs.declared.Node.{Node}
+use Rattle.table.specs.declared.Node.the-variants.{Absent, Start, Set, Test, Read, Call, Wait, Signal, Send, Recv, Assert, Out, Return}
+use Rattle.table.specs.declared.Proc.{Proc}
+use Rattle.table.specs.declared.Table.{Table}
+use Rattle.text.specs.Writer.{fault}
+use Rattle.text.specs.TableLaws.{Shaped}
+use Rattle.closing.specs.ReachLaws.{cases}
+use Rattle.closing.specs.Closing.{dirty, kept}
+use Rattle.closing.specs.Close.{mapFrom, unkeptArcs, keptAmong, newArc, closedNode, closedProc, closedWith, closeTable}
+use Rattle.closing.specs.CloseLaws.{close-proc, kept-node, unkept-node}
+
+mapFrom-length : {A B : Type 0} (f : ℕ → A → B) (i : ℕ) (xs : List A) → length (mapFrom f i xs) ≡ length xs
+unfolding mapFrom
+mapFrom-length f i [] = refl
+mapFrom-length f i (x ∷ xs) = ap suc (mapFrom-length f (suc i) xs)
+
+module _ (t : Table) (s : Shaped t) (few : (p : ℕ) → procAt t p .params ≤ 4) where
+  abbrev Low : Node → Type 0
+  Low x = (arcTo x < 2 ^ 32) × (arcNo x < 2 ^ 32)
+
+  new-low : (p m : ℕ) → newArc t (dirty t) p (unkeptArcs t (dirty t) p) m < 2 ^ 32
+  unfolding newArc keptAmong
+  new-low p m = maskOf-lt 32 _
+
+  low-node : (p n : ℕ) (f : ℕ → ℕ) → ((m : ℕ) → f m < 2 ^ 32) → (x : Node) → Low (closedNode t (dirty t) p n f x)
+  unfolding closedNode arcTo arcNo
+  low-node p n f h Absent = (omega arith, omega arith)
+  low-node p n f h (Start to) = (h to, omega arith)
+  low-node p n f h (Set v o a b to) = (h to, omega arith)
+  low-node p n f h (Test o a b y z) = (h y, h z)
+  low-node p n f h (Read v to) = (omega arith, omega arith)
+  low-node p n f h (Call q xs to) = (h to, omega arith)
+  low-node p n f h (Wait i to) = (h to, omega arith)
+  low-node p n f h (Signal i to) = (h to, omega arith)
+  low-node p n f h (Send q v to) = (h to, omega arith)
+  low-node p n f h (Recv q v to) = (h to, omega arith)
+  low-node p n f h (Assert v to) = (h to, omega arith)
+  low-node p n f h (Out v to) = (h to, omega arith)
+  low-node p n f h Return = (omega arith, omega arith)
+
+  low-arcs : (p n : ℕ) → Low (nodeAt (closeTable t) p n)
+  unfolding arcTo arcNo
+  low-arcs p n = cases (kept (dirty t) p n (nodeAt t p n))
+      (λ k. rw (kept-node t p n k) (low-node p n _ (new-low p) (nodeAt t p n)))
+      (λ k. rw (unkept-node t p n k) (omega arith, omega arith))
+
+  pub closed-shaped : Shaped (closeTable t)
+  unfolding closeTable closedWith closedProc
+  closed-shaped = record {
+    tasks = s .tasks;
+    sems = s .sems;
+    queues = mapFrom-length _ 0 (t .queue) ∙ s .queues;
+    procs = mapFrom-length _ 0 (t .proc) ∙ s .procs;
+    slots = λ p l. ap (λ (q : Proc). length (q .slots)) (close-proc t p) ∙ mapFrom-length _ 0 (procAt t p .slots) ∙ s .slots p l;
+    drops = λ p. rw (ap (λ (q : Proc). q .drop) (close-proc t p)) (lt-of-lt-of-le (maskOf-lt (procAt t p .params) _) (pow-mono {i = procAt t p .params} {j = 32} (omega (arith, few p))));
+    arcs = low-arcs;
+  }
