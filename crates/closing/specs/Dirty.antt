@@ -46,9 +46,9 @@ pub data Dirty (t : Table) : Fact → Type 0 where
   -- "A queue is blank if some send to it has a dirty use."
   sent : {q : ℕ} (p n v to : ℕ) → nodeAt t p n ≡ Send q v to → Dirty t (useAt p n v) → Dirty t (blank q)
 
--- "Kept: all nodes but `read`, and `set` or `test` with a dirty use." What is not kept:
+-- "Kept: all nodes but `read`, and `set` or `test` with a dirty use." What is not kept (nor is a place without a node):
 pub data Unkept (t : Table) (p n : ℕ) : Type 0 where
-  is-read : keeping (nodeAt t p n) ≡ never → Unkept t p n
+  never-kept : keeping (nodeAt t p n) ≡ never → Unkept t p n
   dirty-use : (u : ℕ) → keeping (nodeAt t p n) ≡ ifClean → List·Memᴰ u (uses (nodeAt t p n)) → Dirty t (useAt p n u) → Unkept t p n
 
 -- The nodes that an arc with targets ms leads to through nodes that are not kept.

@@ -8,7 +8,7 @@ use borrow.Author.Tests.{not-false}
 use Rattle.table.specs.Table.{nodeAt, uses, Keeping, always, never, ifClean, keeping}
 use Rattle.table.specs.declared.Table.{Table}
 use Rattle.closing.specs.ReachLaws.{cases}
-use Rattle.closing.specs.Dirty.{Fact, useAt, Unkept, is-read, dirty-use}
+use Rattle.closing.specs.Dirty.{Fact, useAt, Unkept, never-kept, dirty-use}
 use Rattle.closing.specs.Closing.{dirty, isDirty, anyDirty, keptBy, kept}
 use Rattle.closing.specs.DirtyLaws.{dirty-is}
 
@@ -36,9 +36,9 @@ unkept-is t p n = (out (keeping (nodeAt t p n)) refl, back)
   where
     out : (k : Keeping) → keeping (nodeAt t p n) ≡ k → keptBy (dirty t) k p n (uses (nodeAt t p n)) ≡ false → Unkept t p n
     out always e h = absurd (true≢false h)
-    out never e h = is-read e
+    out never e h = never-kept e
     out ifClean e h = let r = any-out (dirty t) p n (uses (nodeAt t p n)) (not-false _ h) in dirty-use (r .0) e (r .1) (dirty-is t (useAt p n (r .0)) .0 (r .2))
 
     back : Unkept t p n → keptBy (dirty t) (keeping (nodeAt t p n)) p n (uses (nodeAt t p n)) ≡ false
-    back (is-read e) = rw e
+    back (never-kept e) = rw e
     back (dirty-use u e m h) = rw (e, any-in (dirty t) p n u (uses (nodeAt t p n)) m (dirty-is t (useAt p n u) .1 h))

@@ -56,7 +56,7 @@ module _ (t : Table) (keep : Kept) (most : ℕ) where
     runFrom [] steps s rest log = ended 0 all steps s rest log
     runFrom (k ∷ ks) steps s rest log = afterStep (λ n s′ r l. runFrom ks n s′ r l) steps s rest log (turn k steps s rest log)
 
--- "15 at the start comes before every step's faults and leaves all locals 0 and 0 used"
+-- "15 at the start comes before every step's faults, those met before a step too, and leaves all locals 0 and 0 used"
 abbrev pub runBegun : Table → List ℕ → List ℤ → ℕ → List ℕ → Begun → Ran
 runBegun t ks vs most log First.spent = ended (stopNumber spent) vs 0 (firstState t) vs log
 runBegun t ks vs most log (begun s rest) = runFrom t (keptIn t) most vs ks 0 s rest log

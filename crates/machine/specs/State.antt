@@ -65,7 +65,7 @@ entriesAt l q = getD l q (record { len = 0; items = [] })
 abbrev pub varAt : List ℤ → ℕ → ℤ
 varAt l v = getD l v (pos 0)
 
--- the node before which task k stands
+-- the node before which task k stands; a lost task stands before none, and `lost` is asked first
 abbrev pub standsBefore : Table → State → ℕ → Node
 standsBefore t s k = let f = topmost s k in nodeAt t (f .proc) (f .node)
 

@@ -65,7 +65,7 @@ ifKey (at r) p q = p
 ifKey differs p q = q
 ifKey broken p q = q
 
--- "each further line beginning `node=` belongs to the procedure before it"; numbers "ascend strictly and stay below n".
+-- "each further line beginning `node=` belongs to the procedure before it"; numbers "ascend strictly from 0 and stay below n".
 -- So n is enough for the first argument, the count of lines looked at
 unfoldable pub furtherNodes : Scope → ℕ → ℕ → List Slot → Parser (List Slot)
 furtherNodes c zero last l = give l

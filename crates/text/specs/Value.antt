@@ -144,7 +144,7 @@ unfoldable pub saidOperand : List ℕ → Option Operand
 saidOperand [] = none
 saidOperand (b ∷ s) = pick (eqb b 118) (asVar (numeral s)) (pick (eqb b 45) (asNegative (numeral s)) (asConst (numeral (b ∷ s))))
 
--- "Lists are separated by commas; an empty list is `none`"
+-- "Lists are separated by commas; .. an empty list is `none`"
 unfoldable pub commas : List (List ℕ) → List ℕ
 commas [] = []
 commas (x ∷ []) = x

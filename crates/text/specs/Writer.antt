@@ -109,7 +109,7 @@ tidy t =
     && (allBelow (t .queues) (λ i. t .closed || not (queueAt t i .blank))
     && allBelow (t .procs) (λ p. procTidy (t .closed) (procAt t p))))))
 
--- ---- "Every call first checks a hand-made table as the lines it stands for: a fault gives the reader's number,
+-- ---- "Every call first checks a hand-made table as the lines it stands for: a fault gives the reader's number with line 0,
 -- and, after all those, an unused place that isn't 0 gives 2"; 0 where there is none
 
 abbrev pub faultIn : Table → Result → ℕ
