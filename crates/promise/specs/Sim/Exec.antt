@@ -20,7 +20,7 @@ use Rattle.table.specs.declared.Node.{Node}
 use Rattle.table.specs.declared.Node.the-variants.{Absent, Start, Set, Test, Read, Call, Wait, Signal, Send, Recv, Assert, Out, Return}
 use Rattle.table.specs.declared.Table.{Table}
 use Rattle.closing.specs.ReachLaws.{cases}
-use Rattle.closing.specs.Dirty.{settingAt, useAt, blank, Dirty, by-read, by-set, by-recv, sent, Unkept, is-read, dirty-use}
+use Rattle.closing.specs.Dirty.{settingAt, useAt, blank, Dirty, by-read, by-set, by-recv, sent, Unkept, never-kept, dirty-use}
 use Rattle.closing.specs.Closing.{dirty, kept}
 use Rattle.closing.specs.Close.{unkeptArcs, newArc, useOr, queueOr, closedNode}
 use Rattle.closing.specs.KeptLaws.{unkept-is}
@@ -250,7 +250,7 @@ module _ (t : Table) where
     -- a `set` that is not kept has a dirty use
     unkept-set : (v : ℕ) (o : Op) (a b : Operand) (to : ℕ) → nodeAt t p n ≡ Set v o a b to → Unkept t p n → Dirty t (settingAt p n)
     unfolding keeping
-    unkept-set v o a b to e (is-read k) = let z = sym (ap keeping e) ∙ k in let w : _≡_ {A = ℕ} 0 1 = cc in absurd (omega arith)
+    unkept-set v o a b to e (never-kept k) = let z = sym (ap keeping e) ∙ k in let w : _≡_ {A = ℕ} 0 1 = cc in absurd (omega arith)
     unkept-set v o a b to e (dirty-use u k m d) = by-set v o a b to u e m d
 
     pub dropped-sim : (x : Node) → nodeAt t p n ≡ x → isAbsent x ≡ false → keptAt t p n ≡ false → (vs : List ℤ) → WhenGoes Passed (exec x h vs)
