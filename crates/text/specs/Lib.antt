@@ -21,5 +21,6 @@ pub mod ValidLaws
 pub mod RowLaws
 pub mod NodeLaws
 pub mod TableLaws
+pub mod ShapeLaws
 pub mod RoundTrip
 pub mod TextLength
