@@ -6,3 +6,4 @@ pub mod Format
 pub mod Reader
 pub mod Writer
 pub mod Computing
+pub mod NumberLaws
