@@ -1,0 +1,4 @@
+pub mod Place
+pub mod PlaceLaws
+pub mod Answer
+pub mod ValueLaws
