@@ -2,3 +2,4 @@ pub mod Place
 pub mod PlaceLaws
 pub mod Answer
 pub mod ValueLaws
+pub mod WordLaws
