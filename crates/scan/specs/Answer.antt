@@ -3,16 +3,19 @@ use Prim.Native.Nat.{ℕ, _<_}
 use mathlib.Core.Path.{_≡_}
 use mathlib.Core.Bool.{Bool, true, false}
 use mathlib.Core.List.{List, [], _∷_}
-use mathlib.Core.Option.{some}
+use mathlib.Core.Option.{Option, some}
 use lib.ListN.{length, drop}
 use Rattle.text.specs.declared.Fault.{Fault}
 use Rattle.table.specs.declared.Op.{Op}
 use Rattle.table.specs.declared.Op.the-variants.{Add, Sub, And, Or, Xor, Shr, Lt, Eq}
+use Rattle.table.specs.declared.Operand.{Operand}
+use Rattle.table.specs.declared.Operand.the-variants.{Var, Const}
 use Rattle.text.specs.Number.{bytes}
-use Rattle.text.specs.Value.{Sort, start, set, test, read, call, wait, signal, send, recv, assert, out, return, Kind, Of, number, choice, sort, operation, sortWord, opWord, named, said}
+use Rattle.text.specs.Value.{Sort, start, set, test, read, call, wait, signal, send, recv, assert, out, return, Kind, Of, number, choice, sort, operation, operand, variable, sortWord, opWord, named, said}
 use Rattle.text.specs.Line.{Outcome, took, refused, judged, fieldOf}
 use Rattle.scan.specs.declared.Number.{Number}
 use Rattle.scan.specs.declared.Number.the-variants.{Is, Not}
+use Rattle.text.specs.Format.{variableOf}
 use Rattle.scan.specs.declared.Choice.{Choice}
 use Rattle.scan.specs.declared.Choice.the-variants.{Is as IsChoice, Not as NotChoice}
 use Rattle.scan.specs.declared.Sort.{Sort as Word}
@@ -21,6 +24,8 @@ use Rattle.scan.specs.declared.Kind.{Kind as SortAnswer}
 use Rattle.scan.specs.declared.Kind.the-variants.{Is as IsSort, Not as NotSort}
 use Rattle.scan.specs.declared.Operation.{Operation}
 use Rattle.scan.specs.declared.Operation.the-variants.{Is as IsOp, Not as NotOp}
+use Rattle.scan.specs.declared.Operand.{Operand as OperandAnswer}
+use Rattle.scan.specs.declared.Operand.the-variants.{Is as IsOperand, Not as NotOperand}
 
 -- ---- numbers
 
@@ -174,3 +179,53 @@ lateOps = Xor ∷ Shr ∷ Lt ∷ Eq ∷ []
 pub record OpAt (x : Bool) (s : List ℕ) (at : ℕ) (r : Operation) : Type 0 where
   pub same : (l : ℕ) → opIn l s r ≡ fieldOf (bytes " op=") (operation x) l (drop at s)
   pub within : opWithin s r
+
+-- ---- operands
+
+abbrev pub operandIn : ℕ → List ℕ → OperandAnswer → Outcome Operand
+operandIn l s (IsOperand v e) = took v l (drop e s)
+operandIn l s (NotOperand f) = refused f l
+
+abbrev pub declaredBelow : ℕ → Operand → Type 0
+declaredBelow n (Var v) = v < n
+declaredBelow n (Const z) = Unit {0}
+
+abbrev pub operandEnds : ℕ → ℕ → OperandAnswer → Type 0
+operandEnds n e (IsOperand v q) = (q ≡ e) × declaredBelow n v
+operandEnds n e (NotOperand f) = Unit {0}
+
+abbrev pub operandWithin : ℕ → List ℕ → OperandAnswer → Type 0
+operandWithin n s (IsOperand v e) = (e < length s) × declaredBelow n v
+operandWithin n s (NotOperand f) = Unit {0}
+
+-- the answer for an operand that bytes say
+pub record OperandJudged (n : ℕ) (o : Option Operand) (e : ℕ) (r : OperandAnswer) : Type 0 where
+  pub same : (l : ℕ) (s : List ℕ) → operandIn l s r ≡ judged (operand n) o l (drop e s)
+  pub ends : operandEnds n e r
+
+pub record OperandAt (n : ℕ) (key s : List ℕ) (at : ℕ) (r : OperandAnswer) : Type 0 where
+  pub same : (l : ℕ) → operandIn l s r ≡ fieldOf key (operand n) l (drop at s)
+  pub within : operandWithin n s r
+
+-- ---- variables
+
+-- the outcome with another value
+abbrev pub mapped : {A B : Type 0} → (A → B) → Outcome A → Outcome B
+mapped g (took v l s) = took (g v) l s
+mapped g (refused f l) = refused f l
+
+abbrev pub variableEnds : ℕ → Number → Type 0
+variableEnds e (Is v q) = q ≡ e
+variableEnds e (Not f) = Unit {0}
+
+abbrev pub variableWithin : List ℕ → Number → Type 0
+variableWithin s (Is v e) = e < length s
+variableWithin s (Not f) = Unit {0}
+
+pub record VariableSaid (c : Bool) (n : ℕ) (t : List ℕ) (e : ℕ) (r : Number) : Type 0 where
+  pub same : (l : ℕ) (s : List ℕ) → numberIn l s r ≡ mapped variableOf (judged (variable c n) (said (variable c n) t) l (drop e s))
+  pub ends : variableEnds e r
+
+pub record VariableAt (c : Bool) (n : ℕ) (s : List ℕ) (at : ℕ) (r : Number) : Type 0 where
+  pub same : (l : ℕ) → numberIn l s r ≡ mapped variableOf (fieldOf (bytes " var=") (variable c n) l (drop at s))
+  pub within : variableWithin s r

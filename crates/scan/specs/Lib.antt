@@ -3,3 +3,4 @@ pub mod PlaceLaws
 pub mod Answer
 pub mod ValueLaws
 pub mod WordLaws
+pub mod OperandLaws

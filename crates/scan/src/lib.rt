@@ -1,11 +1,12 @@
 // The values of a text, each read at a place.
-ghost use Prim.Native.Nat.{_≤_};
+ghost use Prim.Native.Nat.{_-_, _≤_, _<_};
 ghost use mathlib.Core.Path.{_≡_};
 ghost use lib.ListN.{length};
 ghost use Rattle.scan.specs.Place.{AfterKey, RunEnd, ValueAt, TokenAt, refusalOf, FeedAt};
 ghost use mathlib.Core.Bool.{true};
-ghost use Rattle.text.specs.Value.{same, sorts, ops};
-ghost use Rattle.scan.specs.Answer.{NumberSaid, NumberAt, ChoiceSaid, ChoiceAt, sortOf, SortJudged, plain, Later, SortSaid, middleSorts, lateSorts, SortAt, calculates, OpJudged, OpSaid, lateOps, OpAt};
+ghost use lib.IntN.{pos, negsuc};
+ghost use Rattle.text.specs.Value.{same, sorts, ops, numeral, asVar, asConst, asNegative, saidOperand};
+ghost use Rattle.scan.specs.Answer.{NumberSaid, NumberAt, ChoiceSaid, ChoiceAt, sortOf, SortJudged, plain, Later, SortSaid, middleSorts, lateSorts, SortAt, calculates, OpJudged, OpSaid, lateOps, OpAt, OperandJudged, OperandAt, VariableSaid, VariableAt};
 
 // Where the text goes on after a key; or something else stands there, or the text ends first.
 pub enum Found {
@@ -63,6 +64,12 @@ pub enum Kind {
 // An operation and the place after it, or the fault.
 pub enum Operation {
     Is(table::Op, usize),
+    Not(text::Fault),
+}
+
+// An operand and the place after it, or the fault.
+pub enum Operand {
+    Is(table::Operand, usize),
     Not(text::Fault),
 }
 
@@ -382,4 +389,124 @@ pub fn operation_field(s: &[u8], at: usize, test: bool) -> Operation
         return Operation::Not(refusal(found));
     };
     operation_value(&s[from..e], e, test)
+}
+
+// ---- operands
+
+fn negative(x: u64) -> i32
+    requires { ⌜ (0 < x) × (x ≤ 2147483648) ⌝ }
+    ensures { λ r. ⌜ r ≡ negsuc (x - 1) ⌝ }
+{
+    -1 - ((x - 1) as i32)
+}
+
+fn positive(x: u64) -> i32
+    requires { ⌜ x ≤ 2147483647 ⌝ }
+    ensures { λ r. ⌜ r ≡ pos x ⌝ }
+{
+    x as i32
+}
+
+// The digits behind `v`.
+fn named_operand(t: &[u8], e: usize, vars: u64) -> Operand
+    requires { ⌜ vars ≤ 256 ⌝ }
+    ensures { λ r. ⌜ OperandJudged vars (asVar (numeral (now (t .entry)))) e r ⌝ }
+{
+    let digits::Num::Good(x) = digits::number(t) else {
+        return Operand::Not(text::Fault::Misspelt);
+    };
+    if x < vars {
+        return Operand::Is(table::Operand::Var(x as u8), e);
+    }
+    Operand::Not(text::Fault::Reference)
+}
+
+fn constant_operand(t: &[u8], e: usize, vars: u64) -> Operand
+    ensures { λ r. ⌜ OperandJudged vars (asConst (numeral (now (t .entry)))) e r ⌝ }
+{
+    let digits::Num::Good(x) = digits::number(t) else {
+        return Operand::Not(text::Fault::Misspelt);
+    };
+    if x <= 2147483647 {
+        return Operand::Is(table::Operand::Const(positive(x)), e);
+    }
+    Operand::Not(text::Fault::Range)
+}
+
+// The digits behind `-`.
+fn negative_operand(t: &[u8], e: usize, vars: u64) -> Operand
+    ensures { λ r. ⌜ OperandJudged vars (asNegative (numeral (now (t .entry)))) e r ⌝ }
+{
+    let digits::Num::Good(x) = digits::number(t) else {
+        return Operand::Not(text::Fault::Misspelt);
+    };
+    if x == 0 {
+        return Operand::Not(text::Fault::Misspelt);
+    }
+    if x <= 2147483648 {
+        return Operand::Is(table::Operand::Const(negative(x)), e);
+    }
+    Operand::Not(text::Fault::Range)
+}
+
+fn operand_value(t: &[u8], e: usize, vars: u64) -> Operand
+    requires { ⌜ vars ≤ 256 ⌝ }
+    ensures { λ r. ⌜ OperandJudged vars (saidOperand (now (t .entry))) e r ⌝ }
+{
+    if t.len() == 0 {
+        return Operand::Not(text::Fault::Misspelt);
+    }
+    let b = t[0];
+    if b == 118 {
+        return named_operand(&t[1..], e, vars);
+    }
+    if b == 45 {
+        return negative_operand(&t[1..], e, vars);
+    }
+    constant_operand(t, e, vars)
+}
+
+// A variable or a constant, with so many variables declared.
+pub fn operand_field(s: &[u8], at: usize, key: &[u8], vars: u64) -> Operand
+    requires { ⌜ (at ≤ length (now s)) × (vars ≤ 256) ⌝ }
+    ensures { λ r. ⌜ OperandAt vars (now (key .entry)) (now (s .entry)) at r ⌝ }
+{
+    let found = token_at(s, at, key);
+    let Token::At(b, e) = found else {
+        return Operand::Not(refusal(found));
+    };
+    operand_value(&s[b..e], e, vars)
+}
+
+// ---- variables
+
+fn variable_value(t: &[u8], e: usize, closed: bool, vars: u64) -> Number
+    requires { ⌜ vars ≤ 256 ⌝ }
+    ensures { λ r. ⌜ VariableSaid closed vars (now (t .entry)) e r ⌝ }
+{
+    if is_word(t, b"-") {
+        if closed {
+            return Number::Is(table::REMOVED, e);
+        }
+        return Number::Not(text::Fault::Misspelt);
+    }
+    let digits::Num::Good(v) = digits::number(t) else {
+        return Number::Not(text::Fault::Misspelt);
+    };
+    if v < vars {
+        return Number::Is(v as u8, e);
+    }
+    Number::Not(text::Fault::Reference)
+}
+
+// A variable, with so many declared; in closed form it may be `-`.
+pub fn variable_field(s: &[u8], at: usize, closed: bool, vars: u64) -> Number
+    requires { ⌜ (at ≤ length (now s)) × (vars ≤ 256) ⌝ }
+    ensures { λ r. ⌜ VariableAt closed vars (now (s .entry)) at r ⌝ }
+{
+    let found = token_at(s, at, b" var=");
+    let Token::At(b, e) = found else {
+        return Number::Not(refusal(found));
+    };
+    variable_value(&s[b..e], e, closed, vars)
 }
