@@ -1,0 +1,6 @@
+pub mod Items
+pub mod ItemLaws
+pub mod Sets
+pub mod TotalLaws
+pub mod SetLaws
+pub mod ListLaws
