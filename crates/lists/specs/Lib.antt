@@ -4,3 +4,5 @@ pub mod Sets
 pub mod TotalLaws
 pub mod SetLaws
 pub mod ListLaws
+pub mod Passing
+pub mod PassingLaws

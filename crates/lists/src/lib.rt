@@ -2,11 +2,15 @@
 ghost use mathlib.Core.Path.{_≡_};
 ghost use mathlib.Core.Bool.{true};
 ghost use mathlib.Core.Bool.{_&&_, not};
-ghost use Prim.Native.Nat.{_≤_};
+ghost use Prim.Native.Nat.{_+_, _≤_, min};
 ghost use lib.Dec.{eqb};
 ghost use lib.ListN.{length};
 ghost use mathlib.Core.Bool.{false};
-ghost use Rattle.text.specs.Value.{numeral, split, each};
+ghost use mathlib.Core.List.{[]};
+ghost use Rattle.table.specs.Mask.{pick};
+ghost use Rattle.text.specs.Value.{numeral, saidVariable, split, each};
+ghost use Rattle.text.specs.Format.{argsOf};
+ghost use Rattle.lists.specs.Passing.{pushedOf, ArgumentSaid, ArgumentAt, PassedJudged, PassedSaid, PassedAt};
 ghost use Rattle.lists.specs.Sets.{SetJudged, SetSaid, SetAt};
 ghost use Rattle.lists.specs.Items.{CommaAt, bitOf, ItemAt};
 
@@ -19,6 +23,18 @@ enum Item {
 // A set of numbers, bit x for the number x, and the place after its list, or the fault.
 pub enum Set {
     Is(u32, usize),
+    Not(text::Fault),
+}
+
+// One of a call's variables: where it ends, the variable, and whether it is declared.
+enum Argument {
+    Is(usize, u8, bool),
+    Not,
+}
+
+// A call's variables and the place after their list, or the fault.
+pub enum Passed {
+    Is(table::Args, usize),
     Not(text::Fault),
 }
 
@@ -143,4 +159,136 @@ pub fn ascending_field(s: &[u8], at: usize, key: &[u8], one: bool, lo: u64, belo
         return Set::Not(scan::refusal(found));
     };
     ascending_value(&s[b..e], e, one, lo, below)
+}
+
+// ---- a call's variables
+
+fn argument_value(w: &[u8], to: usize, closed: bool, vars: u64) -> Argument
+    requires { ⌜ vars ≤ 256 ⌝ }
+    ensures { λ r. ⌜ ArgumentSaid closed vars (now (w .entry)) to r ⌝ }
+{
+    if scan::is_word(w, b"-") {
+        if closed {
+            return Argument::Is(to, table::REMOVED, true);
+        }
+        return Argument::Not;
+    }
+    let digits::Num::Good(v) = digits::number(w) else {
+        return Argument::Not;
+    };
+    if v < vars {
+        return Argument::Is(to, v as u8, true);
+    }
+    Argument::Is(to, 0, false)
+}
+
+fn argument_at(t: &[u8], from: usize, closed: bool, vars: u64) -> Argument
+    requires { ⌜ (from ≤ length (now t)) × (vars ≤ 256) ⌝ }
+    ensures { λ r. ⌜ ArgumentAt closed vars (now (t .entry)) from r ⌝ }
+{
+    let to = comma(t, from);
+    argument_value(&t[from..to], to, closed, vars)
+}
+
+fn place(n: u8, i: u8, v: u8, old: u8) -> u8
+    ensures { λ r. ⌜ r ≡ pick (eqb n i) v old ⌝ }
+{
+    if n == i {
+        return v;
+    }
+    old
+}
+
+// One more, and 5 for any count above 4.
+fn more_of(n: u8) -> u8
+    ensures { λ r. ⌜ r ≡ min (n + 1) 5 ⌝ }
+{
+    if n < 5 {
+        return n + 1;
+    }
+    5
+}
+
+fn pushed(a: table::Args, v: u8) -> table::Args
+    ensures { λ r. ⌜ r ≡ pushedOf a v ⌝ }
+{
+    let n = a.len;
+    table::Args {
+        len: more_of(n),
+        a0: place(n, 0, v, a.a0),
+        a1: place(n, 1, v, a.a1),
+        a2: place(n, 2, v, a.a2),
+        a3: place(n, 3, v, a.a3),
+    }
+}
+
+fn no_args() -> table::Args
+    ensures { λ r. ⌜ r ≡ argsOf [] ⌝ }
+{
+    table::Args {
+        len: 0,
+        a0: 0,
+        a1: 0,
+        a2: 0,
+        a3: 0,
+    }
+}
+
+fn both(a: bool, b: bool) -> bool
+    ensures { λ r. ⌜ r ≡ a && b ⌝ }
+{
+    if a {
+        return b;
+    }
+    false
+}
+
+// Variables with commas between: spelling comes before any item's reference.
+fn passing(t: &[u8], e: usize, closed: bool, vars: u64) -> Passed
+    requires { ⌜ vars ≤ 256 ⌝ }
+    ensures { λ r. ⌜ PassedJudged closed vars (each saidVariable (split (now (t .entry)))) e r ⌝ }
+{
+    let first = argument_at(t, 0, closed, vars);
+    let Argument::Is(end, v, ok) = first else {
+        return Passed::Not(text::Fault::Misspelt);
+    };
+    let mut to = end;
+    let mut args = pushed(no_args(), v);
+    let mut within = ok;
+    while to < t.len() {
+        let next = to + 1;
+        let item = argument_at(t, next, closed, vars);
+        let Argument::Is(end, v, ok) = item else {
+            return Passed::Not(text::Fault::Misspelt);
+        };
+        args = pushed(args, v);
+        within = both(within, ok);
+        to = end;
+    }
+    if within {
+        return Passed::Is(args, e);
+    }
+    Passed::Not(text::Fault::Reference)
+}
+
+fn arguments_value(t: &[u8], e: usize, closed: bool, vars: u64) -> Passed
+    requires { ⌜ vars ≤ 256 ⌝ }
+    ensures { λ r. ⌜ PassedSaid closed vars (now (t .entry)) e r ⌝ }
+{
+    if scan::is_word(t, b"none") {
+        return Passed::Is(no_args(), e);
+    }
+    passing(t, e, closed, vars)
+}
+
+// A call's variables, with so many declared; in closed form each may be `-`.
+pub fn arguments_field(s: &[u8], at: usize, closed: bool, vars: u64) -> Passed
+    requires { ⌜ (at ≤ length (now s)) × (vars ≤ 256) ⌝ }
+    ensures { λ r. ⌜ PassedAt closed vars (now (s .entry)) at r ⌝ }
+{
+    let found = scan::token_at(s, at, b" args=");
+    let scan::Token::At(b, e) = found else {
+        return Passed::Not(scan::refusal(found));
+    };
+    arguments_value(&s[b..e], e, closed, vars)
 }
