@@ -67,7 +67,7 @@ pub comma-split : {t : List ℕ} {from to : ℕ} → CommaAt t from to → split
 comma-split {t} {from} {to} c =
     let n : upTo (drop from t) ≡ to - from = omega (arith, c .same) in
     let d : from + suc (to - from) ≡ suc to = omega (arith, c .from-on) in
-    split-first (drop from t) ∙ rw (n, drop-drop (suc (to - from)) from t, d, tests c) 
+    split-first (drop from t) ∙ rw (n, drop-drop (suc (to - from)) from t, d, tests c)
   where
     tests : CommaAt t from to → ltb (to - from) (length (drop from t)) ≡ ltb to (length t)
     tests c = byOrder to (length t)

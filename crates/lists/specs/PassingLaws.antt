@@ -67,13 +67,16 @@ module _ (c : Bool) (n : ℕ) (w : List ℕ) (to : ℕ) {x : Bool} (p : x ≡ sa
       pub argument-outside : n ≤ v → ArgumentSaid c n w to (IsArgument to 0 false)
       argument-outside l =
           record {
-            is = (refl, record {
-              name = some (value w);
-              says = number-said;
-              allowed = allows c;
-              known = sym (le-ltb (value w) n (omega (arith, spelt-good w q k .1)));
-              value = λ i. absurd (false≢true i);
-            });
+            is = (
+              refl,
+              record {
+                name = some (value w);
+                says = number-said;
+                allowed = allows c;
+                known = sym (le-ltb (value w) n (omega (arith, spelt-good w q k .1)));
+                value = λ i. absurd (false≢true i);
+              },
+            );
           }
 
 refuses : (c : Bool) (a : Option (Option ℕ)) (o : Option (List (Option ℕ))) → (a ≡ none) ⊎ ((a ≡ some none) × (c ≡ false)) → spells c (followed a o) ≡ false
@@ -210,7 +213,7 @@ going-start {c} {n} {t} {to} {v} {k} {z} {a} e m q x y =
     let f = argument-first m q in
     let o = each saidVariable (more t to) in
     let d : finish c n e (argsOf []) true (each saidVariable (split t)) ≡ finish c n e a k o =
-      ap (finish c n e (argsOf []) true) (argument-said m q) ∙ next-said c n e (argsOf []) v true o (f .argued) ∙ rw (y, x)
+    ap (finish c n e (argsOf []) true) (argument-said m q) ∙ next-said c n e (argsOf []) v true o (f .argued) ∙ rw (y, x)
     in
     record { within-text = f .within; rest = λ l s. sym (ap (passedIn l s) d) ∙ whole-said c n e (each saidVariable (split t)) l s }
 
@@ -242,8 +245,8 @@ module _ {c : Bool} {n e : ℕ} {t : List ℕ} {to : ℕ} {a : Args} {ok : Bool}
     pub going-stops : r ≡ NotArgument → PassedJudged c n (each saidVariable (split t)) e (Not Misspelt)
     going-stops q =
         let d : finish c n e a ok (each saidVariable (more t to)) ≡ Not Misspelt =
-          ap (λ (ss : List (List ℕ)). finish c n e a ok (each saidVariable ss)) here
-          ∙ finish-refuses c n e a ok (each saidVariable (split (drop (to + 1) t))) (rw q at (m .is))
+        ap (λ (ss : List (List ℕ)). finish c n e a ok (each saidVariable ss)) here
+        ∙ finish-refuses c n e a ok (each saidVariable (split (drop (to + 1) t))) (rw q at (m .is))
         in
         record { same = λ l s. sym (ap (passedIn l s) d) ∙ g .rest l s; ends = tt }
 
@@ -252,10 +255,10 @@ module _ {c : Bool} {n e : ℕ} {t : List ℕ} {to : ℕ} {a : Args} {ok : Bool}
         let f = argument-first m q in
         let o = each saidVariable (more t end) in
         let d : finish c n e a ok (each saidVariable (more t to)) ≡ finish c n e b j o =
-          ap (λ (ss : List (List ℕ)). finish c n e a ok (each saidVariable ss)) here
-          ∙ ap (finish c n e a ok) (argument-said m q)
-          ∙ next-said c n e a v ok o (f .argued)
-          ∙ rw (x, y)
+        ap (λ (ss : List (List ℕ)). finish c n e a ok (each saidVariable ss)) here
+        ∙ ap (finish c n e a ok) (argument-said m q)
+        ∙ next-said c n e a v ok o (f .argued)
+        ∙ rw (x, y)
         in
         record { within-text = f .within; rest = λ l s. sym (ap (passedIn l s) d) ∙ g .rest l s }
 

@@ -193,7 +193,7 @@ module _ {lo n e : ℕ} {t : List ℕ} {from to m : ℕ} {ok : Bool} (g : Rising
           let x = value (part t from to) in
           let y = value (part t (to + 1) end) in
           let d : finish lo n e x m ok (each numeral (more t to)) ≡ Not Misspelt =
-            ap (finish lo n e x m ok) following ∙ order-said lo n e x y m ok (each numeral (more t end)) (sym k ∙ not-true z w)
+          ap (finish lo n e x m ok) following ∙ order-said lo n e x y m ok (each numeral (more t end)) (sym k ∙ not-true z w)
           in
           record { same = λ l s. sym (ap (setIn l s) d) ∙ g .rest l s; ends = tt }
 
@@ -207,10 +207,10 @@ module _ {lo n e : ℕ} {t : List ℕ} {from to m : ℕ} {ok : Bool} (g : Rising
           let y = value (part t (to + 1) end) in
           let f = bit-above lo n x y m b u (g .small) (g .fits) (sym k ∙ not-false z w) (i .bit) in
           let v : finish lo n e y (m + bitOf lo n y) (ok && inside lo n y) (each numeral (more t end)) ≡ finish lo n e y (m + b) ok′ (each numeral (more t end)) =
-            rw (j, bit-inside lo n y b (i .bit), i .bit)
+          rw (j, bit-inside lo n y b (i .bit), i .bit)
           in
           let d : finish lo n e x m ok (each numeral (more t to)) ≡ finish lo n e y (m + b) ok′ (each numeral (more t end)) =
-            ap (finish lo n e x m ok) following ∙ next-said lo n e x y m ok (each numeral (more t end)) (sym k ∙ not-false z w) ∙ v
+          ap (finish lo n e x m ok) following ∙ next-said lo n e x y m ok (each numeral (more t end)) (sym k ∙ not-false z w) ∙ v
           in
           record {
             from-on = i .from-on;

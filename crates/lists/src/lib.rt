@@ -1,18 +1,16 @@
-// Lists of a text, each read at a place.
-ghost use mathlib.Core.Path.{_≡_};
-ghost use mathlib.Core.Bool.{true};
-ghost use mathlib.Core.Bool.{_&&_, not};
+// The lists of a text, each read at a place.
 ghost use Prim.Native.Nat.{_+_, _≤_, min};
+ghost use mathlib.Core.Path.{_≡_};
+ghost use mathlib.Core.Bool.{true, false, _&&_, not};
+ghost use mathlib.Core.List.{[]};
 ghost use lib.Dec.{eqb};
 ghost use lib.ListN.{length};
-ghost use mathlib.Core.Bool.{false};
-ghost use mathlib.Core.List.{[]};
 ghost use Rattle.table.specs.Mask.{pick};
 ghost use Rattle.text.specs.Value.{numeral, saidVariable, split, each};
 ghost use Rattle.text.specs.Format.{argsOf};
-ghost use Rattle.lists.specs.Passing.{pushedOf, ArgumentSaid, ArgumentAt, PassedJudged, PassedSaid, PassedAt};
-ghost use Rattle.lists.specs.Sets.{SetJudged, SetSaid, SetAt};
 ghost use Rattle.lists.specs.Items.{CommaAt, bitOf, ItemAt};
+ghost use Rattle.lists.specs.Sets.{SetJudged, SetSaid, SetAt};
+ghost use Rattle.lists.specs.Passing.{pushedOf, ArgumentSaid, ArgumentAt, PassedJudged, PassedSaid, PassedAt};
 
 // One item of a list of numbers: where it ends, and its bit, 0 for one that is outside.
 enum Item {
@@ -37,6 +35,8 @@ pub enum Passed {
     Is(table::Args, usize),
     Not(text::Fault),
 }
+
+// ---- items
 
 // The place of the next comma, or the end.
 fn comma(t: &[u8], from: usize) -> usize
@@ -88,6 +88,8 @@ fn kept(within: bool, m: u32) -> bool
     within
 }
 
+// ---- lists that ascend
+
 // Items with commas between, each above the one before: spelling and order come before any item's range.
 fn rising(t: &[u8], e: usize, lo: u64, below: u64) -> Set
     requires { ⌜ below ≤ 32 ⌝ }
@@ -108,7 +110,7 @@ fn rising(t: &[u8], e: usize, lo: u64, below: u64) -> Set
             return Set::Not(text::Fault::Misspelt);
         };
         if !digits::less(&t[from..to], &t[next..end]) {
-            return Set::Not(text::Fault::Misspelt);
+            return Set::Not(text::Fault::Misspelt); // out of order
         }
         mask += b;
         within = kept(within, b);

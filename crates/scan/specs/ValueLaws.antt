@@ -25,7 +25,7 @@ use Rattle.scan.specs.declared.Token.{Token}
 use Rattle.scan.specs.declared.Token.the-variants.{At as Between, Not as Refused}
 use Rattle.scan.specs.Place.{TokenAt, refusalOf}
 use Rattle.scan.specs.PlaceLaws.{token-within}
-use Rattle.scan.specs.Answer.{numberIn, numberEnds, numberWithin, NumberSaid, NumberAt}
+use Rattle.scan.specs.Answer.{numberIn, numberEnds, numberWithin, NumberSaid, NumberAt, mapped}
 
 and-false : (a : Bool) → a && false ≡ false
 and-false true = refl
@@ -59,7 +59,16 @@ module _ (t : List ℕ) (e lo n : ℕ) (f : Fault) {w : Num} (d : w ≡ numberOf
     unfolding said check
     number-good k g =
         let x : value t ≡ v = omega (arith, spelt-good t d h .1) in
-        record { same = λ l s. rw (spelt-good t d h .0, x, le-leb lo v k, lt-ltb v n g); ends = (refl, g) }
+        record { same = λ l s. rw (spelt-good t d h .0, x, le-leb lo v k, lt-ltb v n g); ends = (refl, k, g) }
+
+-- ---- an outcome with another value
+pub mapped-took : {A B : Type 0} (g : A → B) (o : Outcome A) {x : B} {l : ℕ} {s : List ℕ} → took x l s ≡ mapped g o → (v : A) × (o ≡ took v l s) × (g v ≡ x)
+mapped-took g (took v k r) e = (v, (cc), (cc))
+mapped-took g (refused f k) e = absurd (let z : _≡_ {A = ℕ} 0 1 = cc in omega arith)
+
+pub mapped-refused : {A B : Type 0} (g : A → B) (o : Outcome A) {f : Fault} {l : ℕ} → refused f l ≡ mapped g o → o ≡ refused f l
+mapped-refused g (took v k r) e = absurd (let z : _≡_ {A = ℕ} 0 1 = cc in omega arith)
+mapped-refused g (refused h k) e = cc
 
 -- ---- from a value to its field
 module _ {key s : List ℕ} {at : ℕ} {r : Token} (m : TokenAt key s at r) where
@@ -69,6 +78,6 @@ module _ {key s : List ℕ} {at : ℕ} {r : Token} (m : TokenAt key s at r) wher
   pub number-step : {lo n : ℕ} {f : Fault} {b e : ℕ} {a : Number} → r ≡ Between b e → NumberSaid lo n f (take (e - b) (drop b s)) e a → NumberAt lo n f key s at a
   number-step {lo} {n} {f} {b} {e} {a} q d = record { same = λ l. d .same l s ∙ rw q at (m .same (number lo n f) l); within = reach a (d .ends) }
     where
-      reach : (a : Number) → numberEnds n e a → numberWithin n s a
-      reach (Is v p) h = (rw (h .0) (token-within m q .1), h .1)
+      reach : (a : Number) → numberEnds lo n e a → numberWithin lo n s a
+      reach (Is v p) h = (rw (h .0) (token-within m q .1), h .1, h .2)
       reach (Not f) h = tt

@@ -1,12 +1,11 @@
-// The values of a text, each read at a place.
+// The values of a text, each read at a place: keys, numbers, operands and variables.
 ghost use Prim.Native.Nat.{_-_, _≤_, _<_};
 ghost use mathlib.Core.Path.{_≡_};
-ghost use lib.ListN.{length};
-ghost use Rattle.scan.specs.Place.{AfterKey, RunEnd, ValueAt, TokenAt, refusalOf, FeedAt};
-ghost use mathlib.Core.Bool.{true};
 ghost use lib.IntN.{pos, negsuc};
-ghost use Rattle.text.specs.Value.{same, sorts, ops, numeral, asVar, asConst, asNegative, saidOperand};
-ghost use Rattle.scan.specs.Answer.{NumberSaid, NumberAt, ChoiceSaid, ChoiceAt, sortOf, SortJudged, plain, Later, SortSaid, middleSorts, lateSorts, SortAt, calculates, OpJudged, OpSaid, lateOps, OpAt, OperandJudged, OperandAt, VariableSaid, VariableAt};
+ghost use lib.ListN.{length};
+ghost use Rattle.text.specs.Value.{same, numeral, asVar, asConst, asNegative, saidOperand};
+ghost use Rattle.scan.specs.Place.{AfterKey, RunEnd, ValueAt, TokenAt, refusalOf, FeedAt};
+ghost use Rattle.scan.specs.Answer.{NumberSaid, NumberAt, OperandJudged, OperandAt, VariableSaid, VariableAt};
 
 // Where the text goes on after a key; or something else stands there, or the text ends first.
 pub enum Found {
@@ -30,40 +29,6 @@ pub enum Ended {
 // A number, or a variable, and the place after it, or the fault.
 pub enum Number {
     Is(u8, usize),
-    Not(text::Fault),
-}
-
-// One of two words and the place after it, or the fault.
-pub enum Choice {
-    Is(bool, usize),
-    Not(text::Fault),
-}
-
-// The kinds of nodes, by their words.
-pub enum Sort {
-    Start,
-    Set,
-    Test,
-    Read,
-    Call,
-    Wait,
-    Signal,
-    Send,
-    Recv,
-    Assert,
-    Out,
-    Return,
-}
-
-// A node's kind and the place after it, or the fault.
-pub enum Kind {
-    Is(Sort, usize),
-    Not(text::Fault),
-}
-
-// An operation and the place after it, or the fault.
-pub enum Operation {
-    Is(table::Op, usize),
     Not(text::Fault),
 }
 
@@ -176,7 +141,14 @@ fn number_value(t: &[u8], e: usize, lo: u64, below: u64, fault: text::Fault) -> 
 }
 
 // A number at least lo and below the next; outside, the fault.
-pub fn number_field(s: &[u8], at: usize, key: &[u8], lo: u64, below: u64, fault: text::Fault) -> Number
+pub fn number_field(
+    s: &[u8],
+    at: usize,
+    key: &[u8],
+    lo: u64,
+    below: u64,
+    fault: text::Fault,
+) -> Number
     requires { ⌜ (at ≤ length (now s)) × (below ≤ 256) ⌝ }
     ensures { λ r. ⌜ NumberAt lo below fault (now (key .entry)) (now (s .entry)) at r ⌝ }
 {
@@ -203,192 +175,6 @@ pub fn is_word(t: &[u8], word: &[u8]) -> bool
         i += 1;
     }
     true
-}
-
-fn choice_value(t: &[u8], e: usize, a: &[u8], b: &[u8]) -> Choice
-    ensures { λ r. ⌜ ChoiceSaid (now (a .entry)) (now (b .entry)) (now (t .entry)) e r ⌝ }
-{
-    if is_word(t, a) {
-        return Choice::Is(false, e);
-    }
-    if is_word(t, b) {
-        return Choice::Is(true, e);
-    }
-    Choice::Not(text::Fault::Form)
-}
-
-// One of two words: the first for false, the second for true.
-pub fn choice_field(s: &[u8], at: usize, key: &[u8], a: &[u8], b: &[u8]) -> Choice
-    requires { ⌜ at ≤ length (now s) ⌝ }
-    ensures { λ r. ⌜ ChoiceAt (now (a .entry)) (now (b .entry)) (now (key .entry)) (now (s .entry)) at r ⌝ }
-{
-    let found = token_at(s, at, key);
-    let Token::At(from, e) = found else {
-        return Choice::Not(refusal(found));
-    };
-    choice_value(&s[from..e], e, a, b)
-}
-
-// ---- the kinds of nodes
-
-// Node 0 is the only `start`.
-fn start_at(e: usize, j: u8) -> Kind
-    ensures { λ r. ⌜ Later (sortOf Sort.Start) j e r ⌝ }
-{
-    if j == 0 {
-        return Kind::Is(Sort::Start, e);
-    }
-    Kind::Not(text::Fault::Index)
-}
-
-fn later(k: Sort, e: usize, j: u8) -> Kind
-    requires { ⌜ plain k ≡ true ⌝ }
-    ensures { λ r. ⌜ Later (sortOf k) j e r ⌝ }
-{
-    if j == 0 {
-        return Kind::Not(text::Fault::Index);
-    }
-    Kind::Is(k, e)
-}
-
-// A closed table has no `read`.
-fn read_at(e: usize, closed: bool, j: u8) -> Kind
-    ensures { λ r. ⌜ SortJudged closed j (sortOf Sort.Read) e r ⌝ }
-{
-    if closed {
-        return Kind::Not(text::Fault::Form);
-    }
-    if j == 0 {
-        return Kind::Not(text::Fault::Index);
-    }
-    Kind::Is(Sort::Read, e)
-}
-
-fn late_sort(t: &[u8], e: usize, closed: bool, j: u8) -> Kind
-    ensures { λ r. ⌜ SortSaid closed j lateSorts (now (t .entry)) e r ⌝ }
-{
-    if is_word(t, b"recv") {
-        return later(Sort::Recv, e, j);
-    }
-    if is_word(t, b"assert") {
-        return later(Sort::Assert, e, j);
-    }
-    if is_word(t, b"out") {
-        return later(Sort::Out, e, j);
-    }
-    if is_word(t, b"return") {
-        return later(Sort::Return, e, j);
-    }
-    Kind::Not(text::Fault::Form)
-}
-
-fn middle_sort(t: &[u8], e: usize, closed: bool, j: u8) -> Kind
-    ensures { λ r. ⌜ SortSaid closed j middleSorts (now (t .entry)) e r ⌝ }
-{
-    if is_word(t, b"call") {
-        return later(Sort::Call, e, j);
-    }
-    if is_word(t, b"wait") {
-        return later(Sort::Wait, e, j);
-    }
-    if is_word(t, b"signal") {
-        return later(Sort::Signal, e, j);
-    }
-    if is_word(t, b"send") {
-        return later(Sort::Send, e, j);
-    }
-    late_sort(t, e, closed, j)
-}
-
-fn sort_value(t: &[u8], e: usize, closed: bool, j: u8) -> Kind
-    ensures { λ r. ⌜ SortSaid closed j sorts (now (t .entry)) e r ⌝ }
-{
-    if is_word(t, b"start") {
-        return start_at(e, j);
-    }
-    if is_word(t, b"set") {
-        return later(Sort::Set, e, j);
-    }
-    if is_word(t, b"test") {
-        return later(Sort::Test, e, j);
-    }
-    if is_word(t, b"read") {
-        return read_at(e, closed, j);
-    }
-    middle_sort(t, e, closed, j)
-}
-
-// The kind of node j.
-pub fn sort_field(s: &[u8], at: usize, closed: bool, j: u8) -> Kind
-    requires { ⌜ at ≤ length (now s) ⌝ }
-    ensures { λ r. ⌜ SortAt closed j (now (s .entry)) at r ⌝ }
-{
-    let found = token_at(s, at, b" kind=");
-    let Token::At(from, e) = found else {
-        return Kind::Not(refusal(found));
-    };
-    sort_value(&s[from..e], e, closed, j)
-}
-
-// ---- operations
-
-// "A test has lt or eq".
-fn calculation(o: table::Op, e: usize, test: bool) -> Operation
-    requires { ⌜ calculates o ≡ true ⌝ }
-    ensures { λ r. ⌜ OpJudged test o e r ⌝ }
-{
-    if test {
-        return Operation::Not(text::Fault::Form);
-    }
-    Operation::Is(o, e)
-}
-
-fn late_operation(t: &[u8], e: usize, test: bool) -> Operation
-    ensures { λ r. ⌜ OpSaid test lateOps (now (t .entry)) e r ⌝ }
-{
-    if is_word(t, b"xor") {
-        return calculation(table::Op::Xor, e, test);
-    }
-    if is_word(t, b"shr") {
-        return calculation(table::Op::Shr, e, test);
-    }
-    if is_word(t, b"lt") {
-        return Operation::Is(table::Op::Lt, e);
-    }
-    if is_word(t, b"eq") {
-        return Operation::Is(table::Op::Eq, e);
-    }
-    Operation::Not(text::Fault::Form)
-}
-
-fn operation_value(t: &[u8], e: usize, test: bool) -> Operation
-    ensures { λ r. ⌜ OpSaid test ops (now (t .entry)) e r ⌝ }
-{
-    if is_word(t, b"add") {
-        return calculation(table::Op::Add, e, test);
-    }
-    if is_word(t, b"sub") {
-        return calculation(table::Op::Sub, e, test);
-    }
-    if is_word(t, b"and") {
-        return calculation(table::Op::And, e, test);
-    }
-    if is_word(t, b"or") {
-        return calculation(table::Op::Or, e, test);
-    }
-    late_operation(t, e, test)
-}
-
-// An operation; in a test or not.
-pub fn operation_field(s: &[u8], at: usize, test: bool) -> Operation
-    requires { ⌜ at ≤ length (now s) ⌝ }
-    ensures { λ r. ⌜ OpAt test (now (s .entry)) at r ⌝ }
-{
-    let found = token_at(s, at, b" op=");
-    let Token::At(from, e) = found else {
-        return Operation::Not(refusal(found));
-    };
-    operation_value(&s[from..e], e, test)
 }
 
 // ---- operands
