@@ -82,5 +82,5 @@ pub fn less(a: &[u8], b: &[u8]) -> bool
         }
         i += 1;
     }
-    false
+    false // equal
 }

@@ -1,28 +1,26 @@
 -- Laws of a list's items: each says what a step of the code shows.
-use Prim.Native.Nat.{ℕ, zero, suc, _+_, _-_, _*_, _%_, _^_, _≤_, _<_}
-use mathlib.Core.Path.{_≡_, refl, sym, _∙_, ap}
+use Prim.Native.Nat.{ℕ, suc, _+_, _-_, _*_, _%_, _^_, _≤_, _<_}
+use mathlib.Core.Path.{_≡_, refl, sym, _∙_}
 use mathlib.Core.Bool.{Bool, true, false, _&&_, not}
 use mathlib.Core.List.{List, [], _∷_}
-use mathlib.Core.Option.{Option, none, some}
 use native.Mathlib.Omega.{arith}
 use native.Mathlib.Nat.{one-mul}
 use native.Mathlib.Numerals.{add-one}
 use lib.Dec.{ltb, leb, eqb}
-use lib.Pow.{pow-pos, shl-exact}
+use lib.Pow.{shl-exact}
 use lib.ListN.{length, take, drop, getD, drop-of-length-le, length-drop}
 use lib.Seq.{drop-cons, drop-drop}
-use borrow.Author.Tests.{lt-ltb, le-ltb, le-leb, lt-leb, eq-eqb, ne-eqb, eqb-true}
+use borrow.Author.Tests.{lt-ltb, le-ltb, le-leb, lt-leb, ne-eqb}
 use Rattle.table.specs.Mask.{pick}
-use Rattle.text.specs.Number.{spelt, value}
+use Rattle.text.specs.Number.{value}
 use Rattle.text.specs.NumberLaws.{byOrder, cases}
-use Rattle.text.specs.Value.{numeral, before, split, followed, each}
+use Rattle.text.specs.Value.{split, each}
 use Rattle.digits.specs.declared.Num.{Num}
 use Rattle.digits.specs.declared.Num.the-variants.{Good, Bad}
 use Rattle.digits.specs.Read.{numberOf, capped}
 use Rattle.digits.specs.NumeralLaws.{spelt-good, numeral-bad}
-use Rattle.lists.specs.declared.Item.{Item}
 use Rattle.lists.specs.declared.Item.the-variants.{Is, Not}
-use Rattle.lists.specs.Items.{upTo, CommaAt, more, inside, bitOf, part, Itemized, ItemAt}
+use Rattle.lists.specs.Items.{upTo, CommaAt, more, bitOf, part, ItemAt}
 
 -- ---- up to the next comma
 pub record Seeking (t : List ℕ) (from i : ℕ) : Type 0 where

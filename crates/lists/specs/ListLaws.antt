@@ -1,27 +1,26 @@
 -- Laws of whole lists of numbers: each says what a step of the code shows.
-use Prim.Native.Nat.{ℕ, zero, suc, _+_, _-_, _^_, _≤_, _<_}
+use Prim.Native.Nat.{ℕ, suc, _-_, _^_, _≤_}
 use mathlib.Core.Path.{_≡_, refl, sym, _∙_, ap}
-use mathlib.Core.Bool.{Bool, true, false, _&&_, not, false≢true}
+use mathlib.Core.Bool.{Bool, true, false, _&&_}
 use mathlib.Core.List.{List, [], _∷_}
 use mathlib.Core.Option.{Option, none, some}
 use native.Mathlib.Omega.{arith}
 use native.Mathlib.Nat.{add-zero}
-use lib.Dec.{ltb, leb, eqb}
+use lib.Dec.{ltb}
 use lib.ListN.{length, take, drop}
 use lib.Seq.{take-all, take-length}
-use borrow.Author.Tests.{lt-ltb, le-ltb, ltb-false, ne-eqb, eq-eqb}
-use Rattle.table.specs.Mask.{pick}
+use borrow.Author.Tests.{le-ltb, ltb-false, ne-eqb}
 use Rattle.text.specs.declared.Fault.{Fault}
 use Rattle.text.specs.declared.Fault.the-variants.{Misspelt, Reference}
-use Rattle.text.specs.Number.{bytes, isDigit, allDigits, spelt, value}
-use Rattle.text.specs.NumberLaws.{and-left, and-right, cases, all-head, all-tail, spelt-all}
-use Rattle.text.specs.Value.{ascending, same, numeral, split, followed, each, saidList, ascends, isOne, within, said, unsaid, check}
-use Rattle.text.specs.Line.{took, refused, judged}
+use Rattle.text.specs.Number.{bytes, allDigits, spelt, value}
+use Rattle.text.specs.NumberLaws.{cases, all-head, all-tail, spelt-all}
+use Rattle.text.specs.Value.{ascending, same, numeral, split, followed, each, saidList, ascends, within, said, unsaid, check}
+use Rattle.text.specs.Line.{refused, judged}
 use Rattle.text.specs.Format.{elem, setOf}
 use Rattle.digits.specs.declared.Num.{Num}
 use Rattle.digits.specs.declared.Num.the-variants.{Good, Bad}
-use Rattle.digits.specs.Read.{numberOf, capped}
-use Rattle.digits.specs.NumeralLaws.{spelt-bad, spelt-good, numeral-bad}
+use Rattle.digits.specs.Read.{numberOf}
+use Rattle.digits.specs.NumeralLaws.{spelt-bad, spelt-good}
 use Rattle.scan.specs.declared.Token.{Token}
 use Rattle.scan.specs.declared.Token.the-variants.{At as Between, Not as Refused}
 use Rattle.scan.specs.Place.{TokenAt, refusalOf}
@@ -31,7 +30,7 @@ use Rattle.lists.specs.declared.Set.{Set}
 use Rattle.lists.specs.declared.Set.the-variants.{Is, Not}
 use Rattle.lists.specs.Items.{upTo, more, inside, bitOf}
 use Rattle.lists.specs.ItemLaws.{split-first, bit-capped}
-use Rattle.lists.specs.Sets.{setIn, setEnds, setWithin, SetJudged, SetSaid, SetAt}
+use Rattle.lists.specs.Sets.{setEnds, setWithin, SetJudged, SetSaid, SetAt}
 use Rattle.lists.specs.TotalLaws.{total, total-is, mask-none}
 use Rattle.lists.specs.SetLaws.{bit-inside}
 

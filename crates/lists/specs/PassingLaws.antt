@@ -1,5 +1,5 @@
 -- Laws of the readers of a call's variables: each says what a step of the code shows.
-use Prim.Native.Nat.{ℕ, zero, suc, _+_, _-_, _≤_, _<_, min}
+use Prim.Native.Nat.{ℕ, _+_, _-_, _≤_, _<_, min}
 use mathlib.Core.Path.{_≡_, refl, sym, _∙_, ap}
 use mathlib.Core.Bool.{Bool, true, false, _&&_, _||_, false≢true}
 use mathlib.Core.List.{List, [], _∷_, _++_, append-assoc, append-nil}
@@ -8,7 +8,7 @@ use mathlib.Core.Logic.{_⊎_, inl, inr}
 use native.Mathlib.Omega.{arith}
 use native.Mathlib.Numerals.{add-one}
 use lib.Dec.{ltb, eqb}
-use lib.ListN.{length, take, drop, getD, length-append, List·getD-append, List·getD-eq-default}
+use lib.ListN.{length, take, drop, length-append, List·getD-append, List·getD-eq-default}
 use lib.Seq.{getD-append-seam}
 use borrow.Author.Tests.{lt-ltb, le-ltb, ne-eqb, eq-eqb}
 use Rattle.table.specs.Mask.{pick}
@@ -19,11 +19,11 @@ use Rattle.text.specs.declared.Fault.the-variants.{Misspelt, Reference}
 use Rattle.text.specs.Number.{bytes, value}
 use Rattle.text.specs.NumberLaws.{cases, byOrder}
 use Rattle.text.specs.Value.{arguments, same, saidVariable, split, followed, each, noneRemoved, allDeclared, said, unsaid, check}
-use Rattle.text.specs.Line.{took, refused, judged}
+use Rattle.text.specs.Line.{judged}
 use Rattle.text.specs.Format.{variableOf, argOf, argsOf}
 use Rattle.digits.specs.declared.Num.{Num}
 use Rattle.digits.specs.declared.Num.the-variants.{Good, Bad}
-use Rattle.digits.specs.Read.{numberOf, capped}
+use Rattle.digits.specs.Read.{numberOf}
 use Rattle.digits.specs.NumeralLaws.{spelt-good, numeral-bad, numeral-good}
 use Rattle.scan.specs.declared.Token.{Token}
 use Rattle.scan.specs.declared.Token.the-variants.{At as Between, Not as Refused}

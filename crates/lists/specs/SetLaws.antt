@@ -1,8 +1,8 @@
 -- Laws of the readers of sets: each says what a step of the code shows.
-use Prim.Native.Nat.{ℕ, zero, suc, _+_, _-_, _^_, _≤_, _<_}
+use Prim.Native.Nat.{ℕ, _+_, _-_, _^_, _≤_, _<_}
 use mathlib.Core.Path.{_≡_, refl, sym, _∙_, ap}
 use mathlib.Core.Bool.{Bool, true, false, _&&_, not}
-use mathlib.Core.List.{List, [], _∷_}
+use mathlib.Core.List.{List, _∷_}
 use mathlib.Core.Option.{Option, none, some}
 use native.Mathlib.Omega.{arith}
 use native.Mathlib.Nat.{add-zero, add-assoc, pow-suc}
@@ -11,22 +11,22 @@ use mir.Val.{Fits}
 use native.Mathlib.Numerals.{add-one}
 use lib.Dec.{ltb, leb, eqb}
 use lib.Pow.{pow-pos, pow-lt, pow-mono}
-use lib.ListN.{length, take, drop}
+use lib.ListN.{length, drop}
 use borrow.Author.Tests.{lt-ltb, le-ltb, ltb-true, ne-eqb, not-true, not-false}
 use Rattle.table.specs.Mask.{pick}
 use Rattle.text.specs.declared.Fault.the-variants.{Misspelt, Reference}
 use Rattle.text.specs.Number.{spelt, value}
 use Rattle.text.specs.NumberLaws.{and-left, and-right, cases}
-use Rattle.text.specs.Value.{ascending, numeral, split, followed, each, ascends, within, said, unsaid, check}
-use Rattle.text.specs.Line.{took, refused, judged}
+use Rattle.text.specs.Value.{ascending, numeral, split, followed, each, ascends, within, unsaid, check}
+use Rattle.text.specs.Line.{judged}
 use Rattle.text.specs.Format.{setOf}
 use Rattle.scan.specs.Answer.{mapped}
 use Rattle.lists.specs.declared.Item.{Item}
 use Rattle.lists.specs.declared.Item.the-variants.{Is as IsItem, Not as NotItem}
 use Rattle.lists.specs.declared.Set.{Set}
 use Rattle.lists.specs.declared.Set.the-variants.{Is, Not}
-use Rattle.lists.specs.Items.{more, inside, bitOf, part, Itemized, ItemIs, ItemAt}
-use Rattle.lists.specs.Sets.{setIn, setEnds, SetJudged}
+use Rattle.lists.specs.Items.{more, inside, bitOf, part, Itemized, ItemAt}
+use Rattle.lists.specs.Sets.{setIn, SetJudged}
 use Rattle.lists.specs.TotalLaws.{total, total-first, within-first, total-is}
 
 -- the answer where the items up to x made m, all of them inside or not, and the others say o

@@ -1,9 +1,9 @@
 -- What the readers of values answer, for each kind of value. Of bytes t that end at e; and of the field at a place of a text.
 use Prim.Native.Nat.{ℕ, _≤_, _<_}
 use mathlib.Core.Path.{_≡_}
-use mathlib.Core.Bool.{Bool, true, false}
-use mathlib.Core.List.{List, [], _∷_}
-use mathlib.Core.Option.{Option, some}
+use mathlib.Core.Bool.{Bool}
+use mathlib.Core.List.{List}
+use mathlib.Core.Option.{Option}
 use lib.ListN.{length, drop}
 use Rattle.text.specs.declared.Fault.{Fault}
 use Rattle.table.specs.declared.Operand.{Operand}

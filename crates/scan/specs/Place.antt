@@ -4,7 +4,7 @@ use mathlib.Core.Path.{_≡_}
 use mathlib.Core.List.{List}
 use lib.ListN.{length, take, drop}
 use Rattle.text.specs.declared.Fault.{Fault}
-use Rattle.text.specs.declared.Fault.the-variants.{Form, Ended}
+use Rattle.text.specs.declared.Fault.the-variants.{Form}
 use Rattle.text.specs.Value.{Kind, Of, said}
 use Rattle.text.specs.Line.{Outcome, took, refused, After, at as stands, differs, broken, after, run as count, judged, valueOf, fieldOf, feed as endOf}
 use Rattle.scan.specs.declared.Found.{Found}

@@ -1,26 +1,24 @@
 -- Laws of keys and places: each says what a step of the code shows.
-use Prim.Native.Nat.{ℕ, zero, suc, _+_, _-_, _≤_, _<_}
-use mathlib.Core.Path.{_≡_, refl, sym, _∙_, ap}
+use Prim.Native.Nat.{ℕ, suc, _+_, _-_, _≤_, _<_}
+use mathlib.Core.Path.{_≡_, refl, _∙_}
 use mathlib.Core.List.{List, [], _∷_}
-use mathlib.Core.Bool.{Bool, true, false}
+use mathlib.Core.Bool.{false}
 use native.Mathlib.Omega.{arith}
 use native.Mathlib.Nat.{add-zero}
 use native.Mathlib.Numerals.{add-one}
-use lib.Dec.{ltb, eqb}
-use lib.ListN.{length, take, drop, getD, drop-of-length-le, length-drop}
+use lib.Dec.{eqb}
+use lib.ListN.{length, drop, getD, drop-of-length-le, length-drop}
 use lib.Seq.{drop-cons, drop-drop}
 use borrow.Author.Tests.{lt-ltb, le-ltb, eq-eqb, ne-eqb}
 use Rattle.table.specs.Mask.{pick}
 use Rattle.text.specs.declared.Fault.the-variants.{Form, Ended}
-use Rattle.text.specs.Value.{Kind, Of, said}
-use Rattle.text.specs.Line.{Outcome, took, refused, After, at as stands, differs, broken, after, run as count, stops, judged, valueOf, afterKey, fieldOf, feed as endOf}
+use Rattle.text.specs.Line.{differs, after, run as count, stops, fieldOf}
 use Rattle.scan.specs.declared.Found.{Found}
 use Rattle.scan.specs.declared.Found.the-variants.{At, Differs, Broken}
 use Rattle.scan.specs.declared.Token.{Token}
 use Rattle.scan.specs.declared.Token.the-variants.{At as Between, Not}
-use Rattle.scan.specs.declared.Ended.{Ended as LineEnd}
 use Rattle.scan.specs.declared.Ended.the-variants.{Is as Fed, Not as Unfed}
-use Rattle.scan.specs.Place.{AfterKey, RunEnd, ValueAt, TokenAt, refusalOf, FeedAt}
+use Rattle.scan.specs.Place.{AfterKey, RunEnd, ValueAt, TokenAt, FeedAt}
 
 -- ---- a key, byte by byte
 pub record Matching (key s : List ℕ) (at j : ℕ) : Type 0 where

@@ -1,31 +1,30 @@
 -- Laws of the readers of values: each says what a step of the code shows.
-use Prim.Native.Nat.{ℕ, zero, suc, _+_, _-_, _≤_, _<_}
-use mathlib.Core.Path.{_≡_, refl, sym, _∙_, ap}
-use mathlib.Core.List.{List, [], _∷_}
-use mathlib.Core.Option.{Option, none, some}
+use Prim.Native.Nat.{ℕ, _-_, _≤_, _<_}
+use mathlib.Core.Path.{_≡_, refl, _∙_}
+use mathlib.Core.List.{List}
 use mathlib.Core.Bool.{Bool, true, false, _&&_}
 use mathlib.Core.Logic.{_⊎_, inl, inr}
 use native.Mathlib.Omega.{arith}
-use lib.Dec.{ltb, leb, eqb}
-use lib.ListN.{length, take, drop, getD}
-use borrow.Author.Tests.{lt-ltb, le-ltb, le-leb, lt-leb, eq-eqb, ne-eqb}
+use lib.Dec.{ltb, leb}
+use lib.ListN.{take, drop}
+use borrow.Author.Tests.{lt-ltb, le-ltb, le-leb, lt-leb}
 use Rattle.text.specs.declared.Fault.{Fault}
-use Rattle.text.specs.declared.Fault.the-variants.{Form, Misspelt, Range, Index, Reference}
-use Rattle.text.specs.Number.{spelt, value}
+use Rattle.text.specs.declared.Fault.the-variants.{Misspelt}
+use Rattle.text.specs.Number.{value}
 use Rattle.text.specs.NumberLaws.{byOrder}
-use Rattle.text.specs.Value.{Kind, Of, number, said, unsaid, check, unless}
-use Rattle.text.specs.Line.{Outcome, took, refused, judged}
+use Rattle.text.specs.Value.{number, said, unsaid, check}
+use Rattle.text.specs.Line.{Outcome, took, refused}
 use Rattle.digits.specs.declared.Num.{Num}
 use Rattle.digits.specs.declared.Num.the-variants.{Good, Bad}
 use Rattle.digits.specs.Read.{numberOf, capped}
-use Rattle.digits.specs.NumeralLaws.{spelt-bad, spelt-good, numeral-bad, numeral-good}
+use Rattle.digits.specs.NumeralLaws.{spelt-bad, spelt-good}
 use Rattle.scan.specs.declared.Number.{Number}
 use Rattle.scan.specs.declared.Number.the-variants.{Is, Not}
 use Rattle.scan.specs.declared.Token.{Token}
 use Rattle.scan.specs.declared.Token.the-variants.{At as Between, Not as Refused}
 use Rattle.scan.specs.Place.{TokenAt, refusalOf}
 use Rattle.scan.specs.PlaceLaws.{token-within}
-use Rattle.scan.specs.Answer.{numberIn, numberEnds, numberWithin, NumberSaid, NumberAt, mapped}
+use Rattle.scan.specs.Answer.{numberEnds, numberWithin, NumberSaid, NumberAt, mapped}
 
 and-false : (a : Bool) → a && false ≡ false
 and-false true = refl

@@ -1,23 +1,17 @@
 -- Laws of the readers of words: each says what a step of the code shows.
-use Prim.Native.Nat.{ℕ, zero, suc, _+_, _-_, _≤_, _<_}
-use mathlib.Core.Path.{_≡_, refl, sym, _∙_, ap}
+use Prim.Native.Nat.{ℕ, zero, suc, _-_}
+use mathlib.Core.Path.{_≡_, refl, _∙_}
 use mathlib.Core.List.{List, [], _∷_}
 use mathlib.Core.Option.{Option, none, some}
-use mathlib.Core.Bool.{Bool, true, false, _&&_, false≢true}
-use native.Mathlib.Omega.{arith}
-use native.Mathlib.Numerals.{add-one}
-use lib.Dec.{eqb}
-use lib.ListN.{length, take, drop, getD, drop-of-length-le}
-use lib.Seq.{drop-cons}
-use borrow.Author.Tests.{eq-eqb, ne-eqb}
-use Rattle.table.specs.Mask.{pick}
+use mathlib.Core.Bool.{Bool, true, false, false≢true}
+use lib.ListN.{take, drop}
 use Rattle.table.specs.declared.Op.{Op}
 use Rattle.table.specs.declared.Op.the-variants.{Add, Sub, And, Or, Xor, Shr, Lt, Eq}
 use Rattle.text.specs.declared.Fault.{Fault}
 use Rattle.text.specs.declared.Fault.the-variants.{Form, Index}
 use Rattle.text.specs.Number.{bytes}
 use Rattle.text.specs.Value.{Sort, start, read, choice, sort, operation, sortWord, opWord, same, named, said, unsaid, sortFault, opFault, check, sorts, ops}
-use Rattle.text.specs.Line.{took, refused, judged}
+use Rattle.text.specs.Line.{judged}
 use Rattle.scan.specs.declared.Token.{Token}
 use Rattle.scan.specs.declared.Token.the-variants.{At as Between, Not as Refused}
 use Rattle.words.specs.declared.Choice.{Choice}
@@ -30,7 +24,7 @@ use Rattle.words.specs.declared.Operation.{Operation}
 use Rattle.words.specs.declared.Operation.the-variants.{Is as IsOp, Not as NotOp}
 use Rattle.scan.specs.Place.{TokenAt, refusalOf}
 use Rattle.scan.specs.PlaceLaws.{token-within}
-use Rattle.words.specs.Answer.{choiceIn, choiceEnds, choiceWithin, ChoiceSaid, ChoiceAt, sortOf, sortIn, sortEnds, sortWithin, plain, SortJudged, Later, SortSaid, SortAt, opEnds, opWithin, calculates, OpJudged, OpSaid, OpAt}
+use Rattle.words.specs.Answer.{choiceEnds, choiceWithin, ChoiceSaid, ChoiceAt, sortOf, sortEnds, sortWithin, plain, SortJudged, Later, SortSaid, SortAt, opEnds, opWithin, calculates, OpJudged, OpSaid, OpAt}
 
 -- ---- one of two words
 module _ (a b t : List ℕ) (e : ℕ) {x : Bool} (p : x ≡ same a t) where

@@ -1,7 +1,6 @@
-use Rattle.lists.specs.SetLaws.{item-less}
+use Rattle.lists.specs.SetLaws.{item-less, item-from, item-to, item-spelt, Rising, first-bad, rising-start, rising-end, rising-outside, rising-bad, rising-order, rising-fits, rising-turn}
 use Prim.Native.Nat.{_-_}
 use lib.ListN.{length}
-use Rattle.lists.specs.SetLaws.{item-from, item-to, item-spelt, Rising, first-bad, rising-start, rising-end, rising-outside, rising-bad, rising-order, rising-fits, rising-turn}
 use borrow.Author.Needs.{needs}
 use Rattle.lists.proofs.rising.Statement.{statement}
 use Rattle.lists.proofs.rising.Tie as tie
