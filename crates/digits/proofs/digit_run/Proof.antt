@@ -1,0 +1,55 @@
+use Prim.Native.Nat.{_-_}
+use lib.ListN.{length}
+use Rattle.digits.specs.ReadLaws.{Going, starts, leaves-low, leaves-high, turns, ends}
+use borrow.Author.Needs.{needs}
+use Rattle.digits.proofs.digit_run.Statement.{statement}
+use Rattle.digits.proofs.digit_run.Tie as tie
+
+abbrev Inv-loop : tie.InvT-loop
+Inv-loop t v₀ i₀ v i = Going t v i
+
+abbrev μ-loop : tie.MeasureT-loop
+μ-loop t v₀ i₀ v i = length t - i
+
+loop-holds : tie.Need-loop-holds Inv-loop μ-loop
+loop-holds c = starts _
+
+shared-slice-read-b : tie.Need-shared-slice-read-b Inv-loop μ-loop
+shared-slice-read-b c = search needs
+
+returns : tie.Need-returns Inv-loop μ-loop
+returns c = search (needs, leaves-low)
+
+returns-2 : tie.Need-returns-2 Inv-loop μ-loop
+returns-2 c = search (needs, leaves-high)
+
+push-requires : tie.Need-push-requires Inv-loop μ-loop
+push-requires c κs = search needs
+
+add-i : tie.Need-add-i Inv-loop μ-loop
+add-i c = search needs
+
+loop-less : tie.Need-loop-less Inv-loop μ-loop
+loop-less c = search needs
+
+loop-again : tie.Need-loop-again Inv-loop μ-loop
+loop-again c = search (needs, turns)
+
+returns-3 : tie.Need-returns-3 Inv-loop μ-loop
+returns-3 c = search (needs, ends)
+
+pub digit-run-spec : {M : Type 1} → statement M
+digit-run-spec =
+    tie.close
+    (tie.spec
+    Inv-loop
+    μ-loop
+    loop-holds
+    shared-slice-read-b
+    returns
+    returns-2
+    push-requires
+    add-i
+    loop-less
+    loop-again
+    returns-3)

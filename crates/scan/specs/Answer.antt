@@ -1,0 +1,90 @@
+-- What the readers of values answer, for each kind of value. Of bytes t that end at e; and of the field at a place of a text.
+use Prim.Native.Nat.{ℕ, _≤_, _<_}
+use mathlib.Core.Path.{_≡_}
+use mathlib.Core.Bool.{Bool}
+use mathlib.Core.List.{List}
+use mathlib.Core.Option.{Option}
+use lib.ListN.{length, drop}
+use Rattle.text.specs.declared.Fault.{Fault}
+use Rattle.table.specs.declared.Operand.{Operand}
+use Rattle.table.specs.declared.Operand.the-variants.{Var, Const}
+use Rattle.text.specs.Number.{bytes}
+use Rattle.text.specs.Value.{number, operand, variable, said}
+use Rattle.text.specs.Line.{Outcome, took, refused, judged, fieldOf}
+use Rattle.scan.specs.declared.Number.{Number}
+use Rattle.scan.specs.declared.Number.the-variants.{Is, Not}
+use Rattle.text.specs.Format.{variableOf}
+use Rattle.scan.specs.declared.Operand.{Operand as OperandAnswer}
+use Rattle.scan.specs.declared.Operand.the-variants.{Is as IsOperand, Not as NotOperand}
+
+-- ---- numbers
+
+abbrev pub numberIn : ℕ → List ℕ → Number → Outcome ℕ
+numberIn l s (Is v e) = took v l (drop e s)
+numberIn l s (Not f) = refused f l
+
+abbrev pub numberEnds : ℕ → ℕ → ℕ → Number → Type 0
+numberEnds lo n e (Is v q) = (q ≡ e) × (lo ≤ v) × (v < n)
+numberEnds lo n e (Not f) = Unit {0}
+
+abbrev pub numberWithin : ℕ → ℕ → List ℕ → Number → Type 0
+numberWithin lo n s (Is v e) = (e < length s) × (lo ≤ v) × (v < n)
+numberWithin lo n s (Not f) = Unit {0}
+
+pub record NumberSaid (lo n : ℕ) (f : Fault) (t : List ℕ) (e : ℕ) (r : Number) : Type 0 where
+  pub same : (l : ℕ) (s : List ℕ) → numberIn l s r ≡ judged (number lo n f) (said (number lo n f) t) l (drop e s)
+  pub ends : numberEnds lo n e r
+
+pub record NumberAt (lo n : ℕ) (f : Fault) (key s : List ℕ) (at : ℕ) (r : Number) : Type 0 where
+  pub same : (l : ℕ) → numberIn l s r ≡ fieldOf key (number lo n f) l (drop at s)
+  pub within : numberWithin lo n s r
+
+-- ---- operands
+
+abbrev pub operandIn : ℕ → List ℕ → OperandAnswer → Outcome Operand
+operandIn l s (IsOperand v e) = took v l (drop e s)
+operandIn l s (NotOperand f) = refused f l
+
+abbrev pub declaredBelow : ℕ → Operand → Type 0
+declaredBelow n (Var v) = v < n
+declaredBelow n (Const z) = Unit {0}
+
+abbrev pub operandEnds : ℕ → ℕ → OperandAnswer → Type 0
+operandEnds n e (IsOperand v q) = (q ≡ e) × declaredBelow n v
+operandEnds n e (NotOperand f) = Unit {0}
+
+abbrev pub operandWithin : ℕ → List ℕ → OperandAnswer → Type 0
+operandWithin n s (IsOperand v e) = (e < length s) × declaredBelow n v
+operandWithin n s (NotOperand f) = Unit {0}
+
+-- the answer for an operand that bytes say
+pub record OperandJudged (n : ℕ) (o : Option Operand) (e : ℕ) (r : OperandAnswer) : Type 0 where
+  pub same : (l : ℕ) (s : List ℕ) → operandIn l s r ≡ judged (operand n) o l (drop e s)
+  pub ends : operandEnds n e r
+
+pub record OperandAt (n : ℕ) (key s : List ℕ) (at : ℕ) (r : OperandAnswer) : Type 0 where
+  pub same : (l : ℕ) → operandIn l s r ≡ fieldOf key (operand n) l (drop at s)
+  pub within : operandWithin n s r
+
+-- ---- variables
+
+-- the outcome with another value
+abbrev pub mapped : {A B : Type 0} → (A → B) → Outcome A → Outcome B
+mapped g (took v l s) = took (g v) l s
+mapped g (refused f l) = refused f l
+
+abbrev pub variableEnds : ℕ → Number → Type 0
+variableEnds e (Is v q) = q ≡ e
+variableEnds e (Not f) = Unit {0}
+
+abbrev pub variableWithin : List ℕ → Number → Type 0
+variableWithin s (Is v e) = e < length s
+variableWithin s (Not f) = Unit {0}
+
+pub record VariableSaid (c : Bool) (n : ℕ) (t : List ℕ) (e : ℕ) (r : Number) : Type 0 where
+  pub same : (l : ℕ) (s : List ℕ) → numberIn l s r ≡ mapped variableOf (judged (variable c n) (said (variable c n) t) l (drop e s))
+  pub ends : variableEnds e r
+
+pub record VariableAt (c : Bool) (n : ℕ) (s : List ℕ) (at : ℕ) (r : Number) : Type 0 where
+  pub same : (l : ℕ) → numberIn l s r ≡ mapped variableOf (fieldOf (bytes " var=") (variable c n) l (drop at s))
+  pub within : variableWithin s r

@@ -1,0 +1,81 @@
+use Rattle.words.specs.WordLaws.{sort-laws}
+use borrow.Author.Needs.{needs}
+use Rattle.words.proofs.sort_value.Statement.{statement}
+use Rattle.words.proofs.sort_value.Tie as tie
+
+slice-aggregate-is-word : tie.Need-slice-aggregate-is-word
+slice-aggregate-is-word c = search needs
+
+is-word-requires : tie.Need-is-word-requires
+is-word-requires c κs = search needs
+
+start-at-requires : tie.Need-start-at-requires
+start-at-requires c κs = search needs
+
+returns : tie.Need-returns
+returns c = search (needs, sort-laws)
+
+slice-aggregate-is-word-2 : tie.Need-slice-aggregate-is-word-2
+slice-aggregate-is-word-2 c = search needs
+
+is-word-requires-2 : tie.Need-is-word-requires-2
+is-word-requires-2 c κs = search needs
+
+later-requires : tie.Need-later-requires
+later-requires c κs = search needs
+
+returns-2 : tie.Need-returns-2
+returns-2 c = search (needs, sort-laws)
+
+slice-aggregate-is-word-3 : tie.Need-slice-aggregate-is-word-3
+slice-aggregate-is-word-3 c = search needs
+
+is-word-requires-3 : tie.Need-is-word-requires-3
+is-word-requires-3 c κs = search needs
+
+later-requires-2 : tie.Need-later-requires-2
+later-requires-2 c κs = search needs
+
+returns-3 : tie.Need-returns-3
+returns-3 c = search (needs, sort-laws)
+
+slice-aggregate-is-word-4 : tie.Need-slice-aggregate-is-word-4
+slice-aggregate-is-word-4 c = search needs
+
+is-word-requires-4 : tie.Need-is-word-requires-4
+is-word-requires-4 c κs = search needs
+
+read-at-requires : tie.Need-read-at-requires
+read-at-requires c κs = search needs
+
+returns-4 : tie.Need-returns-4
+returns-4 c = search (needs, sort-laws)
+
+middle-sort-requires : tie.Need-middle-sort-requires
+middle-sort-requires c κs = search needs
+
+returns-5 : tie.Need-returns-5
+returns-5 c = search (needs, sort-laws)
+
+pub sort-value-spec : {M : Type 1} → statement M
+sort-value-spec =
+    tie.close
+    (tie.spec
+    slice-aggregate-is-word
+    is-word-requires
+    start-at-requires
+    returns
+    slice-aggregate-is-word-2
+    is-word-requires-2
+    later-requires
+    returns-2
+    slice-aggregate-is-word-3
+    is-word-requires-3
+    later-requires-2
+    returns-3
+    slice-aggregate-is-word-4
+    is-word-requires-4
+    read-at-requires
+    returns-4
+    middle-sort-requires
+    returns-5)

@@ -1,0 +1,151 @@
+-- What the readers of words answer. Of bytes t that end at e; and of the field at a place of a text.
+use Prim.Native.Nat.{ℕ, _<_}
+use mathlib.Core.Path.{_≡_}
+use mathlib.Core.Bool.{Bool, true, false}
+use mathlib.Core.List.{List, [], _∷_}
+use mathlib.Core.Option.{some}
+use lib.ListN.{length, drop}
+use Rattle.table.specs.declared.Op.{Op}
+use Rattle.table.specs.declared.Op.the-variants.{Add, Sub, And, Or, Xor, Shr, Lt, Eq}
+use Rattle.text.specs.Number.{bytes}
+use Rattle.text.specs.Value.{Sort, start, set, test, read, call, wait, signal, send, recv, assert, out, return, choice, sort, operation, sortWord, opWord, named, said}
+use Rattle.text.specs.Line.{Outcome, took, refused, judged, fieldOf}
+use Rattle.words.specs.declared.Choice.{Choice}
+use Rattle.words.specs.declared.Choice.the-variants.{Is as IsChoice, Not as NotChoice}
+use Rattle.words.specs.declared.Sort.{Sort as Word}
+use Rattle.words.specs.declared.Sort.the-variants.{Start, Set, Test, Read, Call, Wait, Signal, Send, Recv, Assert, Out, Return}
+use Rattle.words.specs.declared.Kind.{Kind as SortAnswer}
+use Rattle.words.specs.declared.Kind.the-variants.{Is as IsSort, Not as NotSort}
+use Rattle.words.specs.declared.Operation.{Operation}
+use Rattle.words.specs.declared.Operation.the-variants.{Is as IsOp, Not as NotOp}
+
+-- ---- one of two words
+
+abbrev pub choiceIn : ℕ → List ℕ → Choice → Outcome Bool
+choiceIn l s (IsChoice v e) = took v l (drop e s)
+choiceIn l s (NotChoice f) = refused f l
+
+abbrev pub choiceEnds : ℕ → Choice → Type 0
+choiceEnds e (IsChoice v q) = q ≡ e
+choiceEnds e (NotChoice f) = Unit {0}
+
+abbrev pub choiceWithin : List ℕ → Choice → Type 0
+choiceWithin s (IsChoice v e) = e < length s
+choiceWithin s (NotChoice f) = Unit {0}
+
+pub record ChoiceSaid (a b t : List ℕ) (e : ℕ) (r : Choice) : Type 0 where
+  pub same : (l : ℕ) (s : List ℕ) → choiceIn l s r ≡ judged (choice a b) (said (choice a b) t) l (drop e s)
+  pub ends : choiceEnds e r
+
+pub record ChoiceAt (a b key s : List ℕ) (at : ℕ) (r : Choice) : Type 0 where
+  pub same : (l : ℕ) → choiceIn l s r ≡ fieldOf key (choice a b) l (drop at s)
+  pub within : choiceWithin s r
+
+-- ---- the kinds of nodes
+
+abbrev pub sortOf : Word → Sort
+sortOf Start = start
+sortOf Set = set
+sortOf Test = test
+sortOf Read = read
+sortOf Call = call
+sortOf Wait = wait
+sortOf Signal = signal
+sortOf Send = send
+sortOf Recv = recv
+sortOf Assert = assert
+sortOf Out = out
+sortOf Return = return
+
+abbrev pub sortIn : ℕ → List ℕ → SortAnswer → Outcome Sort
+sortIn l s (IsSort k e) = took (sortOf k) l (drop e s)
+sortIn l s (NotSort f) = refused f l
+
+abbrev pub sortEnds : ℕ → SortAnswer → Type 0
+sortEnds e (IsSort k q) = q ≡ e
+sortEnds e (NotSort f) = Unit {0}
+
+abbrev pub sortWithin : List ℕ → SortAnswer → Type 0
+sortWithin s (IsSort k e) = e < length s
+sortWithin s (NotSort f) = Unit {0}
+
+-- a kind that any node but 0 may have, in either form
+abbrev pub plain : Word → Bool
+plain Start = false
+plain Set = true
+plain Test = true
+plain Read = false
+plain Call = true
+plain Wait = true
+plain Signal = true
+plain Send = true
+plain Recv = true
+plain Assert = true
+plain Out = true
+plain Return = true
+
+-- the answer for a kind
+pub record SortJudged (c : Bool) (j : ℕ) (k : Sort) (e : ℕ) (r : SortAnswer) : Type 0 where
+  pub same : (l : ℕ) (s : List ℕ) → sortIn l s r ≡ judged (sort c j) (some k) l (drop e s)
+  pub ends : sortEnds e r
+
+-- in either form
+pub record Later (k : Sort) (j e : ℕ) (r : SortAnswer) : Type 0 where
+  pub judged : (c : Bool) → SortJudged c j k e r
+
+-- the answer where the word is looked for among those of some kinds
+pub record SortSaid (c : Bool) (j : ℕ) (ks : List Sort) (t : List ℕ) (e : ℕ) (r : SortAnswer) : Type 0 where
+  pub same : (l : ℕ) (s : List ℕ) → sortIn l s r ≡ judged (sort c j) (named sortWord ks t) l (drop e s)
+  pub ends : sortEnds e r
+
+abbrev pub lateSorts : List Sort
+lateSorts = recv ∷ assert ∷ out ∷ return ∷ []
+
+abbrev pub middleSorts : List Sort
+middleSorts = call ∷ wait ∷ signal ∷ send ∷ lateSorts
+
+pub record SortAt (c : Bool) (j : ℕ) (s : List ℕ) (at : ℕ) (r : SortAnswer) : Type 0 where
+  pub same : (l : ℕ) → sortIn l s r ≡ fieldOf (bytes " kind=") (sort c j) l (drop at s)
+  pub within : sortWithin s r
+
+-- ---- operations
+
+abbrev pub opIn : ℕ → List ℕ → Operation → Outcome Op
+opIn l s (IsOp o e) = took o l (drop e s)
+opIn l s (NotOp f) = refused f l
+
+abbrev pub opEnds : ℕ → Operation → Type 0
+opEnds e (IsOp o q) = q ≡ e
+opEnds e (NotOp f) = Unit {0}
+
+abbrev pub opWithin : List ℕ → Operation → Type 0
+opWithin s (IsOp o e) = e < length s
+opWithin s (NotOp f) = Unit {0}
+
+-- an operation that a test does not have
+abbrev pub calculates : Op → Bool
+calculates Add = true
+calculates Sub = true
+calculates And = true
+calculates Or = true
+calculates Xor = true
+calculates Shr = true
+calculates Lt = false
+calculates Eq = false
+
+-- the answer for an operation
+pub record OpJudged (x : Bool) (o : Op) (e : ℕ) (r : Operation) : Type 0 where
+  pub same : (l : ℕ) (s : List ℕ) → opIn l s r ≡ judged (operation x) (some o) l (drop e s)
+  pub ends : opEnds e r
+
+-- the answer where the word is looked for among those of some operations
+pub record OpSaid (x : Bool) (os : List Op) (t : List ℕ) (e : ℕ) (r : Operation) : Type 0 where
+  pub same : (l : ℕ) (s : List ℕ) → opIn l s r ≡ judged (operation x) (named opWord os t) l (drop e s)
+  pub ends : opEnds e r
+
+abbrev pub lateOps : List Op
+lateOps = Xor ∷ Shr ∷ Lt ∷ Eq ∷ []
+
+pub record OpAt (x : Bool) (s : List ℕ) (at : ℕ) (r : Operation) : Type 0 where
+  pub same : (l : ℕ) → opIn l s r ≡ fieldOf (bytes " op=") (operation x) l (drop at s)
+  pub within : opWithin s r

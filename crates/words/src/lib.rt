@@ -1,0 +1,227 @@
+// The words of a text, each read at a place: choices, the kinds of nodes, operations.
+ghost use Prim.Native.Nat.{_≤_};
+ghost use mathlib.Core.Path.{_≡_};
+ghost use mathlib.Core.Bool.{true};
+ghost use lib.ListN.{length};
+ghost use Rattle.text.specs.Value.{sorts, ops};
+ghost use Rattle.words.specs.Answer.{ChoiceSaid, ChoiceAt, sortOf, SortJudged, plain, Later, SortSaid, middleSorts, lateSorts, SortAt, calculates, OpJudged, OpSaid, lateOps, OpAt};
+
+// One of two words and the place after it, or the fault.
+pub enum Choice {
+    Is(bool, usize),
+    Not(text::Fault),
+}
+
+// The kinds of nodes, by their words.
+pub enum Sort {
+    Start,
+    Set,
+    Test,
+    Read,
+    Call,
+    Wait,
+    Signal,
+    Send,
+    Recv,
+    Assert,
+    Out,
+    Return,
+}
+
+// A node's kind and the place after it, or the fault.
+pub enum Kind {
+    Is(Sort, usize),
+    Not(text::Fault),
+}
+
+// An operation and the place after it, or the fault.
+pub enum Operation {
+    Is(table::Op, usize),
+    Not(text::Fault),
+}
+
+fn choice_value(t: &[u8], e: usize, a: &[u8], b: &[u8]) -> Choice
+    ensures { λ r. ⌜ ChoiceSaid (now (a .entry)) (now (b .entry)) (now (t .entry)) e r ⌝ }
+{
+    if scan::is_word(t, a) {
+        return Choice::Is(false, e);
+    }
+    if scan::is_word(t, b) {
+        return Choice::Is(true, e);
+    }
+    Choice::Not(text::Fault::Form)
+}
+
+// One of two words: the first for false, the second for true.
+pub fn choice_field(s: &[u8], at: usize, key: &[u8], a: &[u8], b: &[u8]) -> Choice
+    requires { ⌜ at ≤ length (now s) ⌝ }
+    ensures { λ r. ⌜ ChoiceAt (now (a .entry)) (now (b .entry)) (now (key .entry)) (now (s .entry)) at r ⌝ }
+{
+    let found = scan::token_at(s, at, key);
+    let scan::Token::At(from, e) = found else {
+        return Choice::Not(scan::refusal(found));
+    };
+    choice_value(&s[from..e], e, a, b)
+}
+
+// ---- the kinds of nodes
+
+// Node 0 is the only `start`.
+fn start_at(e: usize, j: u8) -> Kind
+    ensures { λ r. ⌜ Later (sortOf Sort.Start) j e r ⌝ }
+{
+    if j == 0 {
+        return Kind::Is(Sort::Start, e);
+    }
+    Kind::Not(text::Fault::Index)
+}
+
+fn later(k: Sort, e: usize, j: u8) -> Kind
+    requires { ⌜ plain k ≡ true ⌝ }
+    ensures { λ r. ⌜ Later (sortOf k) j e r ⌝ }
+{
+    if j == 0 {
+        return Kind::Not(text::Fault::Index);
+    }
+    Kind::Is(k, e)
+}
+
+// A closed table has no `read`.
+fn read_at(e: usize, closed: bool, j: u8) -> Kind
+    ensures { λ r. ⌜ SortJudged closed j (sortOf Sort.Read) e r ⌝ }
+{
+    if closed {
+        return Kind::Not(text::Fault::Form);
+    }
+    if j == 0 {
+        return Kind::Not(text::Fault::Index);
+    }
+    Kind::Is(Sort::Read, e)
+}
+
+fn late_sort(t: &[u8], e: usize, closed: bool, j: u8) -> Kind
+    ensures { λ r. ⌜ SortSaid closed j lateSorts (now (t .entry)) e r ⌝ }
+{
+    if scan::is_word(t, b"recv") {
+        return later(Sort::Recv, e, j);
+    }
+    if scan::is_word(t, b"assert") {
+        return later(Sort::Assert, e, j);
+    }
+    if scan::is_word(t, b"out") {
+        return later(Sort::Out, e, j);
+    }
+    if scan::is_word(t, b"return") {
+        return later(Sort::Return, e, j);
+    }
+    Kind::Not(text::Fault::Form)
+}
+
+fn middle_sort(t: &[u8], e: usize, closed: bool, j: u8) -> Kind
+    ensures { λ r. ⌜ SortSaid closed j middleSorts (now (t .entry)) e r ⌝ }
+{
+    if scan::is_word(t, b"call") {
+        return later(Sort::Call, e, j);
+    }
+    if scan::is_word(t, b"wait") {
+        return later(Sort::Wait, e, j);
+    }
+    if scan::is_word(t, b"signal") {
+        return later(Sort::Signal, e, j);
+    }
+    if scan::is_word(t, b"send") {
+        return later(Sort::Send, e, j);
+    }
+    late_sort(t, e, closed, j)
+}
+
+fn sort_value(t: &[u8], e: usize, closed: bool, j: u8) -> Kind
+    ensures { λ r. ⌜ SortSaid closed j sorts (now (t .entry)) e r ⌝ }
+{
+    if scan::is_word(t, b"start") {
+        return start_at(e, j);
+    }
+    if scan::is_word(t, b"set") {
+        return later(Sort::Set, e, j);
+    }
+    if scan::is_word(t, b"test") {
+        return later(Sort::Test, e, j);
+    }
+    if scan::is_word(t, b"read") {
+        return read_at(e, closed, j);
+    }
+    middle_sort(t, e, closed, j)
+}
+
+// The kind of node j.
+pub fn sort_field(s: &[u8], at: usize, closed: bool, j: u8) -> Kind
+    requires { ⌜ at ≤ length (now s) ⌝ }
+    ensures { λ r. ⌜ SortAt closed j (now (s .entry)) at r ⌝ }
+{
+    let found = scan::token_at(s, at, b" kind=");
+    let scan::Token::At(from, e) = found else {
+        return Kind::Not(scan::refusal(found));
+    };
+    sort_value(&s[from..e], e, closed, j)
+}
+
+// ---- operations
+
+// "A test has lt or eq".
+fn calculation(o: table::Op, e: usize, test: bool) -> Operation
+    requires { ⌜ calculates o ≡ true ⌝ }
+    ensures { λ r. ⌜ OpJudged test o e r ⌝ }
+{
+    if test {
+        return Operation::Not(text::Fault::Form);
+    }
+    Operation::Is(o, e)
+}
+
+fn late_operation(t: &[u8], e: usize, test: bool) -> Operation
+    ensures { λ r. ⌜ OpSaid test lateOps (now (t .entry)) e r ⌝ }
+{
+    if scan::is_word(t, b"xor") {
+        return calculation(table::Op::Xor, e, test);
+    }
+    if scan::is_word(t, b"shr") {
+        return calculation(table::Op::Shr, e, test);
+    }
+    if scan::is_word(t, b"lt") {
+        return Operation::Is(table::Op::Lt, e);
+    }
+    if scan::is_word(t, b"eq") {
+        return Operation::Is(table::Op::Eq, e);
+    }
+    Operation::Not(text::Fault::Form)
+}
+
+fn operation_value(t: &[u8], e: usize, test: bool) -> Operation
+    ensures { λ r. ⌜ OpSaid test ops (now (t .entry)) e r ⌝ }
+{
+    if scan::is_word(t, b"add") {
+        return calculation(table::Op::Add, e, test);
+    }
+    if scan::is_word(t, b"sub") {
+        return calculation(table::Op::Sub, e, test);
+    }
+    if scan::is_word(t, b"and") {
+        return calculation(table::Op::And, e, test);
+    }
+    if scan::is_word(t, b"or") {
+        return calculation(table::Op::Or, e, test);
+    }
+    late_operation(t, e, test)
+}
+
+// An operation; in a test or not.
+pub fn operation_field(s: &[u8], at: usize, test: bool) -> Operation
+    requires { ⌜ at ≤ length (now s) ⌝ }
+    ensures { λ r. ⌜ OpAt test (now (s .entry)) at r ⌝ }
+{
+    let found = scan::token_at(s, at, b" op=");
+    let scan::Token::At(from, e) = found else {
+        return Operation::Not(scan::refusal(found));
+    };
+    operation_value(&s[from..e], e, test)
+}
