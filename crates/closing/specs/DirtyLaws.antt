@@ -66,7 +66,7 @@ module _ (t : Table) where
   clear-on (on j s′ a′ c) s a = on j s′ a′ (clear-on c s a)
 
   -- a dirty variable goes along an arc of a node that does not set it
-  use-on : {p n v k : ℕ} → sets (nodeAt t p n) ≢ some v → List·Memᴰ k (arcs (nodeAt t p n)) → Dirty t (useAt p n v) → Dirty t (useAt p k v)
+  pub use-on : {p n v k : ℕ} → sets (nodeAt t p n) ≢ some v → List·Memᴰ k (arcs (nodeAt t p n)) → Dirty t (useAt p n v) → Dirty t (useAt p k v)
   use-on s a (from-node m j l e b c d) = from-node m j l e b (clear-on c s a) d
   use-on s a (from-entry l c d) = from-entry l (clear-on c s a) d
 
