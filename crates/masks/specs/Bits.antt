@@ -9,11 +9,12 @@ use mathlib.Core.Logic.{_⊎_, inl, inr}
 use mathlib.Core.List.{List, [], _∷_}
 use lib.ListN.{length, getD, set}
 use lib.Dec.{eqb, ltb}
-use lib.Bits.{bitAnd, bitOr, or-shr, or-mod, and-shr, and-mod, or-add-and, and-le-r, and-le-l, or-comm, or-self, bitXor, xor-shr, xor-mod, and-mask}
+use lib.Bits.{bitAnd, bitOr, or-shr, or-mod, and-shr, and-mod, or-add-and, and-le-r, and-le-l, or-comm, or-self, bitXor, xor-shr, xor-mod, and-mask, or-shifted-r}
 use lib.Count.{trailingZeros, under}
 use lib.Pow.{pow-pos, pow-lt, pow-mono, ones-lt, pow-add, shr-shr, shl-shr, shl-exact}
 use borrow.Author.Tests.{eqb-true, eqb-false, eq-eqb, ne-eqb, ltb-true, ltb-false}
-use Rattle.table.specs.Mask.{bit}
+use Rattle.table.specs.Mask.{pick, bit, maskOf}
+use Rattle.table.specs.MaskLaws.{maskOf-lt}
 
 -- a test as it stands in code
 pub bit-of : (k m : ℕ) → m / 2 ^ k % 2 ≡ 1 → bit k m ≡ true
@@ -194,3 +195,12 @@ low-pow (suc d) zero h = refl
 low-pow (suc d) (suc k) h =
     let e : 2 ^ suc k ≡ 2 ^ k * 2 = pow-suc 2 k in
     ap₂ under (ap (λ (x : ℕ). x % 2) e ∙ mul-mod-left (2 ^ k) 2) (ap (λ (x : ℕ). trailingZeros d (x / 2)) e ∙ ap (trailingZeros d) (mul-div-cancel (2 ^ k) (omega arith)) ∙ low-pow d k (omega arith))
+
+-- the mask of a test, by one more number
+pub mask-next : (f : ℕ → Bool) (n m : ℕ) (yes' : Bool) {r : ℕ} → m ≡ maskOf n f → yes' ≡ f n → r ≡ pick yes' (bitOr m (1 * 2 ^ n)) m → r ≡ maskOf (n + 1) f
+unfolding maskOf
+mask-next f n m yes' {r} e g h = rw (add-one, maskOf, ← g) (go yes' h)
+  where
+    go : (b : Bool) → r ≡ pick b (bitOr m (1 * 2 ^ n)) m → r ≡ maskOf n f + pick b (2 ^ n) 0
+    go true h = h ∙ or-shifted-r 1 n m (rw e (maskOf-lt n f)) ∙ rw e (omega arith)
+    go false h = h ∙ rw e (omega arith)

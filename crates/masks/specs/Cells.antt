@@ -136,6 +136,10 @@ grown-has l a m b k h = go (eqb b a) refl (ltb a (length l)) refl
     go true e false i = rw (set-out l a (bitOr (cell l a) m) (ltb-false _ _ i)) h
     go false e i j = rw (getD-set-other l a b (bitOr (cell l a) m) 0 (eqb-false b a e)) h
 
+pub grown-adds : (l : List ℕ) (a m k : ℕ) → a < length l → bit k m ≡ true → bit k (cell (grown l a m) a) ≡ true
+unfolding grown
+grown-adds l a m k i h = rw (getD-set-same l a (bitOr (cell l a) m) 0 i) (bit-or-r k (cell l a) m h)
+
 -- nothing new: the cell has the whole mask
 pub grown-same : (l : List ℕ) (a m k : ℕ) → a < length l → grown l a m ≡ l → bit k m ≡ true → bit k (cell l a) ≡ true
 unfolding grown
