@@ -263,7 +263,7 @@ module _ (t : Table) (o : Ready t) where
 
   -- ---- complete: what is dirty has its bit
 
-  present : (p n : ℕ) → (nodeAt t p n ≡ Absent → ⊥) → (p < 8) × (n < 32)
+  pub present : (p n : ℕ) → (nodeAt t p n ≡ Absent → ⊥) → (p < 8) × (n < 32)
   present p n f = go (ltb p 8) refl (ltb n 32) refl
     where
       go : (a : Bool) → ltb p 8 ≡ a → (b : Bool) → ltb n 32 ≡ b → (p < 8) × (n < 32)

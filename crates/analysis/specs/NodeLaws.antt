@@ -52,7 +52,7 @@ one-only {to} {m} o d = go (List·Memᴰ·append-cases (members to) d)
     go (inl e) = low-only o e
     go (inr e) = none-in e
 
-no-arc : {m : ℕ} {P : Type 0} → List·Memᴰ m (members 0 ++ members 0) → P
+pub no-arc : {m : ℕ} {P : Type 0} → List·Memᴰ m (members 0 ++ members 0) → P
 no-arc {m} {P} d = go (List·Memᴰ·append-cases (members 0) d)
   where
     go : List·Memᴰ m (members 0) ⊎ List·Memᴰ m (members 0) → P
