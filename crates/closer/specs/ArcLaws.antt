@@ -1,0 +1,136 @@
+-- Where the code's search leads is where the arcs lead: the new arcs are the definition's.
+use Prim.Native.Nat.{ℕ, _+_, _*_, _/_, _%_, _^_, _<_, _≤_}
+use native.Mathlib.Omega.{arith}
+use mathlib.Core.Path.{_≡_, refl, sym, _∙_, ap, subst}
+use mathlib.Core.Bool.{Bool, true, false, false≢true, true≢false}
+use mathlib.Core.Logic.{_⊎_, inl, inr, _↔_}
+use mathlib.Core.List.{List, [], _∷_, List·Memᴰ, List·Memᴰ·head, List·Memᴰ·tail, List·Memᴰ·not-nil, List·Memᴰ·append-cases}
+use lib.ListN.{getD}
+use Rattle.table.specs.Mask.{bit, members, maskOf}
+use Rattle.table.specs.MaskLaws.{maskOf-lt, members-is}
+use Rattle.table.specs.Table.{procAt, nodeAt, arcs, arcTo, arcNo, keeping}
+use Rattle.table.specs.declared.Node.{Node}
+use Rattle.table.specs.declared.Node.the-variants.{Absent}
+use Rattle.table.specs.declared.Table.{Table}
+use Rattle.closing.specs.Dirty.{Unkept, Leads, target, through}
+use Rattle.closing.specs.Closing.{dirty, kept}
+use Rattle.closing.specs.Close.{unkeptArcs, keptAmong, newArc}
+use Rattle.closing.specs.KeptLaws.{unkept-is}
+use Rattle.closing.specs.ArcLaws.{arc-is}
+use Rattle.masks.specs.Bits.{bit-zero, bit-ext}
+use Rattle.masks.specs.Cells.{cell, Filled}
+use Rattle.flow.specs.declared.Flow.{Flow}
+use Rattle.flow.specs.Flow.{low, flowOf}
+use Rattle.analysis.specs.Ready.{One, FitsNode, Ready}
+use Rattle.analysis.specs.Decides.{Decides}
+use Rattle.analysis.specs.Steps.{keptIn}
+use Rattle.analysis.specs.NodeLaws.{low-in, low-only, no-arc, targets, Aims, aims, Places, flow-places}
+use Rattle.analysis.specs.Decide.{present}
+use Rattle.analysis.specs.KeptLaws.{same-test, kept-bit}
+use Rattle.reach.specs.Reach as Search
+use Rattle.closer.specs.Parts.{endOf, arcIn}
+
+module _ (t : Table) (p : ℕ) where
+  -- a longer way, by one node before it
+  before : {n m k : ℕ} → Unkept t p n → List·Memᴰ m (arcs (nodeAt t p n)) → Leads t p (m ∷ []) k → Leads t p (n ∷ []) k
+  before {n} {m} {k} u a (target (List·Memᴰ·head e)) = through {m = k} n u (rw e a) (target (List·Memᴰ·head refl))
+  before {n} {m} {k} u a (target (List·Memᴰ·tail e)) = absurd (List·Memᴰ·not-nil e)
+  before u a (through j v b l) = through j v b (before u a l)
+
+  -- the same ways from other targets
+  widen : {ms ns : List ℕ} {k : ℕ} → ((m : ℕ) → List·Memᴰ m ms → List·Memᴰ m ns) → Leads t p ms k → Leads t p ns k
+  widen f (target d) = target (f _ d)
+  widen f (through n u d l) = through n u d (widen f l)
+
+  -- a new arc is a mask of 32 places
+  arc-small : (to : ℕ) → newArc t (dirty t) p (unkeptArcs t (dirty t) p) to < 2 ^ 32
+  unfolding newArc keptAmong
+  arc-small to = maskOf-lt 32 _
+
+module _ (t : Table) (o : Ready t) (l : List ℕ) (d : Decides t l) (p : ℕ) (hp : p < 8) (ends : List ℕ) (ends-are : Filled (λ n. endOf (nodeAt t p n) n) 32 ends) where
+  keeps : ℕ
+  keeps = maskOf 32 (keptIn (procAt t p) (p * 32) l)
+
+  has-arc : (n m : ℕ) → List·Memᴰ m (arcs (nodeAt t p n)) → n < 32
+  unfolding arcTo arcNo
+  has-arc n m a = present t o p n (λ e. no-arc (subst (λ (x : Node). List·Memᴰ m (arcs x)) e a)) .1
+
+  is-kept : (n : ℕ) → kept (dirty t) p n (nodeAt t p n) ≡ true → n < 32
+  unfolding kept keeping
+  is-kept n h = present t o p n (λ e. false≢true (rw e at h)) .1
+
+  unkept : (n : ℕ) → n < 32 → bit n keeps ≡ false → Unkept t p n
+  unfolding keeps
+  unkept n h e = unkept-is t p n .0 (sym (kept-bit t o l d p n hp h) ∙ e)
+
+  module _ (n : ℕ) (h : n < 32) where
+    f : Flow
+    f = flowOf (nodeAt t p n) n 0 0
+
+    first-is : Search.firstOf ends n ≡ f .first
+    unfolding f
+    first-is = let k = flow-places (nodeAt t p n) n 0 0 h in let e = ends-are n h in omega (arith, k .first-low, k .second-low)
+
+    second-is : Search.secondOf ends n ≡ f .second
+    unfolding f
+    second-is = let k = flow-places (nodeAt t p n) n 0 0 h in let e = ends-are n h in omega (arith, k .first-low, k .second-low)
+
+    -- an end is a target of an arc, or the node itself
+    end-arc : (m : ℕ) → Search.IsEnd ends n m → List·Memᴰ m (arcs (nodeAt t p n)) ⊎ (m ≡ n)
+    unfolding f
+    end-arc m (inl z) = subst (λ (j : ℕ). List·Memᴰ j (arcs (nodeAt t p n)) ⊎ (j ≡ n)) (sym (z ∙ first-is)) (aims t (procAt t p .vars) (nodeAt t p n) n 0 0 (o .fits p n) .first-arc)
+    end-arc m (inr z) = subst (λ (j : ℕ). List·Memᴰ j (arcs (nodeAt t p n)) ⊎ (j ≡ n)) (sym (z ∙ second-is)) (aims t (procAt t p .vars) (nodeAt t p n) n 0 0 (o .fits p n) .second-arc)
+
+    -- and a target of an arc is an end
+    arc-end : (m : ℕ) → List·Memᴰ m (arcs (nodeAt t p n)) → Search.IsEnd ends n m
+    unfolding f
+    arc-end m a = go (targets t (procAt t p .vars) (nodeAt t p n) n 0 0 m (o .fits p n) a)
+      where
+        go : (m ≡ f .first) ⊎ (m ≡ f .second) → Search.IsEnd ends n m
+        go (inl e) = inl (e ∙ sym first-is)
+        go (inr e) = inr (e ∙ sym second-is)
+
+  -- ---- the two ways are the same
+
+  to-leads : {n k : ℕ} → n < 32 → Search.Leads keeps ends n k → Leads t p (n ∷ []) k × (kept (dirty t) p k (nodeAt t p k) ≡ true)
+  unfolding keeps
+  to-leads {n} h (Search.here e) = (target (List·Memᴰ·head refl), sym (kept-bit t o l d p n hp h) ∙ e)
+  to-leads {n} {k} h (Search.via m e a r) = go (to-leads (low-end a) r) (end-arc n h m a)
+    where
+      low-end : Search.IsEnd ends n m → m < 32
+      low-end (inl z) = omega arith
+      low-end (inr z) = omega arith
+
+      go : Leads t p (m ∷ []) k × (kept (dirty t) p k (nodeAt t p k) ≡ true) → List·Memᴰ m (arcs (nodeAt t p n)) ⊎ (m ≡ n) → Leads t p (n ∷ []) k × (kept (dirty t) p k (nodeAt t p k) ≡ true)
+      go w (inl b) = (before t p (unkept n h e) b (w .0), w .1)
+      go w (inr z) = (rw z at (w .0), w .1)
+
+  from-leads : {n m k : ℕ} → Leads t p (n ∷ []) m → Search.Leads keeps ends m k → Search.Leads keeps ends n k
+  unfolding keeps
+  from-leads (target (List·Memᴰ·head e)) r = rw e at r
+  from-leads (target (List·Memᴰ·tail e)) r = absurd (List·Memᴰ·not-nil e)
+  from-leads {n} {m} (through j u b w) r = let h = has-arc j m b in
+      from-leads w (Search.via m (kept-bit t o l d p j hp h ∙ unkept-is t p j .1 u) (arc-end j h m b) r)
+
+  -- ---- so the new arcs are the definition's
+
+  module _ (cells : List ℕ) (r : Search.Reaches (maskOf 32 (keptIn (procAt t p) (p * 32) l)) ends cells) where
+    arc-bit : (to k : ℕ) → One to → (bit k (arcIn cells to) ≡ true) ↔ (Leads t p (members to) k × (kept (dirty t) p k (nodeAt t p k) ≡ true))
+    unfolding keeps
+    arc-bit to k one = (
+      λ e. let w = to-leads h (r .right (low to) k h .0 e) in (widen t p out (w .0), w .1),
+      λ w. r .right (low to) k h .1 (from-leads (widen t p back (w .0)) (Search.here (kept-bit t o l d p k hp (is-kept k (w .1)) ∙ w .1))),
+    )
+      where
+        h : low to < 32
+        h = omega arith
+
+        out : (m : ℕ) → List·Memᴰ m (low to ∷ []) → List·Memᴰ m (members to)
+        out m (List·Memᴰ·head e) = rw e (low-in one)
+        out m (List·Memᴰ·tail e) = absurd (List·Memᴰ·not-nil e)
+
+        back : (m : ℕ) → List·Memᴰ m (members to) → List·Memᴰ m (low to ∷ [])
+        back m b = List·Memᴰ·head (low-only one b)
+
+    pub arc-right : (to : ℕ) → One to → arcIn cells to ≡ newArc t (dirty t) p (unkeptArcs t (dirty t) p) to
+    arc-right to one = bit-ext 32 (arcIn cells to) (newArc t (dirty t) p (unkeptArcs t (dirty t) p) to) (r .masks .below (low to)) (arc-small t p to) (λ k _. same-test _ _ (arc-bit to k one) (arc-is t p to k))

@@ -1,0 +1,5 @@
+pub mod Parts
+pub mod SlotLaws
+pub mod ListLaws
+pub mod ArcLaws
+pub mod TableLaws

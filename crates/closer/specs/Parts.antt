@@ -1,0 +1,72 @@
+-- The parts of a closed table, as the code computes them from the masks of what is dirty and of where each node leads.
+use Prim.Native.Nat.{ℕ, zero, suc, _+_, _*_, _%_, _<_}
+use mathlib.Core.Path.{_≡_}
+use mathlib.Core.Bool.{Bool, true, false, _&&_}
+use mathlib.Core.List.{List}
+use lib.ListN.{length, getD}
+use lib.Dec.{ltb}
+use Rattle.table.specs.Mask.{pick, bit, maskOf}
+use Rattle.table.specs.Table.{removed, nodeIn, noSlot}
+use Rattle.table.specs.declared.Args.{Args}
+use Rattle.table.specs.declared.Node.{Node}
+use Rattle.table.specs.declared.Node.the-variants.{Absent, Start, Set, Test, Read, Call, Wait, Signal, Send, Recv, Assert, Out, Return}
+use Rattle.table.specs.declared.Slot.{Slot}
+use Rattle.table.specs.declared.Queue.{Queue}
+use Rattle.table.specs.declared.Proc.{Proc}
+use Rattle.masks.specs.Cells.{cell, Filled}
+use Rattle.flow.specs.Flow.{low, flowOf}
+use Rattle.analysis.specs.Steps.{keptIn}
+use Rattle.reach.specs.Reach.{Reaches}
+
+-- the two targets of a node
+abbrev pub endOf : Node → ℕ → ℕ
+endOf x n = flowOf x n 0 0 .first * 32 + flowOf x n 0 0 .second
+
+-- d: the callee's dropped parameters
+abbrev pub argWith : ℕ → ℕ → ℕ → ℕ → ℕ
+argWith d len k v = pick (ltb k len && bit (k % 32) d) removed v
+
+abbrev pub argsWith : ℕ → Args → Args
+argsWith d x = record { len = x .len; a0 = argWith d (x .len) 0 (x .a0); a1 = argWith d (x .len) 1 (x .a1); a2 = argWith d (x .len) 2 (x .a2); a3 = argWith d (x .len) 3 (x .a3) }
+
+-- a kept node in the closed table. i: the variables that are dirty before it; d: the dropped parameters of each procedure; b: the blank
+-- queues; arc: the new arc for an open one
+unfoldable pub nodeWith : ℕ → (ℕ → ℕ) → ℕ → (ℕ → ℕ) → Node → Node
+nodeWith i d b arc Absent = Absent
+nodeWith i d b arc (Start to) = Start (arc to)
+nodeWith i d b arc (Set v o x y to) = Set v o x y (arc to)
+nodeWith i d b arc (Test o x y f s) = Test o x y (arc f) (arc s)
+nodeWith i d b arc (Read v to) = Absent
+nodeWith i d b arc (Call q xs to) = Call q (argsWith (d q) xs) (arc to)
+nodeWith i d b arc (Wait s to) = Wait s (arc to)
+nodeWith i d b arc (Signal s to) = Signal s (arc to)
+nodeWith i d b arc (Send q v to) = Send q (pick (bit (q % 32) b) removed v) (arc to)
+nodeWith i d b arc (Recv q v to) = Recv q (pick (bit (q % 32) b) removed v) (arc to)
+nodeWith i d b arc (Assert v to) = Assert (pick (bit (v % 32) i) removed v) (arc to)
+nodeWith i d b arc (Out v to) = Out (pick (bit (v % 32) i) removed v) (arc to)
+nodeWith i d b arc Return = Return
+
+-- l: the cells
+abbrev pub dropIn : List ℕ → ℕ → ℕ
+dropIn l q = cell l (256 + q % 8)
+
+-- arcs: where each node leads
+abbrev pub arcIn : List ℕ → ℕ → ℕ
+arcIn arcs to = cell arcs (low to)
+
+unfoldable pub slotWith : Proc → ℕ → ℕ → List ℕ → List ℕ → ℕ → Slot
+slotWith q base kept l arcs n = record { node = pick (bit (n % 32) kept) (nodeWith (cell l (base + n)) (dropIn l) (cell l 264) (arcIn arcs) (nodeIn q n)) Absent }
+
+abbrev pub queueWith : ℕ → ℕ → Queue → Queue
+queueWith b i q = record { cap = q .cap; blank = bit (i % 32) b }
+
+-- the closed procedure r of the open one q, from the cells l
+pub record ClosedProc (q : Proc) (p : ℕ) (l : List ℕ) (r : Proc) : Type 0 where
+  pub ends : List ℕ
+  pub ends-are : Filled (λ n. endOf (nodeIn q n) n) 32 ends
+  pub arcs : List ℕ
+  pub reaches : Reaches (maskOf 32 (keptIn q (p * 32) l)) ends arcs
+  pub slots : List Slot
+  pub size : length slots ≡ 32
+  pub slots-are : (n : ℕ) → n < 32 → getD slots n noSlot ≡ slotWith q (p * 32) (maskOf 32 (keptIn q (p * 32) l)) l arcs n
+  pub is : r ≡ record { params = q .params; vars = q .vars; nodes = q .nodes; drop = cell l (256 + p) % 256; slots = slots }

@@ -1,0 +1,297 @@
+// The closed table of an open one.
+use table::Args;
+use table::Node;
+use table::Proc;
+use table::Queue;
+use table::Slot;
+use table::Table;
+ghost use mathlib.Core.Path.{_≡_};
+ghost use mathlib.Core.Bool.{_&&_};
+ghost use Prim.Native.Nat.{ℕ, _<_, _≤_, _%_, _+_, _*_};
+ghost use lib.ListN.{length, getD};
+ghost use lib.Dec.{ltb};
+ghost use Rattle.table.specs.Mask.{pick, bit};
+ghost use Rattle.table.specs.Table.{removed, nodeIn, procAt, noSlot, noQueue, outside};
+ghost use Rattle.masks.specs.Cells.{cell, Filled};
+ghost use Rattle.flow.specs.Flow.{low};
+ghost use Rattle.closing.specs.Close.{closeTable};
+ghost use Rattle.analysis.specs.Ready.{Ready};
+ghost use Rattle.closer.specs.Parts.{endOf, argWith, argsWith, dropIn, arcIn, nodeWith, slotWith, queueWith, ClosedProc};
+
+// The two targets of a node, 32 times the first plus the second.
+fn end_of(x: Node, n: usize) -> u32
+    requires { ⌜ n < 32 ⌝ }
+    ensures { λ r. ⌜ r ≡ endOf x n ⌝ }
+{
+    let f = flow::flow_of(x, n, 0, 0);
+    let first = f.first;
+    let second = f.second;
+    (first * 32 + second) as u32
+}
+
+// The targets of a procedure's nodes.
+fn ends(q: Proc) -> [u32; 32]
+    ensures { λ r. ⌜ (length r ≡ 32) × Filled (λ n. endOf (nodeIn q n) n) 32 r ⌝ }
+{
+    let mut r = [0u32; 32];
+    let mut n: usize = 0;
+    while n < 32 {
+        let s = q.slots[n];
+        let x = s.node;
+        r[n] = end_of(x, n);
+        n += 1;
+    }
+    r
+}
+
+// The variable v, or `-` if k is in m.
+fn unless(m: u32, k: u8, v: u8) -> u8
+    ensures { λ r. ⌜ r ≡ pick (bit (k % 32) m) removed v ⌝ }
+{
+    if flow::has(m, k) { table::REMOVED } else { v }
+}
+
+// The k-th of len arguments, v, or `-` if the parameter is in d.
+fn closed_arg(d: u32, len: u8, k: u8, v: u8) -> u8
+    ensures { λ r. ⌜ r ≡ argWith d len k v ⌝ }
+{
+    if k < len {
+        return unless(d, k, v);
+    }
+    v
+}
+
+// d: the callee's dropped parameters.
+fn closed_args(d: u32, x: Args) -> Args
+    ensures { λ r. ⌜ r ≡ argsWith d x ⌝ }
+{
+    let len = x.len;
+    let a0 = closed_arg(d, len, 0, x.a0);
+    let a1 = closed_arg(d, len, 1, x.a1);
+    let a2 = closed_arg(d, len, 2, x.a2);
+    let a3 = closed_arg(d, len, 3, x.a3);
+    Args {
+        len,
+        a0,
+        a1,
+        a2,
+        a3,
+    }
+}
+
+// The new arc of an open one.
+fn arc(arcs: &[u32; 32], to: u32) -> u32
+    ensures { λ r. ⌜ r ≡ arcIn (now (arcs .entry)) to ⌝ }
+{
+    let k = flow::target(to) % 32;
+    arcs[k]
+}
+
+// What a kept node becomes. i: the variables that are dirty before it.
+fn closed_node(x: Node, i: u32, cells: &[u32; 265], arcs: &[u32; 32]) -> Node
+    ensures { λ r. ⌜ r ≡ nodeWith i (dropIn (now (cells .entry))) (cell (now (cells .entry)) 264) (arcIn (now (arcs .entry))) x ⌝ }
+{
+    let b = cells[264];
+    match x {
+        Node::Absent => Node::Absent,
+        Node::Start { to } => {
+            let t = arc(arcs, to);
+            Node::Start { to: t }
+        }
+        Node::Set {
+            var,
+            op,
+            a,
+            b: c,
+            to,
+        } => {
+            let t = arc(arcs, to);
+            Node::Set {
+                var,
+                op,
+                a,
+                b: c,
+                to: t,
+            }
+        }
+        Node::Test {
+            op,
+            a,
+            b: c,
+            yes,
+            no,
+        } => {
+            let f = arc(arcs, yes);
+            let s = arc(arcs, no);
+            Node::Test {
+                op,
+                a,
+                b: c,
+                yes: f,
+                no: s,
+            }
+        }
+        Node::Read { var: _, to: _ } => Node::Absent,
+        Node::Call { callee, args, to } => {
+            let k = (callee % 8) as usize;
+            let d = cells[256 + k];
+            let xs = closed_args(d, args);
+            let t = arc(arcs, to);
+            Node::Call {
+                callee,
+                args: xs,
+                to: t,
+            }
+        }
+        Node::Wait { sem, to } => {
+            let t = arc(arcs, to);
+            Node::Wait { sem, to: t }
+        }
+        Node::Signal { sem, to } => {
+            let t = arc(arcs, to);
+            Node::Signal { sem, to: t }
+        }
+        Node::Send { queue, var, to } => {
+            let v = unless(b, queue, var);
+            let t = arc(arcs, to);
+            Node::Send {
+                queue,
+                var: v,
+                to: t,
+            }
+        }
+        Node::Recv { queue, var, to } => {
+            let v = unless(b, queue, var);
+            let t = arc(arcs, to);
+            Node::Recv {
+                queue,
+                var: v,
+                to: t,
+            }
+        }
+        Node::Assert { var, to } => {
+            let v = unless(i, var, var);
+            let t = arc(arcs, to);
+            Node::Assert { var: v, to: t }
+        }
+        Node::Out { var, to } => {
+            let v = unless(i, var, var);
+            let t = arc(arcs, to);
+            Node::Out { var: v, to: t }
+        }
+        Node::Return => Node::Return,
+    }
+}
+
+// A node that is not kept leaves its number empty.
+fn closed_slot(x: Node, kept: bool, i: u32, cells: &[u32; 265], arcs: &[u32; 32]) -> Node
+    ensures { λ r. ⌜ r ≡ pick kept (nodeWith i (dropIn (now (cells .entry))) (cell (now (cells .entry)) 264) (arcIn (now (arcs .entry))) x) Node.Absent ⌝ }
+{
+    if kept {
+        return closed_node(x, i, cells, arcs);
+    }
+    Node::Absent
+}
+
+// The nodes of a procedure, closed.
+fn closed_slots(q: Proc, base: usize, kept: u32, cells: &[u32; 265], arcs: &[u32; 32]) -> [Slot; 32]
+    requires { ⌜ base ≤ 224 ⌝ }
+    ensures { λ r. ⌜ (length r ≡ 32) × ((n : ℕ) → n < 32 → getD r n noSlot ≡ slotWith q base kept (now (cells .entry)) (now (arcs .entry)) n) ⌝ }
+{
+    let mut r = [Slot { node: Node::Absent }; 32];
+    let mut n: usize = 0;
+    while n < 32 {
+        let s = q.slots[n];
+        let x = s.node;
+        let i = cells[base + n];
+        let k = flow::has(kept, n as u8);
+        let y = closed_slot(x, k, i, cells, arcs);
+        r[n] = Slot { node: y };
+        n += 1;
+    }
+    r
+}
+
+// One procedure, closed.
+fn closed_proc(q: Proc, p: usize, cells: &[u32; 265]) -> Proc
+    requires { ⌜ p < 8 ⌝ }
+    ensures { λ r. ⌜ ClosedProc q p (now (cells .entry)) r ⌝ }
+{
+    let base = p * 32;
+    let kept = analysis::kept_mask(q, base, cells);
+    let es = ends(q);
+    let arcs = reach::reach(kept, &es);
+    let drop = (cells[256 + p] % 256) as u8;
+    let slots = closed_slots(q, base, kept, cells, &arcs);
+    Proc {
+        params: q.params,
+        vars: q.vars,
+        nodes: q.nodes,
+        drop,
+        slots,
+    }
+}
+
+fn closed_procs(t: Table, cells: &[u32; 265]) -> [Proc; 8]
+    ensures { λ r. ⌜ (length r ≡ 8) × ((p : ℕ) → p < 8 → ClosedProc (procAt t p) p (now (cells .entry)) (getD r p outside)) ⌝ }
+{
+    let none = Proc {
+        params: 0,
+        vars: 0,
+        nodes: 0,
+        drop: 0,
+        slots: [Slot { node: Node::Absent }; 32],
+    };
+    let mut r = [none; 8];
+    let mut p: usize = 0;
+    while p < 8 {
+        let q = t.proc[p];
+        let c = closed_proc(q, p, cells);
+        r[p] = c;
+        p += 1;
+    }
+    r
+}
+
+// b: the blank queues.
+fn closed_queues(t: Table, b: u32) -> [Queue; 8]
+    ensures { λ r. ⌜ (length r ≡ 8) × ((i : ℕ) → i < 8 → getD r i noQueue ≡ queueWith b i (getD (t .queue) i noQueue)) ⌝ }
+{
+    let mut r = [Queue {
+        cap: 0,
+        blank: false,
+    }; 8];
+    let mut i: usize = 0;
+    while i < 8 {
+        let q = t.queue[i];
+        let blank = flow::has(b, i as u8);
+        r[i] = Queue { cap: q.cap, blank };
+        i += 1;
+    }
+    r
+}
+
+// The closed table of an open one.
+pub fn closed_table(t: Table) -> Table
+    requires { ⌜ Ready t ⌝ }
+    ensures { λ r. ⌜ r ≡ closeTable t ⌝ }
+{
+    let cells = analysis::dirty_cells(t);
+    let proc = closed_procs(t, &cells);
+    let b = cells[264];
+    let queue = closed_queues(t, b);
+    let task = t.task;
+    let sem = t.sem;
+    Table {
+        trap: t.trap,
+        closed: true,
+        tasks: t.tasks,
+        procs: t.procs,
+        sems: t.sems,
+        queues: t.queues,
+        task,
+        sem,
+        queue,
+        proc,
+    }
+}

@@ -1,0 +1,39 @@
+-- The kept nodes that a node leads to through nodes that are not kept, by the two targets of each node.
+use Prim.Native.Nat.{ℕ, _/_, _%_, _^_, _<_}
+use mathlib.Core.Path.{_≡_}
+use mathlib.Core.Bool.{Bool, true, false}
+use mathlib.Core.Logic.{_⊎_, _↔_}
+use mathlib.Core.List.{List}
+use lib.ListN.{getD}
+use lib.Bits.{bitOr, bitAnd}
+use Rattle.table.specs.Mask.{pick, bit}
+use Rattle.masks.specs.Cells.{cell, grown, Masks}
+
+-- the two targets of node i
+abbrev pub firstOf : List ℕ → ℕ → ℕ
+firstOf ends i = getD ends i 0 / 32 % 32
+
+abbrev pub secondOf : List ℕ → ℕ → ℕ
+secondOf ends i = getD ends i 0 % 32
+
+abbrev pub IsEnd : List ℕ → ℕ → ℕ → Type 0
+IsEnd ends n m = (m ≡ firstOf ends n) ⊎ (m ≡ secondOf ends n)
+
+pub data Leads (kept : ℕ) (ends : List ℕ) : ℕ → ℕ → Type 0 where
+  here : {n : ℕ} → bit n kept ≡ true → Leads kept ends n n
+  via : {n k : ℕ} (m : ℕ) → bit n kept ≡ false → IsEnd ends n m → Leads kept ends m k → Leads kept ends n k
+
+-- 32 masks that say where each node leads
+pub record Reaches (kept : ℕ) (ends r : List ℕ) : Type 0 where
+  pub masks : Masks 32 32 r
+  pub right : (n k : ℕ) → n < 32 → (bit k (cell r n) ≡ true) ↔ Leads kept ends n k
+
+-- ---- as the code computes it
+
+-- 32 masks: that of a kept node has the node, the others are empty
+pub record Own (kept : ℕ) (l : List ℕ) : Type 0 where
+  pub masks : Masks 32 32 l
+  pub own : (i : ℕ) → i < 32 → cell l i ≡ bitAnd kept (2 ^ i)
+
+unfoldable pub stepOf : ℕ → List ℕ → List ℕ → ℕ → List ℕ
+stepOf kept ends l i = pick (bit i kept) l (grown l i (bitOr (cell l (firstOf ends i)) (cell l (secondOf ends i))))
