@@ -143,11 +143,11 @@ target-is m (negsuc i) f = List·getD-eq-default (members m) 32 (omega (arith, f
 module _ (arc keep : ℕ) (vs : List ℤ) (used : ℕ) (w : used ≤ length vs) where
   pub nowhere-arrived : arc ≡ 0 → Arrived arc keep vs used (record { over = true; stop = 0; lost = true; node = 0; used = used })
   unfolding choose membersFrom bit
-  nowhere-arrived e = record { choice = rw e refl; over = refl; named = refl; within = w; place = omega arith }
+  nowhere-arrived e = record { choice = rw e refl; sound = record { over = refl; named = refl; within = w; place = omega arith; gone = refl } }
 
   pub one-arrived : (j : ℕ) → members arc ≡ j ∷ [] → j < 32 → Arrived arc keep vs used (meeting keep j used)
   unfolding choose
-  one-arrived j e l = record { choice = ap (λ (ms : List ℕ). chooseFrom ms (drop used vs)) e; over = refl; named = refl; within = w; place = l }
+  one-arrived j e l = record { choice = ap (λ (ms : List ℕ). chooseFrom ms (drop used vs)) e; sound = record { over = refl; named = refl; within = w; place = l; gone = refl } }
 
   abbrev here : ℤ
   here = getD vs used (pos 0)
@@ -178,15 +178,15 @@ module _ (arc keep : ℕ) (vs : List ℤ) (used : ℕ) (w : used ≤ length vs) 
 
     by-target : used < length vs → (t : Bool) → eqb (targetAt (members arc) here) 32 ≡ t → Tossing (pick t (halting 16 used) (meeting keep (targetAt (members arc) here) (used + 1)))
     unfolding stopNumber
-    by-target h true e = record { choice = next-is h ∙ tossed-bad (a ∷ b ∷ l) here two (eqb-true (targetAt (members arc) here) 32 e); over = refl; named = refl; within = w; place = omega arith }
+    by-target h true e = record { choice = next-is h ∙ tossed-bad (a ∷ b ∷ l) here two (eqb-true (targetAt (members arc) here) 32 e); sound = record { over = refl; named = refl; within = w; place = omega arith; gone = refl } }
     by-target h false e =
         let n = eqb-false (targetAt (members arc) here) 32 e in
         let s : suc used ≡ used + 1 = omega arith in
-        record { choice = next-is h ∙ tossed-by (a ∷ b ∷ l) here two n ∙ ap (λ (u : ℕ). node (targetAt (members arc) here) (drop u vs)) s; over = refl; named = refl; within = omega arith; place = target-lt here n }
+        record { choice = next-is h ∙ tossed-by (a ∷ b ∷ l) here two n ∙ ap (λ (u : ℕ). node (targetAt (members arc) here) (drop u vs)) s; sound = record { over = refl; named = refl; within = omega arith; place = target-lt here n; gone = refl } }
 
     by-room : (t : Bool) → leb (length vs) used ≡ t → Tossing (pick t (halting 15 used) (pick (eqb (targetAt (members arc) here) 32) (halting 16 used) (meeting keep (targetAt (members arc) here) (used + 1))))
     unfolding stopNumber
-    by-room true e = record { choice = spent-is (leb-true (length vs) used e); over = refl; named = refl; within = w; place = omega arith }
+    by-room true e = record { choice = spent-is (leb-true (length vs) used e); sound = record { over = refl; named = refl; within = w; place = omega arith; gone = refl } }
     by-room false e = by-target (leb-false (length vs) used e) (eqb (targetAt (members arc) here) 32) refl
 
     pub toss-arrived : Tossing (tossed arc keep vs used)

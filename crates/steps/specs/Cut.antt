@@ -55,12 +55,17 @@ tossed arc keep vs used =
     pick (leb (length vs) used) (halting 15 used)
     (let j = targetAt (members arc) (getD vs used (pos 0)) in pick (eqb j 32) (halting 16 used) (meeting keep j (used + 1)))
 
-pub record Arrived (arc keep : ℕ) (vs : List ℤ) (used : ℕ) (r : Chosen) : Type 0 where
-  pub choice : choose arc (drop used vs) ≡ choiceOf vs r
+-- what holds of every answer: a lost task stands before node 0
+pub record Sound (keep : ℕ) (vs : List ℤ) (r : Chosen) : Type 0 where
   pub over : r .over ≡ overIn keep r
   pub named : Named (r .stop)
   pub within : r .used ≤ length vs
   pub place : r .node < 32
+  pub gone : pick (r .lost) (r .node) 0 ≡ 0
+
+pub record Arrived (arc keep : ℕ) (vs : List ℤ) (used : ℕ) (r : Chosen) : Type 0 where
+  pub choice : choose arc (drop used vs) ≡ choiceOf vs r
+  pub sound : Sound keep vs r
 
 -- ---- a node executed: the variable set and its value, the values used, the arc, the semaphore's count after it
 

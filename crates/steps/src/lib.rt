@@ -112,7 +112,8 @@ fn meets(j: u8, keep: u32, used: usize) -> Chosen
     }
 }
 
-fn halted(stop: u8, used: usize) -> Chosen
+// The walk ends with a stop.
+pub fn halted(stop: u8, used: usize) -> Chosen
     ensures { λ r. ⌜ r ≡ halting stop used ⌝ }
 {
     Chosen {
