@@ -183,14 +183,15 @@ module _ (t : Table) {keep : List ℕ} (r : Ready t keep) where
   sizes = (refl, refl)
 
   pub start-good : Good t (firstState t)
-  start-good = record
-    { depths = sizes .0
-    ; frames = sizes .1
-    ; opened = λ i h. omega (arith, first-depth i h)
-    ; bounded = λ i h. omega (arith, first-depth i h)
-    ; procs = λ j. all-or (λ (f : Frame). f .proc < 8) (firstState t .frames) _ (omega arith) (frames-good (λ (f : Frame). f .proc < 8) (λ f g. g .proc)) j
-    ; nodes = λ j. all-or (λ (f : Frame). f .node < 32) (firstState t .frames) _ (omega arith) (frames-good (λ (f : Frame). f .node < 32) (λ f g. g .node)) j
-    ; vars = λ j h. all-at (λ (f : Frame). length (f .vars) ≡ 16) (firstState t .frames) _ (frames-good (λ (f : Frame). length (f .vars) ≡ 16) (λ f g. g .vars)) j (omega (arith, sizes .1)) }
+  start-good = record {
+    depths = sizes .0;
+    frames = sizes .1;
+    opened = λ i h. omega (arith, first-depth i h);
+    bounded = λ i h. omega (arith, first-depth i h);
+    procs = λ j. all-or (λ (f : Frame). f .proc < 8) (firstState t .frames) _ (omega arith) (frames-good (λ (f : Frame). f .proc < 8) (λ f g. g .proc)) j;
+    nodes = λ j. all-or (λ (f : Frame). f .node < 32) (firstState t .frames) _ (omega arith) (frames-good (λ (f : Frame). f .node < 32) (λ f g. g .node)) j;
+    vars = λ j h. all-at (λ (f : Frame). length (f .vars) ≡ 16) (firstState t .frames) _ (frames-good (λ (f : Frame). length (f .vars) ≡ 16) (λ f g. g .vars)) j (omega (arith, sizes .1));
+  }
 
   -- ---- the inputs of one more task
 

@@ -11,7 +11,7 @@ use Rattle.table.specs.declared.Slot.{Slot}
 use Rattle.table.specs.declared.Table.{Table}
 use Rattle.machine.specs.declared.Frame.{Frame}
 use Rattle.machine.specs.declared.State.{State}
-use Rattle.machine.specs.State.{Begun, begun}
+use Rattle.machine.specs.State.{Begun, begun, firstState}
 use Rattle.machine.specs.State as First
 use Rattle.starts.specs.declared.Started.{Started}
 
@@ -38,6 +38,8 @@ pub record Begins (t : Table) (vs : List ℤ) (b : Begun) (r : Started) : Type 0
   pub is : b ≡ begunOf vs r
   pub within : r .used ≤ length vs
   pub good : Good t (r .state)
+  -- where the values are spent, all locals are 0
+  pub still : pick (r .spent) (r .state) (firstState t) ≡ firstState t
 
 -- a first frame with its inputs
 abbrev pub inputFrame : ℕ → List ℤ → Frame

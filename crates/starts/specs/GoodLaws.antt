@@ -23,21 +23,23 @@ pub record FrameGood (f : Frame) : Type 0 where
 
 -- frames, and then depths, replaced; what else a state has is free
 pub good-frame : {t : Table} {s : State} (s′ : State) (j : ℕ) (f : Frame) → Good t s → FrameGood f → s′ .depth ≡ s .depth → s′ .frames ≡ set (s .frames) j f → Good t s′
-good-frame {t} {s} s′ j f g h e d = record
-  { depths = rw e (g .depths)
-  ; frames = rw d (length-set (s .frames) j f ∙ g .frames)
-  ; opened = λ i l. rw e (g .opened i l)
-  ; bounded = λ i l. rw e (g .bounded i l)
-  ; procs = λ i. rw d (either (λ (x : Frame). x .proc < 8) (s .frames) j i f _ (h .proc) (g .procs i))
-  ; nodes = λ i. rw d (either (λ (x : Frame). x .node < 32) (s .frames) j i f _ (h .node) (g .nodes i))
-  ; vars = λ i l. rw d (either (λ (x : Frame). length (x .vars) ≡ 16) (s .frames) j i f _ (h .vars) (g .vars i l)) }
+good-frame {t} {s} s′ j f g h e d = record {
+  depths = rw e (g .depths);
+  frames = rw d (length-set (s .frames) j f ∙ g .frames);
+  opened = λ i l. rw e (g .opened i l);
+  bounded = λ i l. rw e (g .bounded i l);
+  procs = λ i. rw d (either (λ (x : Frame). x .proc < 8) (s .frames) j i f _ (h .proc) (g .procs i));
+  nodes = λ i. rw d (either (λ (x : Frame). x .node < 32) (s .frames) j i f _ (h .node) (g .nodes i));
+  vars = λ i l. rw d (either (λ (x : Frame). length (x .vars) ≡ 16) (s .frames) j i f _ (h .vars) (g .vars i l));
+}
 
 pub good-depth : {t : Table} {s : State} (s′ : State) (k n : ℕ) → Good t s → 0 < n → n ≤ 8 → s′ .depth ≡ set (s .depth) k n → s′ .frames ≡ s .frames → Good t s′
-good-depth {t} {s} s′ k n g lo hi e d = record
-  { depths = rw e (length-set (s .depth) k n ∙ g .depths)
-  ; frames = rw d (g .frames)
-  ; opened = λ i l. rw e (either (λ (x : ℕ). 0 < x) (s .depth) k i n 0 lo (g .opened i l))
-  ; bounded = λ i l. rw e (either (λ (x : ℕ). x ≤ 8) (s .depth) k i n 0 hi (g .bounded i l))
-  ; procs = λ i. rw d (g .procs i)
-  ; nodes = λ i. rw d (g .nodes i)
-  ; vars = λ i l. rw d (g .vars i l) }
+good-depth {t} {s} s′ k n g lo hi e d = record {
+  depths = rw e (length-set (s .depth) k n ∙ g .depths);
+  frames = rw d (g .frames);
+  opened = λ i l. rw e (either (λ (x : ℕ). 0 < x) (s .depth) k i n 0 lo (g .opened i l));
+  bounded = λ i l. rw e (either (λ (x : ℕ). x ≤ 8) (s .depth) k i n 0 hi (g .bounded i l));
+  procs = λ i. rw d (g .procs i);
+  nodes = λ i. rw d (g .nodes i);
+  vars = λ i l. rw d (g .vars i l);
+}

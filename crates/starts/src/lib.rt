@@ -8,8 +8,13 @@ ghost use Rattle.table.specs.Mask.{pick};
 ghost use Rattle.machine.specs.State.{noFrame, noVars, firstState, begin};
 ghost use Rattle.starts.specs.Ready.{Ready};
 ghost use Rattle.starts.specs.Begins.{Row, Good, Begins, inputFrame};
-use machine::{Entries, Frame, Running, State};
-use table::{Node, Slot, Table};
+use machine::Entries;
+use machine::Frame;
+use machine::Running;
+use machine::State;
+use table::Node;
+use table::Slot;
+use table::Table;
 
 // The first state with its inputs and the values used; or the value list is spent.
 pub struct Started {
@@ -75,10 +80,24 @@ pub fn first_state(t: Table) -> State
         items: [0, 0, 0, 0, 0, 0, 0, 0],
     };
     State {
-        depth: [first_depth(0 < n), first_depth(1 < n), first_depth(2 < n), first_depth(3 < n)],
+        depth: [
+            first_depth(0 < n),
+            first_depth(1 < n),
+            first_depth(2 < n),
+            first_depth(3 < n),
+        ],
         lost: [false, false, false, false],
         frames,
-        sems: [m[0].count, m[1].count, m[2].count, m[3].count, m[4].count, m[5].count, m[6].count, m[7].count],
+        sems: [
+            m[0].count,
+            m[1].count,
+            m[2].count,
+            m[3].count,
+            m[4].count,
+            m[5].count,
+            m[6].count,
+            m[7].count,
+        ],
         queues: [empty; 8],
     }
 }

@@ -56,7 +56,7 @@ cast-if1 c = search needs
 
 returns : tie.Need-returns Inv-loop μ-loop
 unfolding begin
-returns c = record { is = ap (λ (x : State). takeInputs ((c .before .before .before .before .before .before .before .before .args) .t1) ((c .before .before .before .before .before .before .before .before .args) .t1 .tasks) 0 x ((c .before .before .before .before .before .before .before .before .args) .values .now)) (sym ((c .before .before .before .before .before .before .before .first-state) .ensures)) ∙ (c .before .before .before .before .before .before .loop) .inv .1 .1 .1 .0 ∙ inputs-spent ((c .before .before .before .before .before .before .before .before .args) .t1) (c .before .before .before .before .before .before .before .before .pre) ((c .before .before .before .before .before .before .before .before .args) .values .now) ((c .before .before .before .before .before .before .loop) .i) ((c .before .before .before .before .before .before .loop) .s) ((c .before .before .before .before .before .before .loop) .used) (omega arith) (omega (arith, (c .before .inputs) .ensures, (c .if1) .taken)); within = omega arith; good = rw ((c .before .before .before .before .before .before .before .first-state) .ensures) (start-good ((c .before .before .before .before .before .before .before .before .args) .t1) (c .before .before .before .before .before .before .before .before .pre)) }
+returns c = record { is = ap (λ (x : State). takeInputs ((c .before .before .before .before .before .before .before .before .args) .t1) ((c .before .before .before .before .before .before .before .before .args) .t1 .tasks) 0 x ((c .before .before .before .before .before .before .before .before .args) .values .now)) (sym ((c .before .before .before .before .before .before .before .first-state) .ensures)) ∙ (c .before .before .before .before .before .before .loop) .inv .1 .1 .1 .0 ∙ inputs-spent ((c .before .before .before .before .before .before .before .before .args) .t1) (c .before .before .before .before .before .before .before .before .pre) ((c .before .before .before .before .before .before .before .before .args) .values .now) ((c .before .before .before .before .before .before .loop) .i) ((c .before .before .before .before .before .before .loop) .s) ((c .before .before .before .before .before .before .loop) .used) (omega arith) (omega (arith, (c .before .inputs) .ensures, (c .if1) .taken)); within = omega arith; good = rw ((c .before .before .before .before .before .before .before .first-state) .ensures) (start-good ((c .before .before .before .before .before .before .before .before .args) .t1) (c .before .before .before .before .before .before .before .before .pre)); still = (c .before .before .before .before .before .before .before .first-state) .ensures }
 
 input-frame-requires : tie.Need-input-frame-requires Inv-loop μ-loop
 input-frame-requires c κs = (omega (arith, (c .before .inputs) .ensures, wants-few ((c .before .before .before .before .before .before .before .before .args) .t1) (c .before .before .before .before .before .before .before .before .pre) ((c .before .before .before .before .before .before .before .before .args) .values .now) ((c .before .before .before .before .before .before .loop) .i) ((c .before .before .before .before .before .before .loop) .s) ((c .before .before .before .before .before .before .loop) .used) (omega (arith, (c .before .before .before .before .before .loop-test) .taken, (c .before .before .before .before .before .before .loop) .inv .0))), omega (arith, (c .if1) .left, (c .before .before .before .before .before .before .loop) .inv .1 .1 .0))
@@ -87,7 +87,7 @@ loop-again c = (refl, (omega arith, (omega (arith, (c .before .if1) .left, (c .b
 
 returns-2 : tie.Need-returns-2 Inv-loop μ-loop
 unfolding begin
-returns-2 c = record { is = ap (λ (x : State). takeInputs ((c .before .before .before .args) .t1) ((c .before .before .before .args) .t1 .tasks) 0 x ((c .before .before .before .args) .values .now)) (sym ((c .before .before .first-state) .ensures)) ∙ (c .before .loop) .inv .1 .1 .1 .0 ∙ inputs-done ((c .before .before .before .args) .t1) (drop ((c .before .loop) .used) ((c .before .before .before .args) .values .now)) ((c .before .loop) .i) ((c .before .loop) .s) (omega arith); within = (c .before .loop) .inv .1 .1 .0; good = (c .before .loop) .inv .1 .1 .1 .1 }
+returns-2 c = record { is = ap (λ (x : State). takeInputs ((c .before .before .before .args) .t1) ((c .before .before .before .args) .t1 .tasks) 0 x ((c .before .before .before .args) .values .now)) (sym ((c .before .before .first-state) .ensures)) ∙ (c .before .loop) .inv .1 .1 .1 .0 ∙ inputs-done ((c .before .before .before .args) .t1) (drop ((c .before .loop) .used) ((c .before .before .before .args) .values .now)) ((c .before .loop) .i) ((c .before .loop) .s) (omega arith); within = (c .before .loop) .inv .1 .1 .0; good = (c .before .loop) .inv .1 .1 .1 .1; still = refl }
 
 pub start-spec : {M : Type 1} → statement M
 start-spec =
