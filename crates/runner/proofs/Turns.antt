@@ -1,0 +1,361 @@
+-- One turn of the runner's loop, in the code's own places and numbers.
+use mathlib.Core.Path.{_≡_, refl, sym, _∙_, ap, subst}
+use mathlib.Core.Bool.{Bool, true, false}
+use mathlib.Core.List.{List, [], _∷_}
+use mathlib.Core.Option.{Option, none, some}
+use Prim.Native.Nat.{ℕ, zero, suc, _+_, _-_, _*_, _<_, _≤_}
+use native.Mathlib.Omega.{arith}
+use native.Mathlib.Numerals.{add-one}
+use lib.ListN.{length, getD, set, take, drop}
+use lib.Seq.{sets}
+use lib.Dec.{eqb}
+use lib.IntN.{ℤ, pos}
+use borrow.Author.Tests.{leb-false, eq-eqb, ne-eqb}
+use types.Run.{OneOf, miss}
+use denote.Enum.Declared.{tagOf}
+use Rattle.table.proofs.Node.{the-type}
+use Rattle.table.specs.Mask.{pick}
+use Rattle.table.specs.Table.{noSlot, queueAt, nodeAt, arcTo}
+use Rattle.table.specs.declared.Args.{Args}
+use Rattle.table.specs.declared.Node.{Node}
+use Rattle.table.specs.declared.Node.the-variants.{Absent, Start, Set, Test, Read, Call, Wait, Signal, Send, Recv, Assert, Out, Return}
+use Rattle.table.specs.declared.Slot.{Slot}
+use Rattle.table.specs.declared.Table.{Table}
+use Rattle.text.specs.Reader.{concat}
+use Rattle.machine.specs.declared.Frame.{Frame}
+use Rattle.machine.specs.declared.Entries.{Entries}
+use Rattle.machine.specs.declared.State.{State}
+use Rattle.machine.specs.State.{noFrame, openFrames, isLost, place, frameAt, topmost, semCount, entriesAt, standsBefore, withFrames, blockedAt, blocked}
+use Rattle.machine.specs.Step.{noTask, logFull, taskLost, taskBlocked, stopNumber, Memory, assign, oldest, shown, Choice, choose, Did, keptIn, Walk, along, onward, walk, Step, stopped, settled, called, entering, memory, entryOf, landed}
+use Rattle.machine.specs.Run.{word, flagged, entryBytes, Ran, runFrom}
+use Rattle.steps.specs.Cut.{stopOf, Named, choiceOf, Sound, Arrived, halting, actOf, sidesOf, queueAfter, stuckOf, shownOf}
+use Rattle.steps.specs.declared.Acted.{Acted}
+use Rattle.steps.specs.declared.Chosen.{Chosen}
+use Rattle.steps.specs.declared.Shown.{Shown}
+use Rattle.steps.specs.declared.Sides.{Sides}
+use Rattle.starts.specs.Ready.{Placed, Ready}
+use Rattle.starts.specs.Begins.{Row, frameIn, Good}
+use Rattle.starts.specs.GoodLaws.{FrameGood, good-frame, good-depth}
+use Rattle.runner.proofs.Walks.{Met, halted, arrived, met, metOf, withVars, walking, walk-over, walk-spent, walk-halts, act-named, named-stop}
+use Rattle.runner.proofs.Runs.{stuck-is, doing, storedIn, didIn, doing-is, closes, opens, step-calls, goesOn, step-goes, storedAs, landed-is, flagged-is, runs, stopsAt, at-end, after, runs-turn, turn-none, turn-full, turn-lost, turn-blocked, turn-goes, after-halted, after-arrived}
+
+-- ---- the small numbers that go with a node
+
+pub back-few : (x : Node) → sidesOf x .back ≤ 1
+unfolding sidesOf
+back-few Absent = omega arith
+back-few (Start to) = omega arith
+back-few (Set v o a b to) = omega arith
+back-few (Test o a b y n) = omega arith
+back-few (Read v to) = omega arith
+back-few (Call q xs to) = omega arith
+back-few (Wait i to) = omega arith
+back-few (Signal i to) = omega arith
+back-few (Send q v to) = omega arith
+back-few (Recv q v to) = omega arith
+back-few (Assert v to) = omega arith
+back-few (Out v to) = omega arith
+back-few Return = omega arith
+
+pub back-below : (x : Node) (d c len cap : ℕ) → stuckOf x d c len cap ≡ false → sidesOf x .back ≤ d - 1
+unfolding sidesOf stuckOf
+back-below Absent d c len cap f = omega arith
+back-below (Start to) d c len cap f = omega arith
+back-below (Set v o a b to) d c len cap f = omega arith
+back-below (Test o a b y n) d c len cap f = omega arith
+back-below (Read v to) d c len cap f = omega arith
+back-below (Call q xs to) d c len cap f = omega arith
+back-below (Wait i to) d c len cap f = omega arith
+back-below (Signal i to) d c len cap f = omega arith
+back-below (Send q v to) d c len cap f = omega arith
+back-below (Recv q v to) d c len cap f = omega arith
+back-below (Assert v to) d c len cap f = omega arith
+back-below (Out v to) d c len cap f = omega arith
+back-below Return d c len cap f = omega (arith, leb-false d 1 f)
+
+pub sem-below : (x : Node) → Placed x → sidesOf x .sem < 8
+unfolding sidesOf
+sem-below Absent h = omega arith
+sem-below (Start to) h = omega arith
+sem-below (Set v o a b to) h = omega arith
+sem-below (Test o a b y n) h = omega arith
+sem-below (Read v to) h = omega arith
+sem-below (Call q xs to) h = omega arith
+sem-below (Wait i to) h = h
+sem-below (Signal i to) h = h
+sem-below (Send q v to) h = omega arith
+sem-below (Recv q v to) h = omega arith
+sem-below (Assert v to) h = omega arith
+sem-below (Out v to) h = omega arith
+sem-below Return h = omega arith
+
+pub queue-below : (x : Node) → Placed x → sidesOf x .queue < 8
+unfolding sidesOf
+queue-below Absent h = omega arith
+queue-below (Start to) h = omega arith
+queue-below (Set v o a b to) h = omega arith
+queue-below (Test o a b y n) h = omega arith
+queue-below (Read v to) h = omega arith
+queue-below (Call q xs to) h = omega arith
+queue-below (Wait i to) h = omega arith
+queue-below (Signal i to) h = omega arith
+queue-below (Send q v to) h = h
+queue-below (Recv q v to) h = h
+queue-below (Assert v to) h = omega arith
+queue-below (Out v to) h = omega arith
+queue-below Return h = omega arith
+
+pub call-below : (q : ℕ) (xs : Args) (to d c len cap : ℕ) → stuckOf (Call q xs to) d c len cap ≡ false → d < 8
+unfolding stuckOf
+call-below q xs to d c len cap f = leb-false 8 d f
+
+module _ (t : Table) (keep : List ℕ) (ready : Ready t keep) (most : ℕ) (vs : List ℤ) where
+  -- ---- where the walk over dropped nodes ends
+
+  pub record Ends (p d : ℕ) (l : List ℤ) (w z : Chosen) : Type 0 where
+    pub is : (mm : Memory) → met (walking t vs p d (withVars mm l) w) ≡ metOf vs (withVars mm l) z
+    pub within : z .used ≤ length vs
+    pub place : z .node < 32
+    pub gone : pick (z .lost) (z .node) 0 ≡ 0
+
+  module _ (p d : ℕ) (inside : p < 8) (l : List ℤ) (long : length l ≡ 16) (w : Chosen) (sound : Sound (getD keep p 0) vs w) where
+    pub ends-over : (z : Chosen) → w .over ≡ true → z ≡ w → Ends p d l w z
+    ends-over z o e = rw e (record { is = λ mm. walk-over t keep ready vs p inside d (withVars mm l) w sound o; within = sound .within; place = sound .place; gone = sound .gone })
+
+    ends-at : (c : ℕ) → ((mm : Memory) → met (walking t vs p d (withVars mm l) w) ≡ metOf vs (withVars mm l) (halting c (w .used))) → Ends p d l w (halting c (w .used))
+    ends-at c h = record { is = h; within = sound .within; place = omega arith; gone = refl }
+
+    pub ends-spent : (z r : Chosen) → w .over ≡ false → d ≡ 0 → r ≡ halting 14 (w .used) → z ≡ r → Ends p d l w z
+    ends-spent z r o e h i = rw (i, h) (ends-at 14 (λ mm. walk-spent t keep ready vs p inside d (withVars mm l) w sound o e))
+
+    pub ends-halts : (z r : Chosen) (a : Acted) → w .over ≡ false → (d ≡ 0 → ⊥) → a ≡ actOf (nodeAt t p (w .node)) 0 l 0 (pos 0) vs (w .used) → (a .stop ≡ 0 → ⊥) → r ≡ halting (a .stop) (w .used) → z ≡ r → Ends p d l w z
+    ends-halts z r a o e k n h i = rw (i, h) (ends-at (a .stop) (λ mm. walk-halts t keep ready vs p inside d (withVars mm l) w a sound o e long k n))
+
+  -- ---- a turn, by the first task number
+
+  module _ (ks : List ℕ) (n : ℕ) (s : State) (used : ℕ) (log : List ℕ) where
+    abbrev pub k : ℕ
+    k = getD ks 0 0
+
+    abbrev rest : List ℕ
+    rest = take (length ks - 1) (drop 1 ks)
+
+    abbrev pub going : Ran
+    going = runs t most vs n s used log ks
+
+    abbrev pub ending : ℕ → Ran
+    ending c = stopsAt t most vs n s used log c
+
+    pub stop-none : (length ks ≡ 0 → ⊥) → t .tasks ≤ k → going ≡ ending 10
+    unfolding stopNumber
+    stop-none h l = runs-turn t most vs n s used log ks (stopped noTask) h (turn-none t most vs n s used log k l)
+
+    pub stop-full : (length ks ≡ 0 → ⊥) → k < t .tasks → length log - 8 * n < 8 → going ≡ ending 11
+    unfolding stopNumber
+    stop-full h l r = runs-turn t most vs n s used log ks (stopped logFull) h (turn-full t most vs n s used log k l (omega arith))
+
+    pub stop-lost : (length ks ≡ 0 → ⊥) → k < t .tasks → 8 ≤ length log - 8 * n → isLost s k ≡ true → going ≡ ending 12
+    unfolding stopNumber
+    stop-lost h l r e = runs-turn t most vs n s used log ks (stopped taskLost) h (turn-lost t most vs n s used log k l (omega arith) e)
+
+    -- where the task stands: its frame is at place f, its node is x, beside it v
+    pub record Standing (f : ℕ) (x : Node) (v : Sides) : Type 0 where
+      pub some : length ks ≡ 0 → ⊥
+      pub task : k < t .tasks
+      pub room : 8 ≤ length log - 8 * n
+      pub here : isLost s k ≡ false
+      pub good : Good t s
+      pub at : f ≡ 8 * k + (openFrames s k - 1)
+      pub node : x ≡ standsBefore t s k
+      pub sides : v ≡ sidesOf x
+
+    pub node-is : (row : List Slot) (f a : ℕ) → Row t row → Good t s → f ≡ 8 * k + (openFrames s k - 1) → a ≡ 32 * frameIn (s .frames) f .proc + frameIn (s .frames) f .node
+        → getD row a noSlot .node ≡ standsBefore t s k
+    node-is row f a r g e h =
+        ap (λ (i : ℕ). getD row i noSlot .node) h ∙ r .nodes _ _ (g .procs f) (g .nodes f) ∙
+        ap (λ (i : ℕ). nodeAt t (frameIn (s .frames) i .proc) (frameIn (s .frames) i .node)) e
+
+    module _ (f : ℕ) (x : Node) (v : Sides) (st : Standing f x v) where
+      abbrev pub d : ℕ
+      d = openFrames s k
+
+      abbrev pub blocks : Bool
+      blocks = stuckOf x d (getD (s .sems) (v .sem) 0) (entriesAt (s .queues) (v .queue) .len) (queueAt t (v .queue) .cap)
+
+      blocks-is : blocked t s k ≡ blocks
+      blocks-is =
+          ap (blockedAt t s k) (sym (st .node)) ∙ stuck-is t s k x ∙
+          ap (λ (v : Sides). stuckOf x d (getD (s .sems) (v .sem) 0) (entriesAt (s .queues) (v .queue) .len) (queueAt t (v .queue) .cap)) (sym (st .sides))
+
+      pub stop-blocked : blocks ≡ true → going ≡ ending 13
+      unfolding stopNumber
+      stop-blocked b = runs-turn t most vs n s used log ks (stopped taskBlocked) (st .some) (turn-blocked t most vs n s used log k (st .task) (let h = st .room in omega arith) (st .here) (blocks-is ∙ b))
+
+      pub placed : Placed x
+      placed = rw (st .node) (ready .nodes _ _ (st .good .procs _) (st .good .nodes _))
+
+      abbrev top : Frame
+      top = frameIn (s .frames) f
+
+      top-is : top ≡ topmost s k
+      top-is = ap (λ (i : ℕ). frameIn (s .frames) i) (st .at)
+
+      entry-is : (e : Shown) → e ≡ shownOf (shown (top .vars) x) → k ∷ top .proc ∷ top .node ∷ e .flag ∷ word (e .bits) ≡ entryBytes (entryOf k (topmost s k) x)
+      entry-is e h =
+          ap (λ (e : Shown). k ∷ top .proc ∷ top .node ∷ e .flag ∷ word (e .bits)) h ∙
+          ap (λ (l : List ℕ). k ∷ top .proc ∷ top .node ∷ l) (sym (flagged-is (shown (top .vars) x))) ∙
+          ap (λ (g : Frame). k ∷ g .proc ∷ g .node ∷ flagged (shown (g .vars) x)) top-is
+
+      module _ (free : blocks ≡ false) (log′ : List ℕ) (e : Shown) (shows : e ≡ shownOf (shown (top .vars) x)) (puts : log′ ≡ sets log (8 * n) (k ∷ top .proc ∷ top .node ∷ e .flag ∷ word (e .bits))) where
+        abbrev room′ : 8 * n + 8 ≤ length log
+        room′ = let h = st .room in omega arith
+
+        log-is : log′ ≡ sets log (8 * n) (entryBytes (entryOf k (topmost s k) x))
+        log-is = puts ∙ ap (λ (l : List ℕ). sets log (8 * n) l) (entry-is e shows)
+
+        abbrev next : State → ℕ → Ran
+        next s′ u = runFrom t (keptIn t) most vs rest (n + 1) s′ (drop u vs) log′
+
+        -- a call
+        module _ (q : ℕ) (xs : Args) (to : ℕ) (calls : x ≡ Call q xs to) (fr : Frame) (enters : fr ≡ entering (top .vars) q xs) where
+          abbrev pub opened : State
+          opened = record { depth = set (s .depth) k (d + 1); lost = s .lost; frames = set (s .frames) (f + 1) fr; sems = s .sems; queues = s .queues }
+
+          opened-is : next opened used ≡ runFrom t (keptIn t) most vs rest (suc n) (called s k (entering (topmost s k .vars) q xs)) (drop used vs) (sets log (8 * n) (entryBytes (entryOf k (topmost s k) x)))
+          opened-is =
+              let a : f + 1 ≡ place k d = omega (arith, st .at, st .good .opened k (st .task)) in
+              let b : fr ≡ entering (topmost s k .vars) q xs = enters ∙ ap (λ (g : Frame). entering (g .vars) q xs) top-is in
+              λ i. runFrom t (keptIn t) most vs rest (add-one n i) (record { depth = set (s .depth) k (d + 1); lost = s .lost; frames = set (s .frames) (a i) (b i); sems = s .sems; queues = s .queues }) (drop used vs) (log-is i)
+
+          pub turn-calls : going ≡ next opened used
+          turn-calls =
+              runs-turn t most vs n s used log ks _ (st .some)
+              (turn-goes t most vs n s used log k (st .task) room′ (st .here) (blocks-is ∙ free) ∙ step-calls t most s k (drop used vs) x q xs to (st .node) calls) ∙
+              sym opened-is
+
+          frame-good : FrameGood fr
+          unfolding concat
+          frame-good =
+              let h : Placed (Call q xs to) = rw calls at placed in
+              rw enters (record { proc = h .0; node = omega arith; vars = refl })
+
+          pub opened-good : Good t opened
+          opened-good =
+              let b : d < 8 = call-below q xs to d _ _ _ (rw calls at free) in
+              good-depth opened k (d + 1) (good-frame (withFrames s (set (s .frames) (f + 1) fr)) (f + 1) fr (st .good) frame-good refl refl) (omega arith) (omega arith) refl refl
+
+        -- any other node, executed in the frame at place g
+        module _ (stays : opens x ≡ false) (g : ℕ) (at-next : g ≡ f - v .back) (y : Node) (comes : y ≡ nodeAt t (frameIn (s .frames) g .proc) (frameIn (s .frames) g .node))
+            (o : Acted) (acts : o ≡ actOf x (arcTo y) (frameIn (s .frames) g .vars) (getD (s .sems) (v .sem) 0) (getD (entriesAt (s .queues) (v .queue) .items) 0 (pos 0)) vs used) where
+          abbrev fr : Frame
+          fr = frameIn (s .frames) g
+
+          abbrev p : ℕ
+          p = fr .proc
+
+          abbrev j : ℕ
+          j = d - 1 - v .back
+
+          pub back-le : v .back ≤ d - 1
+          back-le = rw (st .sides) (back-below x d _ _ _ (rw (st .sides) at free))
+
+          pub near : j + v .back ≡ d - 1
+          near = omega (arith, back-le)
+
+          pub at-j : g ≡ place k j
+          at-j = omega (arith, back-le, st .at, at-next)
+
+          pub low : g < 32
+          low = omega (arith, at-j, st .task, ready .tasks, st .good .bounded k (st .task), st .good .opened k (st .task))
+
+          long : length (fr .vars) ≡ 16
+          long = st .good .vars g low
+
+          abbrev ways : Did → Walk
+          ways r = onward (λ n m ws. walk t (keptIn t) p most n m ws) r
+
+          abbrev told : Did → Step
+          told r = settled (entryOf k (topmost s k) x) (closes (v .back) s k) k j p (ways r)
+
+          done-is : doing x (nodeAt t p (fr .node)) (memory s fr) (drop used vs) ≡ didIn vs (memory s fr) v o
+          done-is =
+              doing-is (memory s fr) long vs used d (queueAt t (sidesOf x .queue) .cap) (ready .caps (sidesOf x .queue) (queue-below x placed)) x (nodeAt t p (fr .node)) (rw (st .sides) at free) ∙
+              (λ i. didIn vs (memory s fr) (sym (st .sides) i) (actOf x (arcTo (sym comes i)) (fr .vars) (getD (s .sems) (sym (st .sides) i .sem) 0) (getD (entriesAt (s .queues) (sym (st .sides) i .queue) .items) 0 (pos 0)) vs used)) ∙
+              ap (didIn vs (memory s fr) v) (sym acts)
+
+          goes-is : goesOn t most s k (drop used vs) x (sidesOf x .back) j ≡ told (didIn vs (memory s fr) v o)
+          goes-is =
+              (λ i. let h = frameIn (s .frames) (sym at-j i) in
+              settled (entryOf k (topmost s k) x) (closes (sym (st .sides) i .back) s k) k j (h .proc) (onward (λ n m ws. walk t (keptIn t) (h .proc) most n m ws) (doing x (nodeAt t (h .proc) (h .node)) (memory s h) (drop used vs)))) ∙
+              ap told done-is
+
+          kept-is : going ≡ after t most vs n s used log rest (told (didIn vs (memory s fr) v o))
+          kept-is =
+              runs-turn t most vs n s used log ks _ (st .some)
+              (turn-goes t most vs n s used log k (st .task) room′ (st .here) (blocks-is ∙ free) ∙
+              step-goes t most s k (drop used vs) x j (st .node) stays (ap (λ (v : Sides). j + v .back) (sym (st .sides)) ∙ near) ∙ goes-is)
+
+          pub stop-acting : (o .stop ≡ 0 → ⊥) → going ≡ ending (o .stop)
+          stop-acting h =
+              let i : Named (o .stop) = rw acts (act-named x (arcTo y) (fr .vars) _ _ vs used) in
+              kept-is ∙ after-halted t most vs n s used log rest (entryOf k (topmost s k) x) (closes (v .back) s k) k j p (ways (didIn vs (memory s fr) v o)) (o .stop) (rw (ne-eqb (o .stop) 0 h) (ap halted (named-stop (o .stop) i h)))
+
+          module _ (on : o .stop ≡ 0) (w : Chosen) (arrives : Arrived (o .arc) (getD keep p 0) vs (o .used) w) (l₀ : List ℤ) (sets-var : l₀ ≡ set (fr .vars) (o .var) (o .value))
+              (z : Chosen) (l : List ℤ) (ends : (mm : Memory) → met (walking t vs p most (withVars mm l₀) w) ≡ metOf vs (withVars mm l) z) where
+            abbrev mem : Memory
+            mem = storedIn (memory s fr) v o
+
+            met-is : met (ways (didIn vs (memory s fr) v o)) ≡ metOf vs (withVars mem l) z
+            met-is =
+                rw (eq-eqb (o .stop) 0 on)
+                (ap (λ (c : Choice). met (along (λ n m ws. walk t (keptIn t) p most n m ws) mem c)) (arrives .choice) ∙
+                ap (λ (l : List ℤ). met (walking t vs p most (withVars mem l) w)) (sym sets-var) ∙ ends mem)
+
+            pub stop-walking : (z .stop ≡ 0 → ⊥) → going ≡ ending (z .stop)
+            stop-walking h = kept-is ∙ after-halted t most vs n s used log rest (entryOf k (topmost s k) x) (closes (v .back) s k) k j p (ways (didIn vs (memory s fr) v o)) (z .stop) (met-is ∙ rw (ne-eqb (z .stop) 0 h) refl)
+
+            -- b is what the closed frame's place gets, q the queue after the node
+            abbrev pub stored : Frame → Entries → State
+            stored b q = record {
+              depth = set (s .depth) k (d - v .back);
+              lost = set (s .lost) k (z .lost);
+              frames = set (set (s .frames) f b) g (record { proc = p; node = z .node; vars = l });
+              sems = mem .sems;
+              queues = set (s .queues) (v .queue) q;
+            }
+
+            module _ (b : Frame) (q : Entries) (blank : b ≡ noFrame) (queued : q ≡ queueAfter (entriesAt (s .queues) (v .queue)) (v .how) (o .value)) where
+              pub turn-walks : z .stop ≡ 0 → pick (z .lost) (z .node) 0 ≡ 0 → going ≡ next (stored b q) (z .used)
+              turn-walks h gone =
+                  kept-is ∙ after-arrived t most vs n s used log rest (entryOf k (topmost s k) x) (closes (v .back) s k) k j p (ways (didIn vs (memory s fr) v o)) (pick (z .lost) none (some (z .node))) (withVars mem l) (drop (z .used) vs) (met-is ∙ rw (eq-eqb (z .stop) 0 h) refl) ∙
+                  sym
+                  (λ i. runFrom t (keptIn t) most vs rest (add-one n i) (landed-is s k f g j (v .back) p (z .node) (withVars mem l) (st .at) at-j near (st .here) (z .lost) (rw (st .sides) (back-few x)) gone i) (drop (z .used) vs) (log-is i)) ∙
+                  sym (λ i. next (stored (blank i) (queued i)) (z .used))
+
+              pub stored-good : length l ≡ 16 → z .node < 32 → Good t (stored b q)
+              stored-good long′ small =
+                  let fg : FrameGood b = rw blank (record { proc = omega arith; node = omega arith; vars = refl }) in
+                  let a = good-frame (withFrames s (set (s .frames) f b)) f b (st .good) fg refl refl in
+                  let e = good-frame (withFrames s (set (set (s .frames) f b) g (record { proc = p; node = z .node; vars = l }))) g (record { proc = p; node = z .node; vars = l }) a (record { proc = st .good .procs g; node = small; vars = long′ }) refl refl in
+                  good-depth (stored b q) k (d - v .back) e (omega (arith, back-le, st .good .opened k (st .task))) (omega (arith, st .good .bounded k (st .task))) refl refl
+
+-- ---- the other side of the test for a call
+
+abbrev others : List ℕ
+others = 0 ∷ 1 ∷ 2 ∷ 3 ∷ 4 ∷ 6 ∷ 7 ∷ 8 ∷ 9 ∷ 10 ∷ 11 ∷ 12 ∷ []
+
+pub no-call : (x : Node) → OneOf others (tagOf the-type x) → opens x ≡ false
+unfolding opens
+no-call Absent k = refl
+no-call (Start to) k = refl
+no-call (Set v o a b to) k = refl
+no-call (Test o a b y n) k = refl
+no-call (Read v to) k = refl
+no-call (Call q xs to) k = absurd (miss others 5 tt k)
+no-call (Wait i to) k = refl
+no-call (Signal i to) k = refl
+no-call (Send q v to) k = refl
+no-call (Recv q v to) k = refl
+no-call (Assert v to) k = refl
+no-call (Out v to) k = refl
+no-call Return k = refl

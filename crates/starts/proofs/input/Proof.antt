@@ -1,0 +1,31 @@
+use borrow.Author.Needs.{needs}
+use native.Mathlib.Omega.{arith}
+use mathlib.Core.Path.{_≡_, refl, sym, ap, _∙_}
+use mathlib.Core.Bool.{true, false}
+use mathlib.Core.List.{List}
+use Prim.Native.Nat.{ℕ, suc, _+_, _-_, _*_, _/_, _%_, _≤_, _<_}
+use lib.ListN.{length, getD, set, take, drop, length-drop, length-set}
+use lib.IntN.{ℤ, pos}
+use mir.Syntax.{w32}
+use mir.Facts.{toZ-ofZ}
+use borrow.Author.Tests.{le-leb, lt-leb, lt-ltb, le-ltb, ltb-true}
+use Rattle.table.specs.Mask.{pick}
+use Rattle.table.specs.declared.Table.{Table}
+use Rattle.starts.proofs.Starts.{Laid, laid-more, row-is, input-is, first-is, start-good, inputs-spent, inputs-taken, inputs-good, inputs-done, wants-few}
+use Rattle.starts.proofs.input.Statement.{statement}
+use Rattle.starts.proofs.input.Tie as tie
+
+mul-result : tie.Need-mul-result
+mul-result c = let h : (c .before .args) .at < length ((c .before .args) .values .now) = (c .before .pre) ((c .if1) .taken) in search needs
+
+shared-slice-copy-out-result : tie.Need-shared-slice-copy-out-result
+shared-slice-copy-out-result c = (c .before .pre) ((c .if1) .taken)
+
+returns : tie.Need-returns
+returns c = rw ((c .before .if1) .taken) (toZ-ofZ {w = w32} (record { sfits = (c .result) .given }))
+
+returns-2 : tie.Need-returns-2
+returns-2 c = rw ((c .if1) .left) refl
+
+pub input-spec : {M : Type 1} → statement M
+input-spec = tie.close (tie.spec mul-result shared-slice-copy-out-result returns returns-2)

@@ -1,0 +1,53 @@
+use borrow.Author.Needs.{needs}
+use native.Mathlib.Omega.{arith}
+use mathlib.Core.Path.{_≡_, refl, sym, ap, _∙_}
+use mathlib.Core.Bool.{true, false}
+use mathlib.Core.List.{List}
+use Prim.Native.Nat.{ℕ, suc, _+_, _-_, _*_, _/_, _%_, _≤_, _<_}
+use lib.ListN.{length, getD, set, take, drop, length-drop, length-set}
+use lib.IntN.{ℤ, pos}
+use mir.Syntax.{w32}
+use mir.Facts.{toZ-ofZ}
+use borrow.Author.Tests.{le-leb, lt-leb, lt-ltb, le-ltb, ltb-true}
+use Rattle.table.specs.Mask.{pick}
+use Rattle.table.specs.declared.Table.{Table}
+use Rattle.starts.proofs.Starts.{Laid, laid-more, row-is, input-is, first-is, start-good, inputs-spent, inputs-taken, inputs-good, inputs-done, wants-few}
+use Rattle.starts.proofs.input_frame.Statement.{statement}
+use Rattle.starts.proofs.input_frame.Tie as tie
+
+input-requires : tie.Need-input-requires
+input-requires c κs = λ e. omega (arith, ltb-true 0 ((c .args) .m) e)
+
+add-input : tie.Need-add-input
+add-input c = search needs
+
+input-requires-2 : tie.Need-input-requires-2
+input-requires-2 c κs = λ e. omega (arith, ltb-true 1 ((c .before .args) .m) e)
+
+add-input-2 : tie.Need-add-input-2
+add-input-2 c = search needs
+
+input-requires-3 : tie.Need-input-requires-3
+input-requires-3 c κs = λ e. omega (arith, ltb-true 2 ((c .before .before .args) .m) e)
+
+add-input-3 : tie.Need-add-input-3
+add-input-3 c = search needs
+
+input-requires-4 : tie.Need-input-requires-4
+input-requires-4 c κs = λ e. omega (arith, ltb-true 3 ((c .before .before .before .args) .m) e)
+
+returns : tie.Need-returns
+returns c = input-is ((c .before .before .before .before .args) .top) ((c .before .before .before .before .args) .m) ((c .before .before .before .before .args) .used) ((c .before .before .before .before .args) .values .now) ((c .before .before .before .before .pre) .0) ((c .before .before .before .before .pre) .1) (toZ-ofZ {w = w32} (record { sfits = (c .before .before .before .input) .ok }) ∙ (c .before .before .before .input) .ensures) (toZ-ofZ {w = w32} (record { sfits = (c .before .before .input2) .ok }) ∙ (c .before .before .input2) .ensures) (toZ-ofZ {w = w32} (record { sfits = (c .before .input3) .ok }) ∙ (c .before .input3) .ensures) (toZ-ofZ {w = w32} (record { sfits = (c .input4) .ok }) ∙ (c .input4) .ensures)
+
+pub input-frame-spec : {M : Type 1} → statement M
+input-frame-spec =
+    tie.close
+    (tie.spec
+    input-requires
+    add-input
+    input-requires-2
+    add-input-2
+    input-requires-3
+    add-input-3
+    input-requires-4
+    returns)

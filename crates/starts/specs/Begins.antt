@@ -1,0 +1,46 @@
+-- What the runner starts from: the nodes in one row, a state whose frames stand in the table, the first state.
+use Prim.Native.Nat.{ℕ, _+_, _-_, _*_, _<_, _≤_}
+use mathlib.Core.Path.{_≡_}
+use mathlib.Core.Bool.{Bool, true, false}
+use mathlib.Core.List.{List, [], _++_}
+use lib.ListN.{length, getD, drop, replicate}
+use lib.IntN.{ℤ, pos}
+use Rattle.table.specs.Mask.{pick}
+use Rattle.table.specs.Table.{noSlot, procAt, nodeAt}
+use Rattle.table.specs.declared.Slot.{Slot}
+use Rattle.table.specs.declared.Table.{Table}
+use Rattle.machine.specs.declared.Frame.{Frame}
+use Rattle.machine.specs.declared.State.{State}
+use Rattle.machine.specs.State.{Begun, begun, firstState}
+use Rattle.machine.specs.State as First
+use Rattle.starts.specs.declared.Started.{Started}
+
+-- node n of procedure p stands at place 32 p + n
+pub record Row (t : Table) (l : List Slot) : Type 0 where
+  pub nodes : (p n : ℕ) → p < 8 → n < 32 → getD l (32 * p + n) noSlot .node ≡ nodeAt t p n
+
+abbrev pub frameIn : List Frame → ℕ → Frame
+frameIn l j = getD l j (record { proc = 0; node = 0; vars = [] })
+
+pub record Good (t : Table) (s : State) : Type 0 where
+  pub depths : length (s .depth) ≡ 4
+  pub frames : length (s .frames) ≡ 32
+  pub opened : (i : ℕ) → i < t .tasks → 0 < getD (s .depth) i 0
+  pub bounded : (i : ℕ) → i < t .tasks → getD (s .depth) i 0 ≤ 8
+  pub procs : (j : ℕ) → frameIn (s .frames) j .proc < 8
+  pub nodes : (j : ℕ) → frameIn (s .frames) j .node < 32
+  pub vars : (j : ℕ) → j < 32 → length (frameIn (s .frames) j .vars) ≡ 16
+
+abbrev pub begunOf : List ℤ → Started → Begun
+begunOf vs r = pick (r .spent) First.spent (begun (r .state) (drop (r .used) vs))
+
+pub record Begins (t : Table) (vs : List ℤ) (b : Begun) (r : Started) : Type 0 where
+  pub is : b ≡ begunOf vs r
+  pub within : r .used ≤ length vs
+  pub good : Good t (r .state)
+  -- where the values are spent, all locals are 0
+  pub still : pick (r .spent) (r .state) (firstState t) ≡ firstState t
+
+-- a first frame with its inputs
+abbrev pub inputFrame : ℕ → List ℤ → Frame
+inputFrame top xs = record { proc = top; node = 0; vars = xs ++ replicate (16 - length xs) (pos 0) }

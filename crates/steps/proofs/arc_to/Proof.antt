@@ -1,0 +1,138 @@
+use borrow.Author.Needs.{needs}
+use native.Mathlib.Omega.{arith}
+use mathlib.Core.Path.{_≡_, refl, sym, ap, _∙_}
+use Prim.Native.Nat.{ℕ, suc, _+_, _-_, _*_, _/_, _%_, _^_, _≤_, _<_}
+use lib.ListN.{length, getD, set, length-set, List·getD-eq-default}
+use lib.Seq.{set-out}
+use lib.IntN.{ℤ, pos}
+use mir.Syntax.{w32}
+use mir.Val.{ofZ}
+use borrow.Author.Tests.{le-leb, lt-leb, lt-ltb, le-ltb, eq-eqb, ne-eqb}
+use Rattle.table.specs.Mask.{pick, members, membersFrom}
+use Rattle.steps.specs.Cut.{goesTo, haltsAt, actOf, sidesOf, stuckOf, shownOf, showing}
+use Rattle.steps.proofs.Leaves.{again, twice, holds-no, holds-yes, bit-here, bit-past, bit-off, bit-none, toss-spent, toss-none, toss-goes, entering-is, shift-is, put-is, queue-sends, queue-takes, queue-stays}
+use Rattle.table.specs.Table.{arcTo}
+use Rattle.steps.proofs.arc_to.Statement.{statement}
+use Rattle.steps.proofs.arc_to.Tie as tie
+
+enum-told : tie.Need-enum-told
+enum-told c = search needs
+
+enum-known-x : tie.Need-enum-known-x
+enum-known-x c = search needs
+
+enum-known-x-2 : tie.Need-enum-known-x-2
+enum-known-x-2 c = search needs
+
+enum-known-x-3 : tie.Need-enum-known-x-3
+enum-known-x-3 c = search needs
+
+enum-known-x-4 : tie.Need-enum-known-x-4
+enum-known-x-4 c = search needs
+
+enum-known-x-5 : tie.Need-enum-known-x-5
+enum-known-x-5 c = search needs
+
+enum-known-x-6 : tie.Need-enum-known-x-6
+enum-known-x-6 c = search needs
+
+enum-known-x-7 : tie.Need-enum-known-x-7
+enum-known-x-7 c = search needs
+
+enum-known-x-8 : tie.Need-enum-known-x-8
+enum-known-x-8 c = search needs
+
+enum-known-x-9 : tie.Need-enum-known-x-9
+enum-known-x-9 c = search needs
+
+enum-known-x-10 : tie.Need-enum-known-x-10
+enum-known-x-10 c = search needs
+
+enum-known-x-11 : tie.Need-enum-known-x-11
+enum-known-x-11 c = search needs
+
+enum-told-2 : tie.Need-enum-told-2
+enum-told-2 c = search needs
+
+returns : tie.Need-returns
+unfolding arcTo
+returns c = rw (c .enum-told .given .1) (refl)
+
+returns-2 : tie.Need-returns-2
+unfolding arcTo
+returns-2 c = rw (c .before .x .given .1) (refl)
+
+returns-3 : tie.Need-returns-3
+unfolding arcTo
+returns-3 c = rw (c .before .x2 .given .1) (refl)
+
+returns-4 : tie.Need-returns-4
+unfolding arcTo
+returns-4 c = rw (c .before .x3 .given .1) (refl)
+
+returns-5 : tie.Need-returns-5
+unfolding arcTo
+returns-5 c = rw (c .before .x4 .given .1) (refl)
+
+returns-6 : tie.Need-returns-6
+unfolding arcTo
+returns-6 c = rw (c .before .x5 .given .1) (refl)
+
+returns-7 : tie.Need-returns-7
+unfolding arcTo
+returns-7 c = rw (c .before .x6 .given .1) (refl)
+
+returns-8 : tie.Need-returns-8
+unfolding arcTo
+returns-8 c = rw (c .before .x7 .given .1) (refl)
+
+returns-9 : tie.Need-returns-9
+unfolding arcTo
+returns-9 c = rw (c .before .x8 .given .1) (refl)
+
+returns-10 : tie.Need-returns-10
+unfolding arcTo
+returns-10 c = rw (c .before .x9 .given .1) (refl)
+
+returns-11 : tie.Need-returns-11
+unfolding arcTo
+returns-11 c = rw (c .before .x10 .given .1) (refl)
+
+returns-12 : tie.Need-returns-12
+unfolding arcTo
+returns-12 c = rw (c .before .x11 .given .1) (refl)
+
+returns-13 : tie.Need-returns-13
+unfolding arcTo
+returns-13 c = rw (c .enum-told2 .given .1) (refl)
+
+pub arc-to-spec : {M : Type 1} → statement M
+arc-to-spec =
+    tie.close
+    (tie.spec
+    enum-told
+    enum-known-x
+    enum-known-x-2
+    enum-known-x-3
+    enum-known-x-4
+    enum-known-x-5
+    enum-known-x-6
+    enum-known-x-7
+    enum-known-x-8
+    enum-known-x-9
+    enum-known-x-10
+    enum-known-x-11
+    enum-told-2
+    returns
+    returns-2
+    returns-3
+    returns-4
+    returns-5
+    returns-6
+    returns-7
+    returns-8
+    returns-9
+    returns-10
+    returns-11
+    returns-12
+    returns-13)

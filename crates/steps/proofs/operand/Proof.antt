@@ -1,0 +1,33 @@
+use borrow.Author.Needs.{needs}
+use native.Mathlib.Omega.{arith}
+use mathlib.Core.Path.{_≡_, refl, sym, ap, _∙_}
+use Prim.Native.Nat.{ℕ, suc, _+_, _-_, _*_, _/_, _%_, _^_, _≤_, _<_}
+use lib.ListN.{length, getD, set, length-set, List·getD-eq-default}
+use lib.Seq.{set-out}
+use lib.IntN.{ℤ, pos}
+use mir.Syntax.{w32}
+use mir.Val.{ofZ}
+use borrow.Author.Tests.{le-leb, lt-leb, lt-ltb, le-ltb, eq-eqb, ne-eqb}
+use Rattle.table.specs.Mask.{pick, members, membersFrom}
+use Rattle.steps.specs.Cut.{goesTo, haltsAt, actOf, sidesOf, stuckOf, shownOf, showing}
+use Rattle.steps.proofs.Leaves.{again, twice, holds-no, holds-yes, bit-here, bit-past, bit-off, bit-none, toss-spent, toss-none, toss-goes, entering-is, shift-is, put-is, queue-sends, queue-takes, queue-stays}
+use Rattle.steps.proofs.operand.Statement.{statement}
+use Rattle.steps.proofs.operand.Tie as tie
+
+enum-known-o : tie.Need-enum-known-o
+enum-known-o c = search needs
+
+var-at-requires : tie.Need-var-at-requires
+var-at-requires c κs = search needs
+
+enum-known-o-2 : tie.Need-enum-known-o-2
+enum-known-o-2 c = search needs
+
+returns : tie.Need-returns
+returns c = rw (c .before .before .o .given .1) (again (c .var-at .result) (record { sfits = c .var-at .ok }) ∙ c .var-at .ensures)
+
+returns-2 : tie.Need-returns-2
+returns-2 c = rw (c .before .o2 .given .1) (search needs)
+
+pub operand-spec : {M : Type 1} → statement M
+operand-spec = tie.close (tie.spec enum-known-o var-at-requires enum-known-o-2 returns returns-2)

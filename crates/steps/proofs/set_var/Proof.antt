@@ -1,0 +1,30 @@
+use borrow.Author.Needs.{needs}
+use native.Mathlib.Omega.{arith}
+use mathlib.Core.Path.{_≡_, refl, sym, ap, _∙_}
+use Prim.Native.Nat.{ℕ, suc, _+_, _-_, _*_, _/_, _%_, _^_, _≤_, _<_}
+use lib.ListN.{length, getD, set, length-set, List·getD-eq-default}
+use lib.Seq.{set-out}
+use lib.IntN.{ℤ, pos}
+use mir.Syntax.{w32}
+use mir.Val.{ofZ}
+use borrow.Author.Tests.{le-leb, lt-leb, lt-ltb, le-ltb, eq-eqb, ne-eqb}
+use Rattle.table.specs.Mask.{pick, members, membersFrom}
+use Rattle.steps.specs.Cut.{goesTo, haltsAt, actOf, sidesOf, stuckOf, shownOf, showing}
+use Rattle.steps.proofs.Leaves.{again, twice, holds-no, holds-yes, bit-here, bit-past, bit-off, bit-none, toss-spent, toss-none, toss-goes, entering-is, shift-is, put-is, queue-sends, queue-takes, queue-stays}
+use Rattle.steps.proofs.set_var.Statement.{statement}
+use Rattle.steps.proofs.set_var.Tie as tie
+
+mul-x : tie.Need-mul-x
+mul-x c = search needs
+
+element-set-from-x : tie.Need-element-set-from-x
+element-set-from-x c = search needs
+
+returns : tie.Need-returns
+returns c = search needs
+
+returns-2 : tie.Need-returns-2
+returns-2 c = sym (set-out (c .before .args .vars .now) (c .before .args .v) _ (omega (arith, c .before .pre, c .if1 .left)))
+
+pub set-var-spec : {M : Type 1} → statement M
+set-var-spec = tie.close (tie.spec mul-x element-set-from-x returns returns-2)
