@@ -6,3 +6,4 @@ pub mod StepLaws
 pub mod Decide
 pub mod RoundLaws
 pub mod KeptLaws
+pub mod ReadyLaws

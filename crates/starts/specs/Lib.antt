@@ -1,3 +1,4 @@
 pub mod Ready
 pub mod Begins
 pub mod GoodLaws
+pub mod ReadyLaws
