@@ -1,0 +1,22 @@
+use borrow.Author.Needs.{needs}
+use native.Mathlib.Omega.{arith}
+use Rattle.bufshani.proofs.kept.Statement.{statement}
+use Rattle.bufshani.proofs.kept.Tie as tie
+use Rattle.bufshani.proofs.kept.Reads as reads
+use Rattle.bufshani.proofs.kept.Lts as lts
+use Rattle.analysis.proofs.kept_masks.Reads as kept-masks-reads
+
+-- src/lib.rt:85:9
+returns : tie.Need-returns
+returns c = search needs
+
+-- src/lib.rt:87:5
+kept-masks-requires : tie.Need-kept-masks-requires
+kept-masks-requires c κs = search needs
+
+-- src/lib.rt:80:1
+returns-2 : tie.Need-returns-2
+returns-2 c = search needs
+
+pub kept-spec : {M : Type 1} → statement M
+kept-spec = tie.close (tie.spec returns kept-masks-requires returns-2)

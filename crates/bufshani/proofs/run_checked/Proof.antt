@@ -1,0 +1,38 @@
+use native.Mathlib.Omega.{arith}
+use borrow.Author.Needs.{needs}
+use Rattle.bufshani.proofs.run_checked.Statement.{statement}
+use Rattle.bufshani.proofs.run_checked.Tie as tie
+use Rattle.bufshani.proofs.run_checked.Reads as reads
+use Rattle.bufshani.proofs.run_checked.Lts as lts
+use Rattle.bufshani.proofs.kept.Reads as kept-reads
+use Rattle.bufshani.proofs.no_state.Reads as no-state-reads
+use Rattle.runner.proofs.run_ready.Reads as run-ready-reads
+
+-- src/lib.rt:97:13
+no-state-requires : tie.Need-no-state-requires
+no-state-requires c κs = search needs
+
+-- src/lib.rt:98:9
+returns : tie.Need-returns
+returns c = search needs
+
+-- src/lib.rt:105:9
+kept-requires : tie.Need-kept-requires
+kept-requires c κs = search needs
+
+-- src/lib.rt:106:5
+run-ready-requires : tie.Need-run-ready-requires
+run-ready-requires c κs = search needs
+
+-- src/lib.rt:91:1
+same-length : tie.Need-same-length
+same-length c = search needs
+
+-- src/lib.rt:91:1
+returns-2 : tie.Need-returns-2
+returns-2 c = search needs
+
+pub run-checked-spec : {M : Type 1} → statement M
+run-checked-spec =
+    tie.close
+    (tie.spec no-state-requires returns kept-requires run-ready-requires same-length returns-2)

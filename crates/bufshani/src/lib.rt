@@ -1,0 +1,107 @@
+// The library: what a user calls. Each call first checks a hand-made table.
+
+use closing::Closing;
+use machine::Entries;
+use machine::Frame;
+use machine::Running;
+use machine::State;
+use table::Node;
+use table::Proc;
+use table::Queue;
+use table::Sem;
+use table::Slot;
+use table::Table;
+use table::Task;
+ghost use mathlib.Core.Path.{_≡_};
+ghost use Rattle.table.specs.Table.{noTable};
+ghost use Rattle.text.specs.Writer.{fault};
+ghost use Rattle.machine.specs.State.{noState};
+ghost use Rattle.machine.specs.Run.{run};
+ghost use Rattle.bufshani.specs.RunLaws.{Keeps};
+ghost use Rattle.closing.specs.Close.{close, refusal};
+
+// A table all 0.
+fn no_table() -> Table
+    ensures { λ r. ⌜ r ≡ noTable ⌝ }
+{
+    let slots = [Slot { node: Node::Absent }; 32];
+    Table {
+        trap: 0,
+        closed: false,
+        tasks: 0,
+        procs: 0,
+        sems: 0,
+        queues: 0,
+        task: [Task { top: 0 }; 4],
+        sem: [Sem { count: 0 }; 8],
+        queue: [Queue { cap: 0, blank: false }; 8],
+        proc: [Proc { params: 0, vars: 0, nodes: 0, drop: 0, slots }; 8],
+    }
+}
+
+fn refused(n: u8) -> Closing
+    ensures { λ r. ⌜ r ≡ refusal n ⌝ }
+{
+    let table = no_table();
+    Closing { number: n, line: 0, table }
+}
+
+// The closer's answer for a table whose fault is n.
+fn close_checked(t: Table, n: u8) -> Closing
+    requires { ⌜ n ≡ fault t ⌝ }
+    ensures { λ r. ⌜ r ≡ close t ⌝ }
+{
+    if n != 0 {
+        return refused(n);
+    }
+    if t.closed {
+        return refused(9);
+    }
+    let table = closer::closed_table(t);
+    Closing { number: 0, line: 0, table }
+}
+
+// A state all 0.
+fn no_state() -> State
+    ensures { λ r. ⌜ r ≡ noState ⌝ }
+{
+    let vars = [0i32; 16];
+    let items = [0i32; 8];
+    State {
+        depth: [0; 4],
+        lost: [false; 4],
+        frames: [Frame { proc: 0, node: 0, vars }; 32],
+        sems: [0; 8],
+        queues: [Entries { len: 0, items }; 8],
+    }
+}
+
+// Which nodes of a table without a fault count as kept: bit n of mask p for node n of procedure p.
+fn kept(t: Table) -> [u32; 8]
+    requires { ⌜ fault t ≡ 0 ⌝ }
+    ensures { λ r. ⌜ Keeps t r ⌝ }
+{
+    if t.closed {
+        return [4294967295; 8];
+    }
+    analysis::kept_masks(t)
+}
+
+// The runner's answer for a table whose fault is n.
+fn run_checked(t: Table, n: u8, schedule: &[u8], values: &[i32], most: usize, log: &mut [u8]) -> Running
+    requires { ⌜ n ≡ fault t ⌝ }
+    ensures answer { λ r. ⌜ r ≡ run t (now (schedule .entry)) (now (values .entry)) most (now (log .entry)) .answer ⌝ }
+    ensures log { λ _. ⌜ now (log .exit) ≡ run t (now (schedule .entry)) (now (values .entry)) most (now (log .entry)) .log ⌝ }
+{
+    if n != 0 {
+        let state = no_state();
+        return Running {
+            steps: 0,
+            used: 0,
+            stop: n,
+            state,
+        };
+    }
+    let keep = kept(t);
+    runner::run_ready(t, keep, schedule, values, most, log)
+}
