@@ -1,24 +1,23 @@
 -- What the flow of one node has, at a node that fits: its targets are those of the node's arcs, its masks fit, and what it adds is what is passed and sent.
-use Prim.Native.Nat.{ℕ, zero, suc, _+_, _*_, _/_, _%_, _-_, _^_, _<_, _≤_}
+use Prim.Native.Nat.{ℕ, zero, suc, _%_, _^_, _<_, _≤_}
 use native.Mathlib.Omega.{arith}
 use native.Mathlib.Nat.{mod-eq-of-lt}
-use mathlib.Core.Path.{_≡_, refl, sym, _∙_, ap, ap₂, subst}
-use mathlib.Core.Bool.{Bool, true, false, not, _||_, _&&_, false≢true, true≢false}
+use mathlib.Core.Path.{_≡_, refl, sym, _∙_, ap, subst}
+use mathlib.Core.Bool.{Bool, true, false, _||_, _&&_, false≢true}
 use mathlib.Core.Logic.{_⊎_, inl, inr, _≢_}
-use mathlib.Core.Option.{Option, none, some}
+use mathlib.Core.Option.{none, some}
 use mathlib.Core.List.{List, [], _∷_, _++_, List·Memᴰ, List·Memᴰ·head, List·Memᴰ·tail, List·Memᴰ·not-nil, List·Memᴰ·append-cases, Memᴰ·append-left, Memᴰ·append-right}
 use lib.ListN.{getD, getElem?, take}
-use lib.Bits.{bitOr, bitAnd, bitXor, or-lt, and-lt, xor-lt}
+use lib.Bits.{bitOr, or-lt, and-lt, xor-lt}
 use lib.Pow.{pow-lt, pow-pos}
-use lib.Dec.{eqb, ltb}
+use lib.Dec.{ltb}
 use lib.Count.{trailingZeros}
 use borrow.Author.Tests.{ltb-true, lt-ltb}
 use Rattle.table.specs.Mask.{pick, bit, members}
 use Rattle.table.specs.MaskLaws.{members-is}
-use Rattle.table.specs.Table.{uses, sets, arcTo, arcNo, arcs, argPlaces, argAt, argList, operandUses}
+use Rattle.table.specs.Table.{sets, arcTo, arcNo, arcs, argPlaces, argAt, argList, operandUses}
 use Rattle.table.specs.declared.Operand.{Operand}
 use Rattle.table.specs.declared.Operand.the-variants.{Var, Const}
-use Rattle.table.specs.declared.Op.{Op}
 use Rattle.table.specs.declared.Args.{Args}
 use Rattle.table.specs.declared.Node.{Node}
 use Rattle.table.specs.declared.Node.the-variants.{Absent, Start, Set, Test, Read, Call, Wait, Signal, Send, Recv, Assert, Out, Return}
@@ -27,7 +26,7 @@ use Rattle.masks.specs.Bits.{bit-zero, bit-one, bit-one-out, bit-or-out, bit-or
 use Rattle.flow.specs.declared.Flow.{Flow}
 use Rattle.flow.specs.Flow.{low, operandDirty, operandsDirty, afterSet, oneFlow, argBit, passedBits, sentBit, flowOf}
 use Rattle.closing.specs.ReachLaws.{cases}
-use Rattle.analysis.specs.Ready.{One, FitsOperand, FitsArgs, FitsNode}
+use Rattle.analysis.specs.Ready.{One, FitsOperand, FitsNode}
 
 -- ---- targets
 

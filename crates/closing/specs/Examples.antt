@@ -34,7 +34,7 @@ AllHold (e ∷ es) = Holds e × AllHold es
 abbrev pub p1 : Example
 p1 =
     closes
-    ( "trap=1 form=open"
+    ("trap=1 form=open"
     ∷ "tasks=1 procs=1 sems=1 queues=0"
     ∷ "task=0 top=0"
     ∷ "sem=0 count=1"
@@ -48,7 +48,7 @@ p1 =
     ∷ "node=6 kind=signal sem=0 to=3"
     ∷ "node=7 kind=return"
     ∷ [])
-    ( "trap=1 form=closed"
+    ("trap=1 form=closed"
     ∷ "tasks=1 procs=1 sems=1 queues=0"
     ∷ "task=0 top=0"
     ∷ "sem=0 count=1"
@@ -73,7 +73,7 @@ p3 = gives Shr (negsuc 7) (pos 33) (negsuc 3)
 abbrev pub p4 : Example
 p4 =
     closes
-    ( "trap=1 form=open"
+    ("trap=1 form=open"
     ∷ "tasks=1 procs=1 sems=0 queues=0"
     ∷ "task=0 top=0"
     ∷ "proc=0 params=0 vars=2 nodes=7"
@@ -85,7 +85,7 @@ p4 =
     ∷ "node=5 kind=out var=1 to=6"
     ∷ "node=6 kind=return"
     ∷ [])
-    ( "trap=1 form=closed"
+    ("trap=1 form=closed"
     ∷ "tasks=1 procs=1 sems=0 queues=0"
     ∷ "task=0 top=0"
     ∷ "proc=0 params=0 vars=2 nodes=7 drop=none"
@@ -100,7 +100,7 @@ p4 =
 abbrev pub p5 : Example
 p5 =
     closes
-    ( "trap=1 form=open"
+    ("trap=1 form=open"
     ∷ "tasks=1 procs=1 sems=0 queues=0"
     ∷ "task=0 top=0"
     ∷ "proc=0 params=0 vars=3 nodes=6"
@@ -111,7 +111,7 @@ p5 =
     ∷ "node=4 kind=out var=2 to=5"
     ∷ "node=5 kind=return"
     ∷ [])
-    ( "trap=1 form=closed"
+    ("trap=1 form=closed"
     ∷ "tasks=1 procs=1 sems=0 queues=0"
     ∷ "task=0 top=0"
     ∷ "proc=0 params=0 vars=3 nodes=6 drop=none"
@@ -124,7 +124,7 @@ p5 =
 abbrev pub p6 : Example
 p6 =
     closes
-    ( "trap=1 form=open"
+    ("trap=1 form=open"
     ∷ "tasks=1 procs=1 sems=0 queues=0"
     ∷ "task=0 top=0"
     ∷ "proc=0 params=0 vars=1 nodes=5"
@@ -134,7 +134,7 @@ p6 =
     ∷ "node=3 kind=out var=0 to=4"
     ∷ "node=4 kind=return"
     ∷ [])
-    ( "trap=1 form=closed"
+    ("trap=1 form=closed"
     ∷ "tasks=1 procs=1 sems=0 queues=0"
     ∷ "task=0 top=0"
     ∷ "proc=0 params=0 vars=1 nodes=5 drop=none"
@@ -148,7 +148,7 @@ p6 =
 abbrev pub p7 : Example
 p7 =
     closes
-    ( "trap=1 form=open"
+    ("trap=1 form=open"
     ∷ "tasks=1 procs=1 sems=0 queues=0"
     ∷ "task=0 top=0"
     ∷ "proc=0 params=0 vars=1 nodes=3"
@@ -156,7 +156,7 @@ p7 =
     ∷ "node=1 kind=read var=0 to=2"
     ∷ "node=2 kind=test op=eq a=v0 b=0 yes=1 no=2"
     ∷ [])
-    ( "trap=1 form=closed"
+    ("trap=1 form=closed"
     ∷ "tasks=1 procs=1 sems=0 queues=0"
     ∷ "task=0 top=0"
     ∷ "proc=0 params=0 vars=1 nodes=3 drop=none"
@@ -167,7 +167,7 @@ p7 =
 abbrev pub p8 : Example
 p8 =
     closes
-    ( "trap=1 form=open"
+    ("trap=1 form=open"
     ∷ "tasks=1 procs=2 sems=0 queues=0"
     ∷ "task=0 top=0"
     ∷ "proc=0 params=0 vars=2 nodes=6"
@@ -182,7 +182,7 @@ p8 =
     ∷ "node=1 kind=out var=0 to=2"
     ∷ "node=2 kind=return"
     ∷ [])
-    ( "trap=1 form=closed"
+    ("trap=1 form=closed"
     ∷ "tasks=1 procs=2 sems=0 queues=0"
     ∷ "task=0 top=0"
     ∷ "proc=0 params=0 vars=2 nodes=6 drop=none"

@@ -40,9 +40,10 @@ ended stop all steps s rest log = record { answer = record { steps = steps; used
 module _ (t : Table) (keep : Kept) (most : ℕ) where
   -- "no such task", then "fewer than 8 log bytes left", then what the step says
   unfoldable pub turn : ℕ → ℕ → State → List ℤ → List ℕ → Step
-  turn k steps s rest log = elim (ltb k (t .tasks))
-    [ true ↦ elim (ltb (length log) (8 * steps + 8)) [ true ↦ stopped logFull | false ↦ step t keep most s k rest ]
-    | false ↦ stopped noTask ]
+  turn k steps s rest log = elim (ltb k (t .tasks)) [
+    | true ↦ elim (ltb (length log) (8 * steps + 8)) [ true ↦ stopped logFull | false ↦ step t keep most s k rest ]
+    | false ↦ stopped noTask
+  ]
 
   module _ (all : List ℤ) where
     -- after a step the rest of the schedule; "A stopped step leaves state, log and used count as before it"

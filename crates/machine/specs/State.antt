@@ -28,12 +28,13 @@ abbrev pub noEntries : Entries
 noEntries = record { len = 0; items = replicate 8 (pos 0) }
 
 abbrev pub noState : State
-noState = record
-  { depth = replicate 4 0
-  ; lost = replicate 4 false
-  ; frames = replicate 32 noFrame
-  ; sems = replicate 8 0
-  ; queues = replicate 8 noEntries }
+noState = record {
+  depth = replicate 4 0;
+  lost = replicate 4 false;
+  frames = replicate 32 noFrame;
+  sems = replicate 8 0;
+  queues = replicate 8 noEntries;
+}
 
 -- ---- look-ups
 
@@ -78,12 +79,13 @@ abbrev pub firstFrames : Table → ℕ → List Frame
 firstFrames t i = pick (ltb i (t .tasks)) (firstFrame t i) noFrame ∷ replicate 7 noFrame
 
 unfoldable pub firstState : Table → State
-firstState t = record
-  { depth = concat (λ i. pick (ltb i (t .tasks)) 1 0 ∷ []) 4 0
-  ; lost = replicate 4 false
-  ; frames = concat (firstFrames t) 4 0
-  ; sems = map (λ (x : Sem). x .count) (t .sem)
-  ; queues = replicate 8 noEntries }
+firstState t = record {
+  depth = concat (λ i. pick (ltb i (t .tasks)) 1 0 ∷ []) 4 0;
+  lost = replicate 4 false;
+  frames = concat (firstFrames t) 4 0;
+  sems = map (λ (x : Sem). x .count) (t .sem);
+  queues = replicate 8 noEntries;
+}
 
 abbrev pub withFrames : State → List Frame → State
 withFrames s l = record { depth = s .depth; lost = s .lost; frames = l; sems = s .sems; queues = s .queues }
@@ -104,9 +106,10 @@ withInputs t i s xs = withFrames s (set (s .frames) (place i 0) (record { proc =
 -- "by task, then by parameter": n tasks from i on
 unfoldable pub takeInputs : Table → ℕ → ℕ → State → List ℤ → Begun
 takeInputs t zero i s vs = begun s vs
-takeInputs t (suc n) i s vs = elim (ltb (length vs) (firstInputs t i))
-  [ true ↦ spent
-  | false ↦ takeInputs t n (suc i) (withInputs t i s (take (firstInputs t i) vs)) (drop (firstInputs t i) vs) ]
+takeInputs t (suc n) i s vs = elim (ltb (length vs) (firstInputs t i)) [
+  | true ↦ spent
+  | false ↦ takeInputs t n (suc i) (withInputs t i s (take (firstInputs t i) vs)) (drop (firstInputs t i) vs)
+]
 
 unfoldable pub begin : Table → List ℤ → Begun
 begin t vs = takeInputs t (t .tasks) 0 (firstState t) vs

@@ -24,13 +24,13 @@ use Rattle.machine.specs.State.{noFrame, openFrames, place, frameAt, top
 
 -- ---- the stops of a run, and document 01's number for each
 pub data Stop : Type 0 where
-  noTask : Stop    -- no such task
-  logFull : Stop   -- fewer than 8 log bytes left
+  noTask : Stop  -- no such task
+  logFull : Stop  -- fewer than 8 log bytes left
   taskLost : Stop  -- task lost
   taskBlocked : Stop  -- task blocked
-  tooMany : Stop   -- one dropped node more than allowed
-  spent : Stop     -- value list spent
-  badToss : Stop   -- toss value below 0 or not below the arc's count
+  tooMany : Stop  -- one dropped node more than allowed
+  spent : Stop  -- value list spent
+  badToss : Stop  -- toss value below 0 or not below the arc's count
 
 unfoldable pub stopNumber : Stop → ℕ
 stopNumber noTask = 10
@@ -160,9 +160,10 @@ noting n (arrives w m vs ns) = arrives w m vs (n ∷ ns)
 -- from node n of procedure p, at most d dropped nodes: "14 before 15 at one node"
 unfoldable pub walk : Table → Kept → ℕ → ℕ → ℕ → Memory → List ℤ → Walk
 walk t keep p zero n m vs = elim (keep p n) [ true ↦ arrives (some n) m vs [] | false ↦ halts tooMany ]
-walk t keep p (suc d) n m vs = elim (keep p n)
-  [ true ↦ arrives (some n) m vs []
-  | false ↦ noting n (onward (λ n′ m′ ws. walk t keep p d n′ m′ ws) (exec (nodeAt t p n) m vs)) ]
+walk t keep p (suc d) n m vs = elim (keep p n) [
+  | true ↦ arrives (some n) m vs []
+  | false ↦ noting n (onward (λ n′ m′ ws. walk t keep p d n′ m′ ws) (exec (nodeAt t p n) m vs))
+]
 
 -- ---- how a node goes on: it opens a frame, closes one, or stays in its own
 
@@ -242,18 +243,20 @@ pub data Step : Type 0 where
 
 -- task k in frame j, of procedure p, before the node met, or lost: "A closed step taking `none` completes and leaves the task lost"
 abbrev pub landed : State → ℕ → ℕ → ℕ → Option ℕ → Memory → State
-landed s k j p (some n) m = record
-  { depth = s .depth
-  ; lost = s .lost
-  ; frames = set (s .frames) (place k j) (record { proc = p; node = n; vars = m .vars })
-  ; sems = m .sems
-  ; queues = m .queues }
-landed s k j p none m = record
-  { depth = s .depth
-  ; lost = set (s .lost) k true
-  ; frames = set (s .frames) (place k j) (record { proc = p; node = 0; vars = m .vars })
-  ; sems = m .sems
-  ; queues = m .queues }
+landed s k j p (some n) m = record {
+  depth = s .depth;
+  lost = s .lost;
+  frames = set (s .frames) (place k j) (record { proc = p; node = n; vars = m .vars });
+  sems = m .sems;
+  queues = m .queues;
+}
+landed s k j p none m = record {
+  depth = s .depth;
+  lost = set (s .lost) k true;
+  frames = set (s .frames) (place k j) (record { proc = p; node = 0; vars = m .vars });
+  sems = m .sems;
+  queues = m .queues;
+}
 
 abbrev pub settled : Entry → State → ℕ → ℕ → ℕ → Walk → Step
 settled e s k j p (halts c) = stopped c
@@ -268,21 +271,23 @@ abbrev pub entering : List ℤ → ℕ → Args → Frame
 entering l q xs = record { proc = q; node = 0; vars = concat (λ i. passedAt l xs i ∷ []) 16 0 }
 
 abbrev pub called : State → ℕ → Frame → State
-called s k g = record
-  { depth = set (s .depth) k (openFrames s k + 1)
-  ; lost = s .lost
-  ; frames = set (s .frames) (place k (openFrames s k)) g
-  ; sems = s .sems
-  ; queues = s .queues }
+called s k g = record {
+  depth = set (s .depth) k (openFrames s k + 1);
+  lost = s .lost;
+  frames = set (s .frames) (place k (openFrames s k)) g;
+  sems = s .sems;
+  queues = s .queues;
+}
 
 -- the topmost frame closed
 abbrev pub closed : State → ℕ → State
-closed s k = record
-  { depth = set (s .depth) k (openFrames s k - 1)
-  ; lost = s .lost
-  ; frames = set (s .frames) (place k (openFrames s k - 1)) noFrame
-  ; sems = s .sems
-  ; queues = s .queues }
+closed s k = record {
+  depth = set (s .depth) k (openFrames s k - 1);
+  lost = s .lost;
+  frames = set (s .frames) (place k (openFrames s k - 1)) noFrame;
+  sems = s .sems;
+  queues = s .queues;
+}
 
 abbrev pub memory : State → Frame → Memory
 memory s f = record { vars = f .vars; sems = s .sems; queues = s .queues }

@@ -1,18 +1,16 @@
 -- What is in the masks that code computes with `|`, `&`, `^` and shifts. So masks are sets: two with the same members are equal.
-use Prim.Native.Nat.{ℕ, zero, suc, _+_, _-_, _*_, _/_, _%_, _^_, _<_, _≤_, min, max}
+use Prim.Native.Nat.{ℕ, zero, suc, _+_, _-_, _*_, _/_, _%_, _^_, _<_, _≤_}
 use native.Mathlib.Omega.{arith}
-use native.Mathlib.Nat.{mod-lt, zero-lt-suc, div-add-mod', pow-suc, add-comm, div-one, zero-div, div-self, div-eq-of-lt, mul-mod-left, one-mul, mod-eq-of-lt, lt-of-lt-of-le, mul-div-cancel}
+use native.Mathlib.Nat.{mod-lt, zero-lt-suc, pow-suc, div-one, zero-div, div-self, div-eq-of-lt, mul-mod-left, one-mul, mod-eq-of-lt, lt-of-lt-of-le, mul-div-cancel}
 use native.Mathlib.Numerals.{add-one}
-use mathlib.Core.Path.{_≡_, refl, sym, _∙_, ap, ap₂, subst}
+use mathlib.Core.Path.{_≡_, refl, sym, _∙_, ap, ap₂}
 use mathlib.Core.Bool.{Bool, true, false, not, _||_, _&&_, false≢true}
 use mathlib.Core.Logic.{_⊎_, inl, inr}
-use mathlib.Core.List.{List, [], _∷_}
-use lib.ListN.{length, getD, set}
 use lib.Dec.{eqb, ltb}
-use lib.Bits.{bitAnd, bitOr, or-shr, or-mod, and-shr, and-mod, or-add-and, and-le-r, and-le-l, or-comm, or-self, bitXor, xor-shr, xor-mod, and-mask, or-shifted-r}
+use lib.Bits.{bitAnd, bitOr, or-shr, or-mod, and-shr, and-mod, or-add-and, and-le-r, bitXor, xor-shr, xor-mod, and-mask, or-shifted-r}
 use lib.Count.{trailingZeros, under}
 use lib.Pow.{pow-pos, pow-lt, pow-mono, ones-lt, pow-add, shr-shr, shl-shr, shl-exact}
-use borrow.Author.Tests.{eqb-true, eqb-false, eq-eqb, ne-eqb, ltb-true, ltb-false}
+use borrow.Author.Tests.{eqb-true, eq-eqb, ne-eqb, ltb-true, ltb-false}
 use Rattle.table.specs.Mask.{pick, bit, maskOf}
 use Rattle.table.specs.MaskLaws.{maskOf-lt}
 
