@@ -35,13 +35,13 @@ add-p : tie.Need-add-p Inv-loop μ-loop
 add-p c = omega (arith, c .before .before .before .before .before .loop .inv (c .before .before .before .before .before .before .before .pre) .low)
 
 loop-less : tie.Need-loop-less Inv-loop μ-loop
-loop-less c = let x = c .before .proc-pass .ensures in next-left _ _ _ _ _ _ (c .before .before .before .before .before .loop .inv (c .before .before .before .before .before .before .before .pre)) (x .0) (x .1) (c .before .before .before .before .loop-test .taken) _ (c .quiet-after .ensures)
+loop-less c = let x = c .before .proc-pass .ensures in next-left _ _ _ _ _ _ (c .before .before .before .before .before .loop .inv (c .before .before .before .before .before .before .before .pre)) (x .0) (x .1) (omega (arith, c .before .before .before .before .loop-test .taken)) _ (c .quiet-after .ensures)
 
 loop-again : tie.Need-loop-again Inv-loop μ-loop
-loop-again c = let x = c .before .proc-pass .ensures in λ o. next-round _ _ _ _ _ _ (c .before .before .before .before .before .loop .inv o) (x .0) (x .1) (c .before .before .before .before .loop-test .taken) _ _ refl (c .quiet-after .ensures)
+loop-again c = let x = c .before .proc-pass .ensures in λ o. next-round _ _ _ _ _ _ (c .before .before .before .before .before .loop .inv o) (x .0) (x .1) (omega (arith, c .before .before .before .before .loop-test .taken)) _ _ refl (c .quiet-after .ensures)
 
 returns : tie.Need-returns Inv-loop μ-loop
-returns c = end _ (c .before .before .before .pre) (c .before .loop .inv (c .before .before .before .pre)) (c .loop-test .left)
+returns c = end _ (c .before .before .before .pre) (c .before .loop .inv (c .before .before .before .pre)) (omega (arith, c .loop-test .left))
 
 pub dirty-cells-spec : {M : Type 1} → statement M
 dirty-cells-spec =

@@ -25,19 +25,19 @@ step-requires : tie.Need-step-requires Inv-loop μ-loop
 step-requires c κs = (omega arith, c .before .before .loop .inv .good .masks .size)
 
 quiet-after-requires : tie.Need-quiet-after-requires Inv-loop μ-loop
-quiet-after-requires c κs = c .before .before .loop-test .taken
+quiet-after-requires c κs = omega (arith, c .before .before .loop-test .taken)
 
 add-i : tie.Need-add-i Inv-loop μ-loop
 add-i c = omega (arith, c .before .before .before .before .loop .inv .low)
 
 loop-less : tie.Need-loop-less Inv-loop μ-loop
-loop-less c = let x = c .before .step .ensures in next-left _ _ _ _ _ _ (c .before .before .before .before .loop .inv) (x .0) (x .1) (c .before .before .before .loop-test .taken) _ (c .quiet-after .ensures)
+loop-less c = let x = c .before .step .ensures in next-left _ _ _ _ _ _ (c .before .before .before .before .loop .inv) (x .0) (x .1) (omega (arith, c .before .before .before .loop-test .taken)) _ (c .quiet-after .ensures)
 
 loop-again : tie.Need-loop-again Inv-loop μ-loop
-loop-again c = let x = c .before .step .ensures in next-round _ _ _ _ _ _ (c .before .before .before .before .loop .inv) (x .0) (x .1) (c .before .before .before .loop-test .taken) _ _ refl (c .quiet-after .ensures)
+loop-again c = let x = c .before .step .ensures in next-round _ _ _ _ _ _ (c .before .before .before .before .loop .inv) (x .0) (x .1) (omega (arith, c .before .before .before .loop-test .taken)) _ _ refl (c .quiet-after .ensures)
 
 returns : tie.Need-returns Inv-loop μ-loop
-returns c = end _ _ (c .before .loop .inv) (c .loop-test .left)
+returns c = end _ _ (c .before .loop .inv) (omega (arith, c .loop-test .left))
 
 pub reach-spec : {M : Type 1} → statement M
 reach-spec =
