@@ -2,22 +2,19 @@
 use Prim.Native.Nat.{ℕ, zero, suc, _+_, _*_, _/_, _%_, _-_, _^_, _<_, _≤_}
 use native.Mathlib.Omega.{arith}
 use native.Mathlib.Nat.{mod-eq-of-lt}
-use mathlib.Core.Path.{_≡_, refl, sym, _∙_, ap, ap₂, subst}
-use mathlib.Core.Bool.{Bool, true, false, not, _&&_, _||_, false≢true, true≢false}
-use mathlib.Core.Logic.{_⊎_, inl, inr, _↔_, _≢_}
-use mathlib.Core.Option.{Option, none, some}
-use mathlib.Core.List.{List, [], _∷_, _++_, List·Memᴰ}
-use lib.ListN.{length, getD, getElem?, replicate, length-replicate, List·getD-eq-default}
-use lib.Bits.{bitOr, bitAnd}
+use mathlib.Core.Path.{_≡_, refl, sym, _∙_, ap, subst}
+use mathlib.Core.Bool.{Bool, true, false, false≢true}
+use mathlib.Core.Logic.{_⊎_, inl, inr, _≢_}
+use mathlib.Core.Option.{none, some}
+use mathlib.Core.List.{List, List·Memᴰ, Memᴰ·append-left, Memᴰ·append-right}
+use lib.ListN.{length, getD, replicate, length-replicate, List·getD-eq-default}
 use lib.Pow.{pow-lt, pow-pos}
-use lib.Seq.{getD-set-same}
 use lib.Dec.{eqb, ltb}
 use borrow.Author.Tests.{ltb-true, ltb-false, lt-ltb, le-ltb, eqb-true, eqb-false}
-use Rattle.table.specs.Mask.{pick, bit}
-use Rattle.table.specs.Table.{noSlot, outside, procAt, nodeAt, taskAt, uses, sets, arcs, arcTo, arcNo, argAt, argList}
+use Rattle.table.specs.Mask.{pick, bit, members}
+use Rattle.table.specs.Table.{noSlot, outside, procAt, nodeAt, taskAt, uses, sets, arcs, arcTo, arcNo, argAt}
 use Rattle.table.specs.declared.Operand.{Operand}
 use Rattle.table.specs.declared.Op.{Op}
-use Rattle.table.specs.declared.Args.{Args}
 use Rattle.table.specs.declared.Node.{Node}
 use Rattle.table.specs.declared.Node.the-variants.{Absent, Start, Set, Test, Read, Call, Wait, Signal, Send, Recv, Assert, Out, Return}
 use Rattle.table.specs.declared.Slot.{Slot}
@@ -26,14 +23,14 @@ use Rattle.table.specs.declared.Table.{Table}
 use Rattle.closing.specs.ReachLaws.{cases}
 use Rattle.closing.specs.Dirty.{Fact, settingAt, useAt, dropped, blank, Clear, here, on, Dirty, by-read, by-set, by-recv, from-node, from-entry, top, passed, sent}
 use Rattle.closing.specs.DirtyLaws.{use-on}
-use Rattle.masks.specs.Bits.{bit-zero, bit-or-out, bit-or-l, bit-or-r, bit-low, bit-low-out}
-use Rattle.masks.specs.Cells.{cell, grown, sum, Masks, Grows, grows-refl, grows-trans, grown-grows, grown-masks, Sound, grown-sound, grown-same, grown-has, grown-adds, sweep, sweep-grows, sweep-fixed, sweep-below, cell-zeros}
+use Rattle.masks.specs.Bits.{bit-zero, bit-low, bit-low-out}
+use Rattle.masks.specs.Cells.{cell, grown, sum, Masks, Grows, grows-trans, grown-grows, grown-masks, Sound, grown-sound, grown-same, grown-has, grown-adds, sweep, sweep-grows, sweep-fixed, sweep-below, cell-zeros}
 use Rattle.flow.specs.declared.Flow.{Flow}
-use Rattle.flow.specs.Flow.{low, operandsDirty, afterSet, oneFlow, passedBits, sentBit, flowOf}
+use Rattle.flow.specs.Flow.{low, operandsDirty, afterSet, oneFlow, flowOf}
 use Rattle.analysis.specs.Ready.{One, FitsOperand, FitsNode, Ready}
 use Rattle.analysis.specs.Decides.{Decides}
 use Rattle.analysis.specs.Steps.{stepWith, nodeStep, procPass, topStep}
-use Rattle.analysis.specs.NodeLaws.{low-in, targets, Aims, aims, Places, flow-places, Small, flow-small, after-out, setDirty, var-mod, operands-out, operands-in, out-after, out-along, passed-of, passed-out, arg-in, arg-at, sent-of, sent-out}
+use Rattle.analysis.specs.NodeLaws.{low-in, targets, Places, flow-places, flow-small, after-out, setDirty, var-mod, operands-out, operands-in, out-after, out-along, passed-of, passed-out, arg-in, arg-at, sent-of, sent-out}
 
 -- the fact that bit v of cell a stands for
 unfoldable pub factOf : ℕ → ℕ → Fact
@@ -132,7 +129,7 @@ module _ (t : Table) (o : Ready t) where
 
     -- the target of a node's one arc
     arc-at : (x : Node) (to : ℕ) → nodeAt t p n ≡ x → arcTo x ≡ to → One to → List·Memᴰ (low to) (arcs (nodeAt t p n))
-    arc-at x to e a one = mathlib.Core.List.Memᴰ·append-left (Rattle.table.specs.Mask.members (arcNo (nodeAt t p n))) (subst (λ (m : ℕ). List·Memᴰ (low to) (Rattle.table.specs.Mask.members m)) (sym a ∙ ap arcTo (sym e)) (low-in one))
+    arc-at x to e a one = Memᴰ·append-left (members (arcNo (nodeAt t p n))) (subst (λ (m : ℕ). List·Memᴰ (low to) (members m)) (sym a ∙ ap arcTo (sym e)) (low-in one))
 
     one-plain : (x : Node) (to : ℕ) → nodeAt t p n ≡ x → sets x ≡ none → arcTo x ≡ to → One to → Flows (oneFlow to i 264 0)
     one-plain x to e s a one = record {
@@ -159,8 +156,8 @@ module _ (t : Table) (o : Ready t) where
     node-sound (Start to) e f = one-plain (Start to) to e refl refl f
     node-sound (Set w q x y to) e f = one-set (Set w q x y to) w to _ e (f .0) refl refl (f .3) (used w q x y to (f .1) (f .2) e)
     node-sound (Test q x y g s) e f = record {
-      to-first = λ v h. plain (low g) v (ap sets e) (rw e (mathlib.Core.List.Memᴰ·append-left (Rattle.table.specs.Mask.members s) (low-in (f .2)))) h;
-      to-second = λ v h. plain (low s) v (ap sets e) (rw e (mathlib.Core.List.Memᴰ·append-right (Rattle.table.specs.Mask.members g) (low-in (f .3)))) h;
+      to-first = λ v h. plain (low g) v (ap sets e) (rw e (Memᴰ·append-left (members s) (low-in (f .2)))) h;
+      to-second = λ v h. plain (low s) v (ap sets e) (rw e (Memᴰ·append-right (members g) (low-in (f .3)))) h;
       to-extra = λ v h. none-of v h;
     }
     node-sound (Read w to) e f = one-set (Read w to) w to true e (f .0) refl refl (f .1) (λ z. by-read w to e)

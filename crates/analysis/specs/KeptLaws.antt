@@ -1,11 +1,10 @@
 -- Reading the cells: each bit is what `dirty` computes, and a node is kept by its cell if and only if it is kept.
 use Prim.Native.Nat.{ℕ, _+_, _*_, _<_, _≤_}
-use native.Mathlib.Omega.{arith}
-use mathlib.Core.Path.{_≡_, refl, sym, _∙_, ap, ap₂}
+use mathlib.Core.Path.{_≡_, refl, sym, _∙_}
 use mathlib.Core.Bool.{Bool, true, false, not, _||_}
 use mathlib.Core.Logic.{_↔_}
 use mathlib.Core.List.{List, [], _∷_, _++_}
-use lib.ListN.{length, getD}
+use lib.ListN.{length}
 use Rattle.table.specs.Mask.{bit, maskOf}
 use Rattle.table.specs.MaskLaws.{maskOf-lt, bit-maskOf}
 use Rattle.table.specs.Table.{procAt, nodeAt, uses, keeping, operandUses}
@@ -14,7 +13,7 @@ use Rattle.table.specs.declared.Operand.the-variants.{Var, Const}
 use Rattle.table.specs.declared.Node.{Node}
 use Rattle.table.specs.declared.Node.the-variants.{Absent, Start, Set, Test, Read, Call, Wait, Signal, Send, Recv, Assert, Out, Return}
 use Rattle.table.specs.declared.Table.{Table}
-use Rattle.closing.specs.Dirty.{Fact, Dirty, useAt, dropped, blank}
+use Rattle.closing.specs.Dirty.{Fact, useAt, dropped, blank}
 use Rattle.closing.specs.Closing.{dirty, isDirty, anyDirty, kept}
 use Rattle.closing.specs.DirtyLaws.{dirty-is}
 use Rattle.masks.specs.Cells.{cell, Filled, filled-masks}

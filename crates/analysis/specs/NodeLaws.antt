@@ -1,45 +1,58 @@
 -- What the flow of one node has, at a node that fits: its targets are those of the node's arcs, its masks fit, and what it adds is what is passed and sent.
-use Prim.Native.Nat.{ℕ, zero, suc, _+_, _*_, _/_, _%_, _-_, _^_, _<_, _≤_}
+use Prim.Native.Nat.{ℕ, zero, suc, _%_, _^_, _<_, _≤_}
 use native.Mathlib.Omega.{arith}
 use native.Mathlib.Nat.{mod-eq-of-lt}
-use mathlib.Core.Path.{_≡_, refl, sym, _∙_, ap, ap₂, subst}
-use mathlib.Core.Bool.{Bool, true, false, not, _||_, _&&_, false≢true, true≢false}
+use mathlib.Core.Path.{_≡_, refl, sym, _∙_, ap, subst}
+use mathlib.Core.Bool.{Bool, true, false, _||_, _&&_, false≢true}
 use mathlib.Core.Logic.{_⊎_, inl, inr, _≢_}
-use mathlib.Core.Option.{Option, none, some}
+use mathlib.Core.Option.{none, some}
 use mathlib.Core.List.{List, [], _∷_, _++_, List·Memᴰ, List·Memᴰ·head, List·Memᴰ·tail, List·Memᴰ·not-nil, List·Memᴰ·append-cases, Memᴰ·append-left, Memᴰ·append-right}
 use lib.ListN.{getD, getElem?, take}
-use lib.Bits.{bitOr, bitAnd, bitXor, or-lt, and-lt, xor-lt}
+use lib.Bits.{bitOr, or-lt, and-lt, xor-lt}
 use lib.Pow.{pow-lt, pow-pos}
-use lib.Dec.{eqb, ltb}
-use lib.Count.{trailingZeros}
+use lib.Dec.{ltb}
 use borrow.Author.Tests.{ltb-true, lt-ltb}
 use Rattle.table.specs.Mask.{pick, bit, members}
 use Rattle.table.specs.MaskLaws.{members-is}
-use Rattle.table.specs.Table.{uses, sets, arcTo, arcNo, arcs, argPlaces, argAt, argList, operandUses}
+use Rattle.table.specs.Table.{sets, arcTo, arcNo, arcs, argPlaces, argAt, argList, operandUses}
 use Rattle.table.specs.declared.Operand.{Operand}
 use Rattle.table.specs.declared.Operand.the-variants.{Var, Const}
-use Rattle.table.specs.declared.Op.{Op}
 use Rattle.table.specs.declared.Args.{Args}
 use Rattle.table.specs.declared.Node.{Node}
 use Rattle.table.specs.declared.Node.the-variants.{Absent, Start, Set, Test, Read, Call, Wait, Signal, Send, Recv, Assert, Out, Return}
 use Rattle.table.specs.declared.Table.{Table}
-use Rattle.masks.specs.Bits.{bit-zero, bit-one, bit-one-out, bit-or-out, bit-or-l, bit-or-r, bit-minus, low-pow}
+use Rattle.masks.specs.Bits.{bit-zero, bit-one, bit-one-out, bit-or-out, bit-or-l, bit-or-r, bit-minus, low-is}
 use Rattle.flow.specs.declared.Flow.{Flow}
 use Rattle.flow.specs.Flow.{low, operandDirty, operandsDirty, afterSet, oneFlow, argBit, passedBits, sentBit, flowOf}
 use Rattle.closing.specs.ReachLaws.{cases}
-use Rattle.analysis.specs.Ready.{One, FitsOperand, FitsArgs, FitsNode}
+use Rattle.analysis.specs.Ready.{One, FitsOperand, FitsNode}
 
 -- ---- targets
 
-pub low-is : {to : ℕ} (o : One to) → low to ≡ o .at
-low-is {to} o = ap (λ (x : ℕ). trailingZeros 32 x % 32) (o .is) ∙ ap (λ (x : ℕ). x % 32) (low-pow 32 (o .at) (o .low)) ∙ mod-eq-of-lt (o .low)
+is-at : {to m : ℕ} (o : One to) → List·Memᴰ m (members to) → m ≡ o .at
+is-at {to} {m} o d = go (subst (List·Memᴰ m) (o .is) d)
+  where
+    go : List·Memᴰ m (o .at ∷ []) → m ≡ o .at
+    go (List·Memᴰ·head e) = e
+    go (List·Memᴰ·tail e) = absurd (List·Memᴰ·not-nil e)
+
+at-in : {to : ℕ} (o : One to) → List·Memᴰ (o .at) (members to)
+at-in {to} o = subst (List·Memᴰ (o .at)) (sym (o .is)) (List·Memᴰ·head refl)
+
+low-at : {to : ℕ} (o : One to) → low to ≡ o .at
+low-at {to} o = ap (λ (x : ℕ). x % 32) (low-is 32 to (o .at) (held .1) (held .0) none-below) ∙ mod-eq-of-lt (held .1)
+  where
+    held : (bit (o .at) to ≡ true) × (o .at < 32)
+    held = members-is (o .at) to .0 (at-in o)
+
+    none-below : (j : ℕ) → j < o .at → bit j to ≡ false
+    none-below j l = cases (bit j to) (λ e. absurd (omega (arith, is-at o (members-is j to .1 (e, omega (arith, held .1)))))) (λ e. e)
 
 pub low-in : {to : ℕ} → One to → List·Memᴰ (low to) (members to)
-low-in {to} o = members-is (low to) to .1
-    (subst (λ (m : ℕ). bit (low to) m ≡ true) (sym (o .is)) (subst (λ (k : ℕ). bit k (2 ^ o .at) ≡ true) (sym (low-is o)) (bit-one (o .at))), omega arith)
+low-in {to} o = rw (low-at o) (at-in o)
 
 pub low-only : {to m : ℕ} → One to → List·Memᴰ m (members to) → m ≡ low to
-low-only {to} {m} o h = bit-one-out m (o .at) (subst (λ (x : ℕ). bit m x ≡ true) (o .is) (members-is m to .0 h .0)) ∙ sym (low-is o)
+low-only o d = is-at o d ∙ sym (low-at o)
 
 none-in : {m : ℕ} {P : Type 0} → List·Memᴰ m (members 0) → P
 none-in {m} d = absurd (false≢true (sym (bit-zero m) ∙ members-is m 0 .0 d .0))

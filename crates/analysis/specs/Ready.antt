@@ -1,7 +1,9 @@
 -- What the closer needs of a table. Each holds of an open table without a fault.
-use Prim.Native.Nat.{ℕ, _<_, _≤_, _^_}
+use Prim.Native.Nat.{ℕ, _<_, _≤_}
 use mathlib.Core.Path.{_≡_}
+use mathlib.Core.List.{[], _∷_}
 use lib.ListN.{length}
+use Rattle.table.specs.Mask.{members}
 use Rattle.table.specs.Table.{taskAt, procAt, nodeAt, argAt}
 use Rattle.table.specs.declared.Operand.{Operand}
 use Rattle.table.specs.declared.Operand.the-variants.{Var, Const}
@@ -13,8 +15,7 @@ use Rattle.table.specs.declared.Table.{Table}
 -- an arc with one target
 pub record One (m : ℕ) : Type 0 where
   pub at : ℕ
-  pub low : at < 32
-  pub is : m ≡ 2 ^ at
+  pub is : members m ≡ at ∷ []
 
 abbrev pub FitsOperand : ℕ → Operand → Type 0
 FitsOperand vars (Var v) = v < vars

@@ -1,6 +1,6 @@
 -- A pass from the lists that the code makes on the way.
 use Prim.Native.Nat.{ℕ, _+_, _-_, _*_, _^_, _<_}
-use mathlib.Core.Path.{_≡_, refl, sym, _∙_, ap}
+use mathlib.Core.Path.{_≡_}
 use mathlib.Core.List.{List}
 use Rattle.table.specs.Table.{procAt, taskAt}
 use Rattle.table.specs.declared.Node.{Node}

@@ -11,7 +11,6 @@ ghost use lib.ListN.{length, getD, replicate};
 ghost use lib.Bits.{bitOr};
 ghost use Rattle.table.specs.Mask.{pick, maskOf};
 ghost use Rattle.masks.specs.Cells.{cell, grown, Flag, sweep, Masks};
-ghost use Rattle.masks.specs.Round.{quietAfter};
 ghost use Rattle.flow.specs.Flow.{flowOf};
 ghost use Rattle.analysis.specs.Ready.{Ready};
 ghost use Rattle.analysis.specs.Decides.{Decides, KeptMasks};
@@ -121,14 +120,6 @@ fn start(t: Table) -> [u32; 265]
     cells
 }
 
-// How many procedures in a row have had nothing new.
-fn quiet_after(fresh: bool, quiet: usize) -> usize
-    requires { ⌜ quiet < 8 ⌝ }
-    ensures { λ r. ⌜ r ≡ quietAfter fresh quiet ⌝ }
-{
-    if fresh { 0 } else { quiet + 1 }
-}
-
 // What is dirty: the procedures in turn, until all eight have had nothing new.
 pub fn dirty_cells(t: Table) -> [u32; 265]
     requires { ⌜ Ready t ⌝ }
@@ -140,7 +131,7 @@ pub fn dirty_cells(t: Table) -> [u32; 265]
     while quiet < 8 {
         let q = t.proc[p];
         let fresh = proc_pass(q, p, &mut cells);
-        quiet = quiet_after(fresh, quiet);
+        quiet = masks::quiet_after(fresh, quiet);
         p = (p + 1) % 8;
     }
     cells

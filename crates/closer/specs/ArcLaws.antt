@@ -1,30 +1,28 @@
 -- Where the code's search leads is where the arcs lead: the new arcs are the definition's.
-use Prim.Native.Nat.{ℕ, _+_, _*_, _/_, _%_, _^_, _<_, _≤_}
+use Prim.Native.Nat.{ℕ, _*_, _^_, _<_}
 use native.Mathlib.Omega.{arith}
-use mathlib.Core.Path.{_≡_, refl, sym, _∙_, ap, subst}
-use mathlib.Core.Bool.{Bool, true, false, false≢true, true≢false}
+use mathlib.Core.Path.{_≡_, refl, sym, _∙_, subst}
+use mathlib.Core.Bool.{true, false, false≢true}
 use mathlib.Core.Logic.{_⊎_, inl, inr, _↔_}
-use mathlib.Core.List.{List, [], _∷_, List·Memᴰ, List·Memᴰ·head, List·Memᴰ·tail, List·Memᴰ·not-nil, List·Memᴰ·append-cases}
-use lib.ListN.{getD}
+use mathlib.Core.List.{List, [], _∷_, List·Memᴰ, List·Memᴰ·head, List·Memᴰ·tail, List·Memᴰ·not-nil}
 use Rattle.table.specs.Mask.{bit, members, maskOf}
-use Rattle.table.specs.MaskLaws.{maskOf-lt, members-is}
+use Rattle.table.specs.MaskLaws.{maskOf-lt}
 use Rattle.table.specs.Table.{procAt, nodeAt, arcs, arcTo, arcNo, keeping}
 use Rattle.table.specs.declared.Node.{Node}
-use Rattle.table.specs.declared.Node.the-variants.{Absent}
 use Rattle.table.specs.declared.Table.{Table}
 use Rattle.closing.specs.Dirty.{Unkept, Leads, target, through}
 use Rattle.closing.specs.Closing.{dirty, kept}
 use Rattle.closing.specs.Close.{unkeptArcs, keptAmong, newArc}
 use Rattle.closing.specs.KeptLaws.{unkept-is}
 use Rattle.closing.specs.ArcLaws.{arc-is}
-use Rattle.masks.specs.Bits.{bit-zero, bit-ext}
-use Rattle.masks.specs.Cells.{cell, Filled}
+use Rattle.masks.specs.Bits.{bit-ext}
+use Rattle.masks.specs.Cells.{Filled}
 use Rattle.flow.specs.declared.Flow.{Flow}
 use Rattle.flow.specs.Flow.{low, flowOf}
-use Rattle.analysis.specs.Ready.{One, FitsNode, Ready}
+use Rattle.analysis.specs.Ready.{One, Ready}
 use Rattle.analysis.specs.Decides.{Decides}
 use Rattle.analysis.specs.Steps.{keptIn}
-use Rattle.analysis.specs.NodeLaws.{low-in, low-only, no-arc, targets, Aims, aims, Places, flow-places}
+use Rattle.analysis.specs.NodeLaws.{low-in, low-only, no-arc, targets, aims, flow-places}
 use Rattle.analysis.specs.Decide.{present}
 use Rattle.analysis.specs.KeptLaws.{same-test, kept-bit}
 use Rattle.reach.specs.Reach as Search

@@ -2,10 +2,9 @@
 use Prim.Native.Nat.{ℕ, _+_, _*_, _%_, _^_, _<_, _≤_}
 use native.Mathlib.Omega.{arith}
 use native.Mathlib.Nat.{mod-eq-of-lt}
-use mathlib.Core.Path.{_≡_, refl, sym, _∙_, ap, ap₂, subst}
-use mathlib.Core.Bool.{Bool, true, false, false≢true, _&&_}
-use mathlib.Core.Logic.{_↔_}
-use mathlib.Core.List.{List, [], _∷_}
+use mathlib.Core.Path.{_≡_, refl, sym, _∙_, ap}
+use mathlib.Core.Bool.{Bool, true, false}
+use mathlib.Core.List.{List}
 use lib.ListN.{length, getD}
 use lib.Dec.{ltb}
 use lib.Pow.{pow-lt}
@@ -23,18 +22,16 @@ use Rattle.table.specs.declared.Table.{Table}
 use Rattle.closing.specs.ReachLaws.{cases}
 use Rattle.closing.specs.Dirty.{Fact, useAt, dropped, blank}
 use Rattle.closing.specs.Closing.{dirty, isDirty, kept}
-use Rattle.closing.specs.DirtyLaws.{dirty-is}
 use Rattle.closing.specs.Close.{mapFrom, unkeptArcs, newArc, argsOr, closedNode, closedSlot, closedProc, closedQueue, closedWith, closeTable}
 use Rattle.masks.specs.Bits.{bit-ext}
 use Rattle.masks.specs.Cells.{cell}
-use Rattle.flow.specs.Flow.{low}
 use Rattle.analysis.specs.Ready.{One, FitsNode, Ready}
 use Rattle.analysis.specs.Decides.{Decides}
 use Rattle.analysis.specs.Steps.{keptIn}
 use Rattle.analysis.specs.NodeLaws.{var-mod}
 use Rattle.analysis.specs.Decide.{dropped-low}
 use Rattle.analysis.specs.KeptLaws.{read-use, read-drop, read-blank, kept-bit}
-use Rattle.closer.specs.Parts.{argWith, argsWith, nodeWith, dropIn, arcIn, slotWith, queueWith, ClosedProc}
+use Rattle.closer.specs.Parts.{argsWith, nodeWith, dropIn, arcIn, slotWith, queueWith, ClosedProc}
 use Rattle.closer.specs.ListLaws.{mapped}
 use Rattle.closer.specs.ArcLaws.{arc-right}
 

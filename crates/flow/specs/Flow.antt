@@ -1,5 +1,5 @@
 -- What one node does to the masks of dirty variables, as the code computes it.
-use Prim.Native.Nat.{ℕ, zero, suc, _+_, _%_, _^_}
+use Prim.Native.Nat.{ℕ, _+_, _%_, _^_}
 use mathlib.Core.Bool.{Bool, true, false, not, _&&_, _||_}
 use lib.Bits.{bitOr, bitAnd, bitXor}
 use lib.Count.{trailingZeros}

@@ -1,7 +1,7 @@
 -- The flow of a node from the values that the code computes on the way.
 use Prim.Native.Nat.{ℕ, _+_, _%_, _^_, _<_, _≤_}
-use mathlib.Core.Path.{_≡_, refl, sym, _∙_, ap}
-use mathlib.Core.Bool.{Bool, true, false, _||_}
+use mathlib.Core.Path.{_≡_, refl, sym, _∙_}
+use mathlib.Core.Bool.{_&&_, Bool, true, false, _||_}
 use borrow.Author.Tests.{lt-ltb, le-ltb}
 use Rattle.table.specs.Mask.{bit}
 use Rattle.table.specs.declared.Operand.{Operand}
@@ -22,7 +22,7 @@ pub arg-clean : (i len k a : ℕ) (h : Bool) → h ≡ bit (a % 32) i → h ≡ 
 unfolding argBit
 arg-clean i len k a h e f = rw (sym e ∙ f, and-false)
   where
-    and-false : (x : Bool) → mathlib.Core.Bool._&&_ x false ≡ false
+    and-false : (x : Bool) → x && false ≡ false
     and-false true = refl
     and-false false = refl
 

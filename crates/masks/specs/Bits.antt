@@ -1,16 +1,14 @@
 -- What is in the masks that code computes with `|`, `&`, `^` and shifts. So masks are sets: two with the same members are equal.
-use Prim.Native.Nat.{ℕ, zero, suc, _+_, _-_, _*_, _/_, _%_, _^_, _<_, _≤_, min, max}
+use Prim.Native.Nat.{ℕ, zero, suc, _+_, _-_, _*_, _/_, _%_, _^_, _<_, _≤_}
 use native.Mathlib.Omega.{arith}
-use native.Mathlib.Nat.{mod-lt, zero-lt-suc, div-add-mod', pow-suc, add-comm, div-one, zero-div, div-self, div-eq-of-lt, mul-mod-left, one-mul, mod-eq-of-lt, lt-of-lt-of-le, mul-div-cancel}
+use native.Mathlib.Nat.{mod-lt, zero-lt-suc, pow-suc, div-one, zero-div, div-self, div-eq-of-lt, mul-mod-left, one-mul, mod-eq-of-lt, lt-of-lt-of-le}
 use native.Mathlib.Numerals.{add-one}
-use mathlib.Core.Path.{_≡_, refl, sym, _∙_, ap, ap₂, subst}
+use mathlib.Core.Path.{_≡_, refl, sym, _∙_, ap}
 use mathlib.Core.Bool.{Bool, true, false, not, _||_, _&&_, false≢true}
 use mathlib.Core.Logic.{_⊎_, inl, inr}
-use mathlib.Core.List.{List, [], _∷_}
-use lib.ListN.{length, getD, set}
 use lib.Dec.{eqb, ltb}
-use lib.Bits.{bitAnd, bitOr, or-shr, or-mod, and-shr, and-mod, or-add-and, and-le-r, and-le-l, or-comm, or-self, bitXor, xor-shr, xor-mod, and-mask, or-shifted-r}
-use lib.Count.{trailingZeros, under}
+use lib.Bits.{bitAnd, bitOr, or-shr, or-mod, and-shr, and-mod, or-add-and, and-le-r, bitXor, xor-shr, xor-mod, and-mask, or-shifted-r}
+use lib.Count.{trailingZeros}
 use lib.Pow.{pow-pos, pow-lt, pow-mono, ones-lt, pow-add, shr-shr, shl-shr, shl-exact}
 use borrow.Author.Tests.{eqb-true, eqb-false, eq-eqb, ne-eqb, ltb-true, ltb-false}
 use Rattle.table.specs.Mask.{pick, bit, maskOf}
@@ -187,14 +185,15 @@ bit-low-out i k h = go (ltb i k) refl
         let z : (2 ^ k - 1) / 2 ^ i ≡ 0 = div-eq-of-lt (lt-of-lt-of-le (ones-lt k) (pow-mono (ltb-false i k e))) in
         absurd (omega (arith, bit-is i (2 ^ k - 1) h, ap (λ (x : ℕ). x % 2) z))
 
--- the one element of a mask
-pub low-pow : (d k : ℕ) → k < d → trailingZeros d (2 ^ k) ≡ k
+-- the least element of a mask
+pub low-is : (d m k : ℕ) → k < d → bit k m ≡ true → ((j : ℕ) → j < k → bit j m ≡ false) → trailingZeros d m ≡ k
 unfolding trailingZeros
-low-pow zero k h = absurd (omega arith)
-low-pow (suc d) zero h = refl
-low-pow (suc d) (suc k) h =
-    let e : 2 ^ suc k ≡ 2 ^ k * 2 = pow-suc 2 k in
-    ap₂ under (ap (λ (x : ℕ). x % 2) e ∙ mul-mod-left (2 ^ k) 2) (ap (λ (x : ℕ). trailingZeros d (x / 2)) e ∙ ap (trailingZeros d) (mul-div-cancel (2 ^ k) (omega arith)) ∙ low-pow d k (omega arith))
+low-is zero m k h b f = absurd (omega arith)
+low-is (suc d) m zero h b f = let e : m % 2 ≡ 1 = eqb-true (m % 2) 1 (sym (one-bit m) ∙ b) in rw e
+low-is (suc d) m (suc k) h b f =
+    let e : m % 2 ≡ 0 = omega (arith, lt2 m, eqb-false (m % 2) 1 (sym (one-bit m) ∙ f 0 (omega arith))) in
+    let r : trailingZeros d (m / 2) ≡ k = low-is d (m / 2) k (omega arith) (bit-half k m ∙ b) (λ j l. bit-half j m ∙ f (suc j) (omega arith)) in
+    rw (e, r)
 
 -- the mask of a test, by one more number
 pub mask-next : (f : ℕ → Bool) (n m : ℕ) (yes' : Bool) {r : ℕ} → m ≡ maskOf n f → yes' ≡ f n → r ≡ pick yes' (bitOr m (1 * 2 ^ n)) m → r ≡ maskOf (n + 1) f

@@ -1,10 +1,11 @@
 -- A list of masks that only grows, and sweeps over it until nothing is new.
-use Prim.Native.Nat.{ℕ, zero, suc, _+_, _-_, _*_, _<_, _≤_, _^_}
+use Prim.Native.Nat.{ℕ, zero, suc, _+_, _*_, _<_, _≤_, _^_}
 use native.Mathlib.Omega.{arith}
+use native.Mathlib.Nat.{suc-mul}
 use native.Mathlib.Numerals.{add-one}
-use mathlib.Core.Path.{_≡_, refl, sym, _∙_, ap, ap₂, subst}
+use mathlib.Core.Path.{_≡_, refl, sym, _∙_, ap, subst}
 use mathlib.Core.Bool.{Bool, true, false, not, _||_, false≢true, true≢false}
-use mathlib.Core.Logic.{_⊎_, inl, inr, _≢_}
+use mathlib.Core.Logic.{_⊎_, inl, inr}
 use mathlib.Core.List.{List, [], _∷_}
 use lib.ListN.{length, getD, set, replicate, length-set, List·getD-eq-default}
 use lib.Seq.{getD-set-same, getD-set-other, set-out, set-getD}
@@ -13,7 +14,7 @@ use lib.Pow.{pow-pos}
 use lib.Dec.{eqb, ltb}
 use borrow.Author.Tests.{eqb-true, eqb-false, ltb-true, ltb-false, not-true, not-false}
 use Rattle.table.specs.Mask.{bit}
-use Rattle.masks.specs.Bits.{bit-zero, le-or, bit-or-out, bit-or-l, bit-or-r}
+use Rattle.masks.specs.Bits.{le-or, bit-or-out, bit-or-l, bit-or-r}
 
 abbrev pub cell : List ℕ → ℕ → ℕ
 cell l a = getD l a 0
@@ -35,7 +36,7 @@ sum-set (x ∷ l) (suc a) v h = omega (arith, sum-set l a v (omega arith))
 pub sum-bound : (n : ℕ) (l : List ℕ) → ((a : ℕ) → cell l a < n) → sum l ≤ length l * n
 unfolding sum
 sum-bound n [] h = omega arith
-sum-bound n (x ∷ l) h = rw native.Mathlib.Nat.suc-mul (omega (arith, h 0, sum-bound n l (λ a. h (suc a))))
+sum-bound n (x ∷ l) h = rw suc-mul (omega (arith, h 0, sum-bound n l (λ a. h (suc a))))
 
 -- l′ has at least l's masks; the sum of the numbers tells whether it has more
 pub record Grows (l l′ : List ℕ) : Type 0 where
@@ -156,13 +157,6 @@ pub record Masks (n w : ℕ) (l : List ℕ) : Type 0 where
 abbrev pub Filled : (ℕ → ℕ) → ℕ → List ℕ → Type 0
 Filled f n l = (a : ℕ) → a < n → getD l a 0 ≡ f a
 
-pub filled-more : (f : ℕ → ℕ) (n v : ℕ) (l : List ℕ) → n < length l → v ≡ f n → Filled f n l → Filled f (n + 1) (set l n v)
-filled-more f n v l i e h a b = go (eqb a n) refl
-  where
-    go : (x : Bool) → eqb a n ≡ x → getD (set l n v) a 0 ≡ f a
-    go true q = let z : a ≡ n = eqb-true a n q in rw (z, getD-set-same l n v 0 i) e
-    go false q = getD-set-other l n a v 0 (eqb-false a n q) ∙ h a (omega (arith, eqb-false a n q))
-
 pub filled-masks : (f : ℕ → ℕ) (n w : ℕ) (l : List ℕ) → length l ≡ n → Filled f n l → ((a : ℕ) → a < n → f a < 2 ^ w) → Masks n w l
 filled-masks f n w l e h b = record { size = e; below = λ a. go a (ltb a n) refl }
   where
@@ -195,11 +189,6 @@ module _ (step : List ℕ → ℕ → List ℕ) where
   unfolding sweep
   sweep-more l₀ i p q = rw add-one (q ∙ ap (λ (x : List ℕ). step x i) p)
 
-  pub sweep-sound : (P : List ℕ → Type 0) → ((l : List ℕ) (i : ℕ) → P l → P (step l i)) → (n : ℕ) (l : List ℕ) → P l → P (sweep n l)
-  unfolding sweep
-  sweep-sound P f zero l p = p
-  sweep-sound P f (suc n) l p = f (sweep n l) n (sweep-sound P f n l p)
-
   pub sweep-below : (P : List ℕ → Type 0) (b : ℕ) → ((l : List ℕ) (i : ℕ) → i < b → P l → P (step l i)) → (n : ℕ) → n ≤ b → (l : List ℕ) → P l → P (sweep n l)
   unfolding sweep
   sweep-below P b f zero h l p = p
@@ -231,29 +220,14 @@ cell-zeros zero a = refl
 cell-zeros (suc n) zero = refl
 cell-zeros (suc n) (suc a) = cell-zeros n a
 
--- the list of f's values
+-- a list that is filled place by place: P holds at the places so far, and at one more
 module _ {A : Type 0} where
-  unfoldable pub tabulate : ℕ → (ℕ → A) → List A
-  tabulate zero f = []
-  tabulate (suc n) f = f 0 ∷ tabulate n (λ k. f (suc k))
-
-  pub tabulated : (d : A) (f : ℕ → A) (n : ℕ) (l : List A) → length l ≡ n → ((a : ℕ) → a < n → getD l a d ≡ f a) → l ≡ tabulate n f
-  unfolding tabulate
-  tabulated d f zero [] e h = refl
-  tabulated d f zero (x ∷ l) e h = absurd (omega arith)
-  tabulated d f (suc n) [] e h = absurd (omega arith)
-  tabulated d f (suc n) (x ∷ l) e h = ap₂ (λ (y : A) (m : List A). y ∷ m) (h 0 (omega arith)) (tabulated d (λ k. f (suc k)) n l (omega arith) (λ a b. h (suc a) (omega arith)))
-
-  pub set-more : (d : A) (f : ℕ → A) (n : ℕ) (v : A) (l : List A) → n < length l → v ≡ f n → ((a : ℕ) → a < n → getD l a d ≡ f a) → (a : ℕ) → a < n + 1 → getD (set l n v) a d ≡ f a
-  set-more d f n v l i e h a b = go (eqb a n) refl
-    where
-      go : (x : Bool) → eqb a n ≡ x → getD (set l n v) a d ≡ f a
-      go true q = let z : a ≡ n = eqb-true a n q in rw (z, getD-set-same l n v d i) e
-      go false q = getD-set-other l n a v d (eqb-false a n q) ∙ h a (omega (arith, eqb-false a n q))
-
   pub set-each : (d : A) (P : ℕ → A → Type 0) (n : ℕ) (v : A) (l : List A) → n < length l → P n v → ((a : ℕ) → a < n → P a (getD l a d)) → (a : ℕ) → a < n + 1 → P a (getD (set l n v) a d)
   set-each d P n v l i e h a b = go (eqb a n) refl
     where
       go : (x : Bool) → eqb a n ≡ x → P a (getD (set l n v) a d)
       go true q = let z : a ≡ n = eqb-true a n q in rw (z, getD-set-same l n v d i) e
       go false q = rw (getD-set-other l n a v d (eqb-false a n q)) (h a (omega (arith, eqb-false a n q)))
+
+  pub set-more : (d : A) (f : ℕ → A) (n : ℕ) (v : A) (l : List A) → n < length l → v ≡ f n → ((a : ℕ) → a < n → getD l a d ≡ f a) → (a : ℕ) → a < n + 1 → getD (set l n v) a d ≡ f a
+  set-more d f = set-each d (λ a x. x ≡ f a)

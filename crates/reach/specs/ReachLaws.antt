@@ -1,18 +1,18 @@
 -- The cells say exactly where each node leads, once a step at each node has found nothing new.
-use Prim.Native.Nat.{ℕ, zero, suc, _+_, _-_, _*_, _%_, _<_, _≤_, _^_}
+use Prim.Native.Nat.{ℕ, _-_, _<_, _≤_, _^_}
 use native.Mathlib.Omega.{arith}
-use mathlib.Core.Path.{_≡_, refl, sym, _∙_, ap, subst}
-use mathlib.Core.Bool.{Bool, true, false, false≢true, true≢false}
+use mathlib.Core.Path.{_≡_, refl, sym, _∙_, subst}
+use mathlib.Core.Bool.{Bool, true, false, false≢true}
 use mathlib.Core.Logic.{_⊎_, inl, inr}
-use mathlib.Core.List.{List, [], _∷_}
-use lib.ListN.{length, getD, List·getD-eq-default}
-use lib.Bits.{bitOr, bitAnd, or-lt}
+use mathlib.Core.List.{List}
+use lib.ListN.{List·getD-eq-default}
+use lib.Bits.{bitOr, or-lt}
 use lib.Dec.{ltb}
 use borrow.Author.Tests.{ltb-true, ltb-false}
 use Rattle.table.specs.Mask.{pick, bit}
 use Rattle.masks.specs.Bits.{bit-zero, bit-one, bit-one-out, bit-and-out, bit-and-in, bit-or-out, bit-or-l, bit-or-r}
-use Rattle.masks.specs.Cells.{cell, grown, sum, Masks, masks-sum, Grows, grows-refl, grown-grows, grown-masks, Sound, grown-sound, grown-same, grown-has, Flag}
-use Rattle.masks.specs.Round.{quietAfter, Quiet, quiet-none, quiet-more, quiet-all}
+use Rattle.masks.specs.Cells.{cell, grown, Masks, grown-masks, Sound, grown-sound, grown-same, grown-has}
+use Rattle.masks.specs.Round.{Round, all-still}
 use Rattle.reach.specs.Reach.{firstOf, secondOf, IsEnd, Leads, here, via, Reaches, Own, stepOf}
 
 module _ (kept : ℕ) (ends : List ℕ) where
@@ -22,7 +22,7 @@ module _ (kept : ℕ) (ends : List ℕ) where
     pub sound : Sound (Leads kept ends) l
     pub own : (i : ℕ) → i < 32 → bit i kept ≡ true → bit i (cell l i) ≡ true
 
-  own-good : {l : List ℕ} → Own kept l → Good l
+  pub own-good : {l : List ℕ} → Own kept l → Good l
   unfolding Sound
   own-good {l} s = record { masks = s .masks; sound = λ a k h. go a k h (ltb a 32) refl; own = λ i b h. rw (s .own i b) (bit-and-in i kept (2 ^ i) h (bit-one i)) }
     where
@@ -82,44 +82,15 @@ module _ (kept : ℕ) (ends : List ℕ) where
 
   -- ---- the round over the nodes, the last first
 
-  -- how far the round is: it goes down with every step
-  abbrev pub ahead : List ℕ → ℕ → ℕ
-  ahead l quiet = (32 * 2 ^ 32 - sum l) * 33 + (32 - quiet)
+  abbrev pub stepAt : ℕ → List ℕ → List ℕ
+  stepAt i l = stepOf kept ends l (31 - i)
 
-  abbrev Still : List ℕ → ℕ → Type 0
-  Still l i = stepOf kept ends l (31 - i) ≡ l
+  pub stays-good : (i : ℕ) → i < 32 → (l : List ℕ) → Good l → Good (stepAt i l)
+  stays-good i h l g = step-good l (31 - i) g
 
-  pub record Round (l : List ℕ) (i quiet : ℕ) : Type 0 where
-    pub low : i < 32
-    pub most : quiet ≤ 32
-    pub good : Good l
-    pub still : Quiet (Still l) 32 i quiet
+  abbrev pub InRound : List ℕ → ℕ → ℕ → Type 0
+  InRound = Round stepAt 32 32 Good (λ l g. g .masks) stays-good
 
-  pub begin : {l : List ℕ} → Own kept l → Round l 0 0
-  begin {l} s = record { low = omega arith; most = omega arith; good = own-good s; still = quiet-none (Still l) 32 0 }
-
-  module _ {l l′ : List ℕ} {fresh : Bool} {i quiet : ℕ} (r : Round l i quiet) (e : l′ ≡ stepOf kept ends l (31 - i)) (f : Flag l l′ fresh) (h : quiet < 32) where
-    next-good : Good l′
-    next-good = rw e (step-good l (31 - i) (r .good))
-
-    pub next-round : (q : ℕ) → q ≡ quietAfter fresh quiet → Round l′ ((i + 1) % 32) q
-    next-round q z = record { low = omega arith; most = most-of fresh z; good = next-good; still = still-of fresh refl z }
-      where
-        most-of : (b : Bool) → q ≡ quietAfter b quiet → q ≤ 32
-        most-of true y = omega arith
-        most-of false y = omega arith
-
-        still-of : (b : Bool) → fresh ≡ b → q ≡ quietAfter b quiet → Quiet (Still l′) 32 ((i + 1) % 32) q
-        still-of true x y = rw y (quiet-none (Still l′) 32 ((i + 1) % 32))
-        still-of false x y = let s : l′ ≡ l = f .same x in
-            rw (y, s) (quiet-more (Still l) 32 i ((i + 1) % 32) quiet (r .low) refl (sym e ∙ s) (r .still))
-
-    pub next-less : (q : ℕ) → q ≡ quietAfter fresh quiet → ahead l′ q < ahead l quiet
-    next-less q z = go fresh refl z
-      where
-        go : (b : Bool) → fresh ≡ b → q ≡ quietAfter b quiet → ahead l′ q < ahead l quiet
-        go true x y = let m = f .more x in let k = masks-sum (next-good .masks) in omega arith
-        go false x y = let s : sum l′ ≡ sum l = ap sum (f .same x) in omega arith
-
-  pub end : {l : List ℕ} {i quiet : ℕ} → Round l i quiet → 32 ≤ quiet → Reaches kept ends l
-  end {l} {i} {quiet} r h = decided l (r .good) (λ n b. let z : 31 - (31 - n) ≡ n = omega arith in subst (λ (m : ℕ). stepOf kept ends l m ≡ l) z (quiet-all (Still l) 32 i quiet (r .low) h (r .still) (31 - n) (omega arith)))
+  pub end : {l : List ℕ} {i quiet : ℕ} → InRound l i quiet → 32 ≤ quiet → Reaches kept ends l
+  end {l} r h = decided l (r .good) (λ n b. let z : 31 - (31 - n) ≡ n = omega arith in
+      subst (λ (m : ℕ). stepOf kept ends l m ≡ l) z (all-still stepAt 32 32 Good (λ l g. g .masks) stays-good r h (31 - n) (omega arith)))

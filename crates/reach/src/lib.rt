@@ -3,7 +3,6 @@ ghost use mathlib.Core.Path.{_≡_};
 ghost use Prim.Native.Nat.{ℕ, _<_};
 ghost use lib.ListN.{length};
 ghost use Rattle.masks.specs.Cells.{grown, Flag};
-ghost use Rattle.masks.specs.Round.{quietAfter};
 ghost use Rattle.reach.specs.Reach.{stepOf, Own, Reaches};
 
 // The mask m is added to the cell a; the answer says whether something was new.
@@ -47,14 +46,6 @@ fn own(kept: u32) -> [u32; 32]
     cells
 }
 
-// How many nodes in a row have had nothing new.
-fn quiet_after(fresh: bool, quiet: usize) -> usize
-    requires { ⌜ quiet < 32 ⌝ }
-    ensures { λ r. ⌜ r ≡ quietAfter fresh quiet ⌝ }
-{
-    if fresh { 0 } else { quiet + 1 }
-}
-
 // For each node the kept nodes that it leads to through nodes that are not kept. ends has the two targets of each node,
 // 32 times the first plus the second. The nodes in turn, the last first, until all have had nothing new.
 pub fn reach(kept: u32, ends: &[u32; 32]) -> [u32; 32]
@@ -65,7 +56,7 @@ pub fn reach(kept: u32, ends: &[u32; 32]) -> [u32; 32]
     let mut quiet: usize = 0;
     while quiet < 32 {
         let fresh = step(kept, ends, 31 - i, &mut cells);
-        quiet = quiet_after(fresh, quiet);
+        quiet = masks::quiet_after(fresh, quiet);
         i = (i + 1) % 32;
     }
     cells

@@ -1,16 +1,12 @@
 use Rattle.analysis.specs.Steps.{keptIn}
 use Rattle.masks.specs.Bits.{mask-next}
 use Rattle.table.specs.Mask.{maskOf}
-use Prim.Native.Nat.{ℕ, _≤_, _<_, _-_}
-use mathlib.Core.Path.{_≡_, refl, sym, _∙_, ap}
+use Prim.Native.Nat.{_≤_, _-_}
+use mathlib.Core.Path.{_≡_, refl}
 use borrow.Author.Needs.{needs}
 use native.Mathlib.Omega.{arith}
 use Rattle.analysis.proofs.kept_mask.Statement.{statement}
 use Rattle.analysis.proofs.kept_mask.Tie as tie
-use Rattle.analysis.proofs.kept_mask.Reads as reads
-use Rattle.analysis.proofs.kept_mask.Lts as lts
-use Rattle.analysis.proofs.with.Reads as with-reads
-use Rattle.flow.proofs.kept_node.Reads as kept-node-reads
 
 abbrev Inv-loop : tie.InvT-loop
 Inv-loop base cells q m₀ n₀ m n = (n ≤ 32) × (m ≡ maskOf n (keptIn q base cells))
@@ -18,52 +14,40 @@ Inv-loop base cells q m₀ n₀ m n = (n ≤ 32) × (m ≡ maskOf n (keptIn q ba
 abbrev μ-loop : tie.MeasureT-loop
 μ-loop base cells q m₀ n₀ m n = 32 - n
 
--- src/lib.rt:164:5
 loop-holds : tie.Need-loop-holds Inv-loop μ-loop
 unfolding maskOf
 loop-holds c = (search needs, refl)
 
--- src/lib.rt:165:17
 mul-s : tie.Need-mul-s Inv-loop μ-loop
 mul-s c = search needs
 
--- src/lib.rt:165:17
 element-copy-out-s : tie.Need-element-copy-out-s Inv-loop μ-loop
 element-copy-out-s c = search needs
 
--- src/lib.rt:167:18
 add-at : tie.Need-add-at Inv-loop μ-loop
 add-at c = search needs
 
--- src/lib.rt:168:17
 mul-i : tie.Need-mul-i Inv-loop μ-loop
 mul-i c = search needs
 
--- src/lib.rt:168:17
 element-copy-out-i : tie.Need-element-copy-out-i Inv-loop μ-loop
 element-copy-out-i c = search needs
 
--- src/lib.rt:169:13
 kept-node-requires : tie.Need-kept-node-requires Inv-loop μ-loop
 kept-node-requires c κs = search needs
 
--- src/lib.rt:170:9
 with-requires : tie.Need-with-requires Inv-loop μ-loop
 with-requires c κs = search needs
 
--- src/lib.rt:171:9
 add-n : tie.Need-add-n Inv-loop μ-loop
 add-n c = search needs
 
--- src/lib.rt:164:5
 loop-less : tie.Need-loop-less Inv-loop μ-loop
 loop-less c = search needs
 
--- src/lib.rt:164:5
 loop-again : tie.Need-loop-again Inv-loop μ-loop
 loop-again c = let h = c .before .before .before .before .before .loop in (omega arith, mask-next _ (h .n) (h .m) _ (h .inv .1) (c .before .kept-node .ensures) (c .with .ensures))
 
--- src/lib.rt:158:1
 returns : tie.Need-returns Inv-loop μ-loop
 returns c = let h = c .before .loop in let z : h .n ≡ 32 = omega arith in rw z at (h .inv .1)
 

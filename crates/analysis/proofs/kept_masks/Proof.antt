@@ -1,20 +1,15 @@
 use Rattle.analysis.specs.KeptLaws.{kept-masks}
 use Rattle.analysis.specs.Steps.{keptIn}
-use Rattle.masks.specs.Cells.{Filled, filled-more}
+use Rattle.masks.specs.Cells.{Filled, set-more}
 use Rattle.table.specs.Table.{procAt}
 use Rattle.table.specs.Mask.{maskOf}
 use lib.ListN.{length, length-set, length-replicate}
-use Prim.Native.Nat.{_*_}
-use Prim.Native.Nat.{ℕ, _≤_, _<_, _-_}
-use mathlib.Core.Path.{_≡_, refl, sym, _∙_, ap}
+use Prim.Native.Nat.{_*_, ℕ, _≤_, _-_}
+use mathlib.Core.Path.{_≡_}
 use borrow.Author.Needs.{needs}
 use native.Mathlib.Omega.{arith}
 use Rattle.analysis.proofs.kept_masks.Statement.{statement}
 use Rattle.analysis.proofs.kept_masks.Tie as tie
-use Rattle.analysis.proofs.kept_masks.Reads as reads
-use Rattle.analysis.proofs.kept_masks.Lts as lts
-use Rattle.analysis.proofs.dirty_cells.Reads as dirty-cells-reads
-use Rattle.analysis.proofs.kept_mask.Reads as kept-mask-reads
 
 abbrev Inv-loop : tie.InvT-loop
 Inv-loop t cells r₀ p₀ r p = (p ≤ 8) × ((length r ≡ 8) × Filled (λ j. maskOf 32 (keptIn (procAt t j) (j * 32) cells)) p r)
@@ -22,51 +17,39 @@ Inv-loop t cells r₀ p₀ r p = (p ≤ 8) × ((length r ≡ 8) × Filled (λ j.
 abbrev μ-loop : tie.MeasureT-loop
 μ-loop t cells r₀ p₀ r p = 8 - p
 
--- src/lib.rt:181:17
 dirty-cells-requires : tie.Need-dirty-cells-requires Inv-loop μ-loop
 dirty-cells-requires c κs = c .pre
 
--- src/lib.rt:184:5
 loop-holds : tie.Need-loop-holds Inv-loop μ-loop
 loop-holds c = (search needs, (length-replicate {A = ℕ} 8 0, λ a h. absurd (omega arith)))
 
--- src/lib.rt:185:17
 mul-q : tie.Need-mul-q Inv-loop μ-loop
 mul-q c = search needs
 
--- src/lib.rt:185:17
 element-copy-out-q : tie.Need-element-copy-out-q Inv-loop μ-loop
 element-copy-out-q c = search needs
 
--- src/lib.rt:186:29
 mul-kept-mask : tie.Need-mul-kept-mask Inv-loop μ-loop
 mul-kept-mask c = search needs
 
--- src/lib.rt:186:16
 kept-mask-requires : tie.Need-kept-mask-requires Inv-loop μ-loop
 kept-mask-requires c κs = search needs
 
--- src/lib.rt:186:9
 mul-r : tie.Need-mul-r Inv-loop μ-loop
 mul-r c = search needs
 
--- src/lib.rt:186:9
 array-write-r : tie.Need-array-write-r Inv-loop μ-loop
 array-write-r c = search needs
 
--- src/lib.rt:187:9
 add-p : tie.Need-add-p Inv-loop μ-loop
 add-p c = search needs
 
--- src/lib.rt:184:5
 loop-less : tie.Need-loop-less Inv-loop μ-loop
 loop-less c = search needs
 
--- src/lib.rt:184:5
 loop-again : tie.Need-loop-again Inv-loop μ-loop
-loop-again c = let h = c .before .before .before .before .loop in (omega arith, (simp length-set (h .inv .1 .0), filled-more _ (h .p) _ (h .r) (omega arith) (c .kept-mask .ensures) (h .inv .1 .1)))
+loop-again c = let h = c .before .before .before .before .loop in (omega arith, (simp length-set (h .inv .1 .0), set-more 0 _ (h .p) _ (h .r) (omega arith) (c .kept-mask .ensures) (h .inv .1 .1)))
 
--- src/lib.rt:177:1
 returns : tie.Need-returns Inv-loop μ-loop
 returns c = let h = c .before .loop in let z : h .p ≡ 8 = omega arith in kept-masks _ (c .before .before .before .pre) _ (c .before .before .dirty-cells .ensures) (h .r) (h .inv .1 .0) (rw z at (h .inv .1 .1))
 

@@ -2,15 +2,12 @@ use Rattle.analysis.specs.Steps.{nodeStep}
 use Rattle.masks.specs.Cells.{Flag, sweep, flag-refl, flag-set, flag-keep, sweep-more}
 use mathlib.Core.Logic.{⊎-elim}
 use lib.ListN.{length}
-use Prim.Native.Nat.{ℕ, _≤_, _<_, _-_}
-use mathlib.Core.Path.{_≡_, refl, sym, _∙_, ap}
+use Prim.Native.Nat.{_≤_, _-_}
+use mathlib.Core.Path.{_≡_, refl, _∙_}
 use borrow.Author.Needs.{needs}
 use native.Mathlib.Omega.{arith}
 use Rattle.analysis.proofs.nodes_pass.Statement.{statement}
 use Rattle.analysis.proofs.nodes_pass.Tie as tie
-use Rattle.analysis.proofs.nodes_pass.Reads as reads
-use Rattle.analysis.proofs.nodes_pass.Lts as lts
-use Rattle.analysis.proofs.node_step.Reads as node-step-reads
 
 abbrev Inv-loop : tie.InvT-loop
 Inv-loop base cells₀ q fresh₀ n₀ cells fresh n = (n ≤ 32) × ((cells ≡ sweep (nodeStep q base) n cells₀) × (Flag cells₀ cells fresh × (length cells ≡ 265)))
@@ -18,32 +15,25 @@ Inv-loop base cells₀ q fresh₀ n₀ cells fresh n = (n ≤ 32) × ((cells ≡
 abbrev μ-loop : tie.MeasureT-loop
 μ-loop base cells₀ q fresh₀ n₀ cells fresh n = 32 - n
 
--- src/lib.rt:72:5
 loop-holds : tie.Need-loop-holds Inv-loop μ-loop
 unfolding sweep
 loop-holds c = (search needs, (refl, (flag-refl _, c .pre .1)))
 
--- src/lib.rt:73:17
 mul-s : tie.Need-mul-s Inv-loop μ-loop
 mul-s c = search needs
 
--- src/lib.rt:73:17
 element-copy-out-s : tie.Need-element-copy-out-s Inv-loop μ-loop
 element-copy-out-s c = search needs
 
--- src/lib.rt:75:12
 node-step-requires : tie.Need-node-step-requires Inv-loop μ-loop
 node-step-requires c κs = (c .before .before .before .before .pre .0, (c .before .before .loop-test .taken, c .before .before .before .loop .inv .1 .1 .1))
 
--- src/lib.rt:78:9
 add-n : tie.Need-add-n Inv-loop μ-loop
 add-n c = search needs
 
--- src/lib.rt:72:5
 loop-less : tie.Need-loop-less Inv-loop μ-loop
 loop-less c = search needs
 
--- src/lib.rt:72:5
 loop-again : tie.Need-loop-again Inv-loop μ-loop
 unfolding nodeStep
 loop-again c = let s = c .before .node-step in
@@ -58,7 +48,6 @@ loop-again c = let s = c .before .node-step in
       ),
     )
 
--- src/lib.rt:65:1
 returns : tie.Need-returns Inv-loop μ-loop
 returns c = let h = c .before .loop in let z : h .n ≡ 32 = omega arith in (rw z at (h .inv .1 .0), h .inv .1 .1 .0)
 

@@ -1,27 +1,20 @@
 use Rattle.masks.specs.Bits.{one-shl}
 use native.Mathlib.Nat.{one-mul}
 use lib.Bits.{bitOr}
-use mathlib.Core.Path.{_≡_, refl, sym, _∙_, ap}
-use native.Mathlib.Omega.{arith}
+use mathlib.Core.Path.{sym, _∙_, ap}
 use borrow.Author.Needs.{needs}
 use Rattle.analysis.proofs.with.Statement.{statement}
 use Rattle.analysis.proofs.with.Tie as tie
-use Rattle.analysis.proofs.with.Reads as reads
-use Rattle.analysis.proofs.with.Lts as lts
 
--- src/lib.rt:154:25
 cast-result : tie.Need-cast-result
 cast-result c = search needs
 
--- src/lib.rt:154:19
 shl-result : tie.Need-shl-result
 shl-result c = search needs
 
--- src/lib.rt:150:1
 returns : tie.Need-returns
 returns c = rw (c .if1 .taken) (ap (bitOr (c .before .args .m)) (one-shl 32 (c .before .args .n) (c .before .pre) ∙ sym (one-mul _)))
 
--- src/lib.rt:150:1
 returns-2 : tie.Need-returns-2
 returns-2 c = rw (c .if1 .left)
 

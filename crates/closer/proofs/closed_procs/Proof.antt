@@ -3,14 +3,11 @@ use Rattle.masks.specs.Cells.{set-each}
 use Rattle.table.specs.Table.{procAt, outside}
 use lib.ListN.{length, length-set, getD}
 use Prim.Native.Nat.{ℕ, _≤_, _<_, _-_}
-use mathlib.Core.Path.{_≡_, refl, sym, _∙_, ap, ap₂}
+use mathlib.Core.Path.{_≡_, refl}
 use borrow.Author.Needs.{needs}
 use native.Mathlib.Omega.{arith}
 use Rattle.closer.proofs.closed_procs.Statement.{statement}
 use Rattle.closer.proofs.closed_procs.Tie as tie
-use Rattle.closer.proofs.closed_procs.Reads as reads
-use Rattle.closer.proofs.closed_procs.Lts as lts
-use Rattle.closer.proofs.closed_proc.Reads as closed-proc-reads
 
 abbrev Inv-loop : tie.InvT-loop
 Inv-loop cells t r₀ p₀ r p = (p ≤ 8) × ((length r ≡ 8) × ((a : ℕ) → a < p → ClosedProc (procAt t a) a cells (getD r a outside)))
@@ -18,43 +15,33 @@ Inv-loop cells t r₀ p₀ r p = (p ≤ 8) × ((length r ≡ 8) × ((a : ℕ) �
 abbrev μ-loop : tie.MeasureT-loop
 μ-loop cells t r₀ p₀ r p = 8 - p
 
--- src/lib.rt:247:5
 loop-holds : tie.Need-loop-holds Inv-loop μ-loop
 loop-holds c = (search needs, (refl, λ a h. absurd (omega arith)))
 
--- src/lib.rt:248:17
 mul-q : tie.Need-mul-q Inv-loop μ-loop
 mul-q c = search needs
 
--- src/lib.rt:248:17
 element-copy-out-q : tie.Need-element-copy-out-q Inv-loop μ-loop
 element-copy-out-q c = search needs
 
--- src/lib.rt:249:13
 closed-proc-requires : tie.Need-closed-proc-requires Inv-loop μ-loop
 closed-proc-requires c κs = search needs
 
--- src/lib.rt:250:9
 mul-r : tie.Need-mul-r Inv-loop μ-loop
 mul-r c = search needs
 
--- src/lib.rt:250:9
 array-set-from-r : tie.Need-array-set-from-r Inv-loop μ-loop
 array-set-from-r c = search needs
 
--- src/lib.rt:251:9
 add-p : tie.Need-add-p Inv-loop μ-loop
 add-p c = search needs
 
--- src/lib.rt:247:5
 loop-less : tie.Need-loop-less Inv-loop μ-loop
 loop-less c = search needs
 
--- src/lib.rt:247:5
 loop-again : tie.Need-loop-again Inv-loop μ-loop
 loop-again c = let h = c .before .before .before .loop in (omega arith, (simp length-set (h .inv .1 .0), set-each outside (λ a r. ClosedProc (procAt (c .before .before .before .before .args .t1) a) a (c .before .before .before .before .args .cells .now) r) (h .p) _ (h .r) (omega arith) (c .closed-proc .ensures) (h .inv .1 .1)))
 
--- src/lib.rt:235:1
 returns : tie.Need-returns Inv-loop μ-loop
 returns c = let h = c .before .loop in let z : h .p ≡ 8 = omega arith in (h .inv .1 .0, λ p b. h .inv .1 .1 p (rw z b))
 

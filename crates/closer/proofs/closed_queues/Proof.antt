@@ -1,18 +1,14 @@
 use Rattle.closer.specs.Parts.{queueWith}
 use Rattle.masks.specs.Cells.{set-more}
 use Rattle.table.specs.Table.{noQueue}
-use Rattle.table.specs.declared.Queue.{Queue}
 use lib.ListN.{length, length-set, length-replicate, getD}
 use mathlib.Core.Bool.{Bool}
 use Prim.Native.Nat.{ℕ, _≤_, _<_, _-_}
-use mathlib.Core.Path.{_≡_, refl, sym, _∙_, ap, ap₂}
+use mathlib.Core.Path.{_≡_, ap}
 use borrow.Author.Needs.{needs}
 use native.Mathlib.Omega.{arith}
 use Rattle.closer.proofs.closed_queues.Statement.{statement}
 use Rattle.closer.proofs.closed_queues.Tie as tie
-use Rattle.closer.proofs.closed_queues.Reads as reads
-use Rattle.closer.proofs.closed_queues.Lts as lts
-use Rattle.flow.proofs.has.Reads as has-reads
 
 abbrev Inv-loop : tie.InvT-loop
 Inv-loop b t r₀ i₀ r i = (i ≤ 8) × ((length r ≡ 8) × ((a : ℕ) → a < i → getD r a noQueue ≡ queueWith b a (getD (t .queue) a noQueue)))
@@ -20,47 +16,36 @@ Inv-loop b t r₀ i₀ r i = (i ≤ 8) × ((length r ≡ 8) × ((a : ℕ) → a 
 abbrev μ-loop : tie.MeasureT-loop
 μ-loop b t r₀ i₀ r i = 8 - i
 
--- src/lib.rt:265:5
 loop-holds : tie.Need-loop-holds Inv-loop μ-loop
 loop-holds c = (search needs, (length-replicate 8 noQueue, λ a h. absurd (omega arith)))
 
--- src/lib.rt:266:17
 mul-q : tie.Need-mul-q Inv-loop μ-loop
 mul-q c = search needs
 
--- src/lib.rt:266:17
 element-copy-out-q : tie.Need-element-copy-out-q Inv-loop μ-loop
 element-copy-out-q c = search needs
 
--- src/lib.rt:267:34
 cast-has : tie.Need-cast-has Inv-loop μ-loop
 cast-has c = search needs
 
--- src/lib.rt:267:13
 has-requires : tie.Need-has-requires Inv-loop μ-loop
 has-requires c κs = search needs
 
--- src/lib.rt:268:9
 mul-r : tie.Need-mul-r Inv-loop μ-loop
 mul-r c = search needs
 
--- src/lib.rt:268:9
 array-set-from-r : tie.Need-array-set-from-r Inv-loop μ-loop
 array-set-from-r c = search needs
 
--- src/lib.rt:269:9
 add-i : tie.Need-add-i Inv-loop μ-loop
 add-i c = search needs
 
--- src/lib.rt:265:5
 loop-less : tie.Need-loop-less Inv-loop μ-loop
 loop-less c = search needs
 
--- src/lib.rt:265:5
 loop-again : tie.Need-loop-again Inv-loop μ-loop
 loop-again c = let h = c .before .before .before .loop in (omega arith, (simp length-set (h .inv .1 .0), set-more noQueue _ (h .i) _ (h .r) (omega arith) (ap (λ (x : Bool). record { cap = getD (c .before .before .before .before .args .t1 .queue) (h .i) noQueue .cap; blank = x }) (c .has .ensures)) (h .inv .1 .1)))
 
--- src/lib.rt:257:1
 returns : tie.Need-returns Inv-loop μ-loop
 returns c = let h = c .before .loop in let z : h .i ≡ 8 = omega arith in (h .inv .1 .0, rw z at (h .inv .1 .1))
 

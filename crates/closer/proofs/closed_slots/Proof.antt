@@ -3,17 +3,12 @@ use Rattle.closer.specs.Parts.{slotWith}
 use Rattle.masks.specs.Cells.{set-more}
 use Rattle.table.specs.Table.{noSlot}
 use lib.ListN.{length, length-set, length-replicate, getD}
-use Rattle.table.specs.declared.Node.{Node}
 use Prim.Native.Nat.{ℕ, _≤_, _<_, _-_}
-use mathlib.Core.Path.{_≡_, refl, sym, _∙_, ap, ap₂}
+use mathlib.Core.Path.{_≡_}
 use borrow.Author.Needs.{needs}
 use native.Mathlib.Omega.{arith}
 use Rattle.closer.proofs.closed_slots.Statement.{statement}
 use Rattle.closer.proofs.closed_slots.Tie as tie
-use Rattle.closer.proofs.closed_slots.Reads as reads
-use Rattle.closer.proofs.closed_slots.Lts as lts
-use Rattle.closer.proofs.closed_slot.Reads as closed-slot-reads
-use Rattle.flow.proofs.has.Reads as has-reads
 
 abbrev Inv-loop : tie.InvT-loop
 Inv-loop base kept cells arcs q r₀ n₀ r n = (n ≤ 32) × ((length r ≡ 32) × ((a : ℕ) → a < n → getD r a noSlot ≡ slotWith q base kept cells arcs a))
@@ -21,63 +16,48 @@ Inv-loop base kept cells arcs q r₀ n₀ r n = (n ≤ 32) × ((length r ≡ 32)
 abbrev μ-loop : tie.MeasureT-loop
 μ-loop base kept cells arcs q r₀ n₀ r n = 32 - n
 
--- src/lib.rt:203:5
 loop-holds : tie.Need-loop-holds Inv-loop μ-loop
 loop-holds c = (search needs, (length-replicate 32 noSlot, λ a h. absurd (omega arith)))
 
--- src/lib.rt:204:17
 mul-s : tie.Need-mul-s Inv-loop μ-loop
 mul-s c = search needs
 
--- src/lib.rt:204:17
 element-copy-out-s : tie.Need-element-copy-out-s Inv-loop μ-loop
 element-copy-out-s c = search needs
 
--- src/lib.rt:206:23
 add-i : tie.Need-add-i Inv-loop μ-loop
 add-i c = search needs
 
--- src/lib.rt:206:17
 mul-i : tie.Need-mul-i Inv-loop μ-loop
 mul-i c = search needs
 
--- src/lib.rt:206:17
 element-copy-out-i : tie.Need-element-copy-out-i Inv-loop μ-loop
 element-copy-out-i c = search needs
 
--- src/lib.rt:207:33
 cast-has : tie.Need-cast-has Inv-loop μ-loop
 cast-has c = search needs
 
--- src/lib.rt:207:13
 has-requires : tie.Need-has-requires Inv-loop μ-loop
 has-requires c κs = search needs
 
--- src/lib.rt:208:13
 closed-slot-requires : tie.Need-closed-slot-requires Inv-loop μ-loop
 closed-slot-requires c κs = search needs
 
--- src/lib.rt:209:9
 mul-r : tie.Need-mul-r Inv-loop μ-loop
 mul-r c = search needs
 
--- src/lib.rt:209:9
 array-set-from-r : tie.Need-array-set-from-r Inv-loop μ-loop
 array-set-from-r c = search needs
 
--- src/lib.rt:210:9
 add-n : tie.Need-add-n Inv-loop μ-loop
 add-n c = search needs
 
--- src/lib.rt:203:5
 loop-less : tie.Need-loop-less Inv-loop μ-loop
 loop-less c = search needs
 
--- src/lib.rt:203:5
 loop-again : tie.Need-loop-again Inv-loop μ-loop
 loop-again c = let h = c .before .before .before .before .before .loop in (omega arith, (simp length-set (h .inv .1 .0), set-more noSlot _ (h .n) _ (h .r) (omega arith) (slot-of _ _ _ _ _ _ _ (c .before .has .ensures) (c .closed-slot .ensures)) (h .inv .1 .1)))
 
--- src/lib.rt:197:1
 returns : tie.Need-returns Inv-loop μ-loop
 returns c = let h = c .before .loop in let z : h .n ≡ 32 = omega arith in (h .inv .1 .0, rw z at (h .inv .1 .1))
 

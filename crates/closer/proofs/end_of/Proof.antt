@@ -1,33 +1,24 @@
 use Rattle.analysis.specs.StepLaws.{places}
-use Rattle.analysis.specs.NodeLaws.{Places}
 use Prim.Native.Nat.{_+_, _*_}
 use Rattle.flow.specs.declared.Flow.{Flow}
-use mathlib.Core.Path.{_≡_, refl, sym, _∙_, ap, ap₂}
+use mathlib.Core.Path.{ap}
 use native.Mathlib.Omega.{arith}
 use borrow.Author.Needs.{needs}
 use Rattle.closer.proofs.end_of.Statement.{statement}
 use Rattle.closer.proofs.end_of.Tie as tie
-use Rattle.closer.proofs.end_of.Reads as reads
-use Rattle.closer.proofs.end_of.Lts as lts
-use Rattle.flow.proofs.flow_of.Reads as flow-of-reads
 
--- src/lib.rt:26:9
 flow-of-requires : tie.Need-flow-of-requires
 flow-of-requires c κs = search needs
 
--- src/lib.rt:29:6
 mul-result : tie.Need-mul-result
 mul-result c = omega (arith, places _ _ _ _ (c .before .pre) (c .flow-of .ensures))
 
--- src/lib.rt:29:6
 add-result : tie.Need-add-result
 add-result c = omega (arith, places _ _ _ _ (c .before .pre) (c .flow-of .ensures))
 
--- src/lib.rt:29:5
 cast-result : tie.Need-cast-result
 cast-result c = omega (arith, places _ _ _ _ (c .before .pre) (c .flow-of .ensures))
 
--- src/lib.rt:22:1
 returns : tie.Need-returns
 returns c = ap (λ (f : Flow). f .first * 32 + f .second) (c .flow-of .ensures)
 

@@ -1,15 +1,9 @@
-use borrow.Author.Needs.{needs}
-use native.Mathlib.Omega.{arith}
 use Rattle.flow.proofs.after_set.Statement.{statement}
 use Rattle.flow.proofs.after_set.Tie as tie
-use Rattle.flow.proofs.after_set.Reads as reads
-use Rattle.flow.proofs.after_set.Lts as lts
 
--- src/lib.rt:67:1
 returns : tie.Need-returns
 returns c = rw (c .if1 .taken)
 
--- src/lib.rt:67:1
 returns-2 : tie.Need-returns-2
 returns-2 c = rw (c .if1 .left)
 

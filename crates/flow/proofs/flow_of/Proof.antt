@@ -1,194 +1,142 @@
 use Rattle.flow.specs.Flow.{flowOf, settingFlow}
 use Rattle.table.specs.declared.Node.{Node}
-use mathlib.Core.Path.{_≡_, refl, sym, _∙_, ap, ap₂}
-use native.Mathlib.Omega.{arith}
+use mathlib.Core.Path.{sym, _∙_, ap}
 use borrow.Author.Needs.{needs}
 use Rattle.flow.proofs.flow_of.Statement.{statement}
 use Rattle.flow.proofs.flow_of.Tie as tie
-use Rattle.flow.proofs.flow_of.Reads as reads
-use Rattle.flow.proofs.flow_of.Lts as lts
-use Rattle.flow.proofs.call_flow.Reads as call-flow-reads
-use Rattle.flow.proofs.has.Reads as has-reads
-use Rattle.flow.proofs.no_flow.Reads as no-flow-reads
-use Rattle.flow.proofs.operands_dirty.Reads as operands-dirty-reads
-use Rattle.flow.proofs.plain_flow.Reads as plain-flow-reads
-use Rattle.flow.proofs.send_flow.Reads as send-flow-reads
-use Rattle.flow.proofs.setting_flow.Reads as setting-flow-reads
-use Rattle.flow.proofs.test_flow.Reads as test-flow-reads
 
--- src/lib.rt:181:25
 enum-told : tie.Need-enum-told
 enum-told c = search needs
 
--- src/lib.rt:181:25
 no-flow-requires : tie.Need-no-flow-requires
 no-flow-requires c κs = search needs
 
--- src/lib.rt:182:23
 enum-known-x : tie.Need-enum-known-x
 enum-known-x c = search needs
 
--- src/lib.rt:182:31
 plain-flow-requires : tie.Need-plain-flow-requires
 plain-flow-requires c κs = search needs
 
--- src/lib.rt:184:13
 enum-known-x-2 : tie.Need-enum-known-x-2
 enum-known-x-2 c = search needs
 
--- src/lib.rt:190:17
 operands-dirty-requires : tie.Need-operands-dirty-requires
 operands-dirty-requires c κs = search needs
 
--- src/lib.rt:191:13
 setting-flow-requires : tie.Need-setting-flow-requires
 setting-flow-requires c κs = search needs
 
--- src/lib.rt:197:13
 enum-known-x-3 : tie.Need-enum-known-x-3
 enum-known-x-3 c = search needs
 
--- src/lib.rt:199:14
 test-flow-requires : tie.Need-test-flow-requires
 test-flow-requires c κs = search needs
 
--- src/lib.rt:200:22
 enum-known-x-4 : tie.Need-enum-known-x-4
 enum-known-x-4 c = search needs
 
--- src/lib.rt:200:35
 setting-flow-requires-2 : tie.Need-setting-flow-requires-2
 setting-flow-requires-2 c κs = search needs
 
--- src/lib.rt:201:22
 enum-known-x-5 : tie.Need-enum-known-x-5
 enum-known-x-5 c = search needs
 
--- src/lib.rt:201:44
 call-flow-requires : tie.Need-call-flow-requires
 call-flow-requires c κs = search needs
 
--- src/lib.rt:202:30
 enum-known-x-6 : tie.Need-enum-known-x-6
 enum-known-x-6 c = search needs
 
--- src/lib.rt:202:38
 plain-flow-requires-2 : tie.Need-plain-flow-requires-2
 plain-flow-requires-2 c κs = search needs
 
--- src/lib.rt:203:32
 enum-known-x-7 : tie.Need-enum-known-x-7
 enum-known-x-7 c = search needs
 
--- src/lib.rt:203:40
 plain-flow-requires-3 : tie.Need-plain-flow-requires-3
 plain-flow-requires-3 c κs = search needs
 
--- src/lib.rt:204:22
 enum-known-x-8 : tie.Need-enum-known-x-8
 enum-known-x-8 c = search needs
 
--- src/lib.rt:204:42
 send-flow-requires : tie.Need-send-flow-requires
 send-flow-requires c κs = search needs
 
--- src/lib.rt:205:22
 enum-known-x-9 : tie.Need-enum-known-x-9
 enum-known-x-9 c = search needs
 
--- src/lib.rt:206:17
 has-requires : tie.Need-has-requires
 has-requires c κs = search needs
 
--- src/lib.rt:207:13
 setting-flow-requires-3 : tie.Need-setting-flow-requires-3
 setting-flow-requires-3 c κs = search needs
 
--- src/lib.rt:209:32
 enum-known-x-10 : tie.Need-enum-known-x-10
 enum-known-x-10 c = search needs
 
--- src/lib.rt:209:40
 plain-flow-requires-4 : tie.Need-plain-flow-requires-4
 plain-flow-requires-4 c κs = search needs
 
--- src/lib.rt:210:29
 enum-known-x-11 : tie.Need-enum-known-x-11
 enum-known-x-11 c = search needs
 
--- src/lib.rt:210:37
 plain-flow-requires-5 : tie.Need-plain-flow-requires-5
 plain-flow-requires-5 c κs = search needs
 
--- src/lib.rt:211:25
 enum-told-2 : tie.Need-enum-told-2
 enum-told-2 c = search needs
 
--- src/lib.rt:211:25
 no-flow-requires-2 : tie.Need-no-flow-requires-2
 no-flow-requires-2 c κs = search needs
 
--- src/lib.rt:177:1
 returns : tie.Need-returns
 unfolding flowOf
 returns c = let a = c .before .before .before .args in c .no-flow .ensures ∙ ap (λ (x : Node). flowOf x (a .n) (a .i) (a .b)) (sym (c .before .enum-told .given .1))
 
--- src/lib.rt:177:1
 returns-2 : tie.Need-returns-2
 unfolding flowOf
 returns-2 c = let a = c .before .before .before .before .args in c .plain-flow .ensures ∙ ap (λ (x : Node). flowOf x (a .n) (a .i) (a .b)) (sym (c .before .before .x .given .1))
 
--- src/lib.rt:177:1
 returns-3 : tie.Need-returns-3
 unfolding flowOf
 returns-3 c = let a = c .before .before .before .before .before .args in c .setting-flow .ensures ∙ ap (settingFlow _ _ _) (c .before .operands-dirty .ensures) ∙ ap (λ (x : Node). flowOf x (a .n) (a .i) (a .b)) (sym (c .before .before .before .x2 .given .1))
 
--- src/lib.rt:177:1
 returns-4 : tie.Need-returns-4
 unfolding flowOf
 returns-4 c = let a = c .before .before .before .before .args in c .test-flow .ensures ∙ ap (λ (x : Node). flowOf x (a .n) (a .i) (a .b)) (sym (c .before .before .x3 .given .1))
 
--- src/lib.rt:177:1
 returns-5 : tie.Need-returns-5
 unfolding flowOf
 returns-5 c = let a = c .before .before .before .before .args in c .setting-flow2 .ensures ∙ ap (λ (x : Node). flowOf x (a .n) (a .i) (a .b)) (sym (c .before .before .x4 .given .1))
 
--- src/lib.rt:177:1
 returns-6 : tie.Need-returns-6
 unfolding flowOf
 returns-6 c = let a = c .before .before .before .before .args in c .call-flow .ensures ∙ ap (λ (x : Node). flowOf x (a .n) (a .i) (a .b)) (sym (c .before .before .x5 .given .1))
 
--- src/lib.rt:177:1
 returns-7 : tie.Need-returns-7
 unfolding flowOf
 returns-7 c = let a = c .before .before .before .before .args in c .plain-flow2 .ensures ∙ ap (λ (x : Node). flowOf x (a .n) (a .i) (a .b)) (sym (c .before .before .x6 .given .1))
 
--- src/lib.rt:177:1
 returns-8 : tie.Need-returns-8
 unfolding flowOf
 returns-8 c = let a = c .before .before .before .before .args in c .plain-flow3 .ensures ∙ ap (λ (x : Node). flowOf x (a .n) (a .i) (a .b)) (sym (c .before .before .x7 .given .1))
 
--- src/lib.rt:177:1
 returns-9 : tie.Need-returns-9
 unfolding flowOf
 returns-9 c = let a = c .before .before .before .before .args in c .send-flow .ensures ∙ ap (λ (x : Node). flowOf x (a .n) (a .i) (a .b)) (sym (c .before .before .x8 .given .1))
 
--- src/lib.rt:177:1
 returns-10 : tie.Need-returns-10
 unfolding flowOf
 returns-10 c = let a = c .before .before .before .before .before .args in c .setting-flow3 .ensures ∙ ap (settingFlow _ _ _) (c .before .has .ensures) ∙ ap (λ (x : Node). flowOf x (a .n) (a .i) (a .b)) (sym (c .before .before .before .x9 .given .1))
 
--- src/lib.rt:177:1
 returns-11 : tie.Need-returns-11
 unfolding flowOf
 returns-11 c = let a = c .before .before .before .before .args in c .plain-flow4 .ensures ∙ ap (λ (x : Node). flowOf x (a .n) (a .i) (a .b)) (sym (c .before .before .x10 .given .1))
 
--- src/lib.rt:177:1
 returns-12 : tie.Need-returns-12
 unfolding flowOf
 returns-12 c = let a = c .before .before .before .before .args in c .plain-flow5 .ensures ∙ ap (λ (x : Node). flowOf x (a .n) (a .i) (a .b)) (sym (c .before .before .x11 .given .1))
 
--- src/lib.rt:177:1
 returns-13 : tie.Need-returns-13
 unfolding flowOf
 returns-13 c = let a = c .before .before .before .args in c .no-flow2 .ensures ∙ ap (λ (x : Node). flowOf x (a .n) (a .i) (a .b)) (sym (c .before .enum-told2 .given .1))

@@ -1,31 +1,22 @@
 use Rattle.flow.specs.Flow.{passedBits}
 use lib.Bits.{bitOr}
-use mathlib.Core.Path.{_≡_, refl, sym, _∙_, ap, ap₂}
-use native.Mathlib.Omega.{arith}
+use mathlib.Core.Path.{ap₂}
 use borrow.Author.Needs.{needs}
 use Rattle.flow.proofs.passed_bits.Statement.{statement}
 use Rattle.flow.proofs.passed_bits.Tie as tie
-use Rattle.flow.proofs.passed_bits.Reads as reads
-use Rattle.flow.proofs.passed_bits.Lts as lts
-use Rattle.flow.proofs.arg_bit.Reads as arg-bit-reads
 
--- src/lib.rt:131:9
 arg-bit-requires : tie.Need-arg-bit-requires
 arg-bit-requires c κs = search needs
 
--- src/lib.rt:132:9
 arg-bit-requires-2 : tie.Need-arg-bit-requires-2
 arg-bit-requires-2 c κs = search needs
 
--- src/lib.rt:133:9
 arg-bit-requires-3 : tie.Need-arg-bit-requires-3
 arg-bit-requires-3 c κs = search needs
 
--- src/lib.rt:134:9
 arg-bit-requires-4 : tie.Need-arg-bit-requires-4
 arg-bit-requires-4 c κs = search needs
 
--- src/lib.rt:128:1
 returns : tie.Need-returns
 unfolding passedBits
 returns c = ap₂ bitOr (ap₂ bitOr (c .before .before .before .arg-bit .ensures) (c .before .before .arg-bit2 .ensures)) (ap₂ bitOr (c .before .arg-bit3 .ensures) (c .arg-bit4 .ensures))

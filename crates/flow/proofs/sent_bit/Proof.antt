@@ -1,27 +1,17 @@
 use Rattle.flow.specs.FlowLaws.{sent-yes, sent-no}
-use mathlib.Core.Path.{_≡_, refl, sym, _∙_, ap, ap₂}
-use native.Mathlib.Omega.{arith}
 use borrow.Author.Needs.{needs}
 use Rattle.flow.proofs.sent_bit.Statement.{statement}
 use Rattle.flow.proofs.sent_bit.Tie as tie
-use Rattle.flow.proofs.sent_bit.Reads as reads
-use Rattle.flow.proofs.sent_bit.Lts as lts
-use Rattle.flow.proofs.has.Reads as has-reads
-use Rattle.flow.proofs.only.Reads as only-reads
 
--- src/lib.rt:150:8
 has-requires : tie.Need-has-requires
 has-requires c κs = search needs
 
--- src/lib.rt:151:9
 only-requires : tie.Need-only-requires
 only-requires c κs = search needs
 
--- src/lib.rt:151:9
 returns : tie.Need-returns
 returns c = sent-yes _ _ _ _ (c .before .before .has .ensures) (c .before .if1 .taken) (c .only .ensures)
 
--- src/lib.rt:147:1
 returns-2 : tie.Need-returns-2
 returns-2 c = sent-no _ _ _ _ (c .before .has .ensures) (c .if1 .left)
 

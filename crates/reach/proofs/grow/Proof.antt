@@ -1,29 +1,22 @@
 use Rattle.masks.specs.Cells.{grown, grown-flag}
-use mathlib.Core.Path.{_≡_, refl, sym, _∙_, ap}
+use mathlib.Core.Path.{refl}
 use native.Mathlib.Omega.{arith}
 use borrow.Author.Needs.{needs}
 use Rattle.reach.proofs.grow.Statement.{statement}
 use Rattle.reach.proofs.grow.Tie as tie
-use Rattle.reach.proofs.grow.Reads as reads
-use Rattle.reach.proofs.grow.Lts as lts
 
--- src/lib.rt:15:15
 mul-old : tie.Need-mul-old
 mul-old c = search needs
 
--- src/lib.rt:15:15
 element-copy-out-old : tie.Need-element-copy-out-old
 element-copy-out-old c = search needs
 
--- src/lib.rt:17:5
 mul-cells : tie.Need-mul-cells
 mul-cells c = search needs
 
--- src/lib.rt:17:5
 element-write-cells : tie.Need-element-write-cells
 element-write-cells c = search needs
 
--- src/lib.rt:10:1
 returns : tie.Need-returns
 unfolding grown
 returns c = (refl, grown-flag (c .before .args .cells .now) (c .before .args .a) (c .before .args .m) (omega arith))

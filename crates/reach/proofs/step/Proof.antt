@@ -1,65 +1,48 @@
 use Rattle.reach.specs.Reach.{stepOf}
 use Rattle.masks.specs.Cells.{flag-refl}
 use Rattle.masks.specs.Bits.{bit-of, bit-not}
-use mathlib.Core.Path.{_≡_, refl, sym, _∙_, ap}
-use native.Mathlib.Omega.{arith}
+use mathlib.Core.Path.{sym, _∙_}
 use borrow.Author.Needs.{needs}
 use Rattle.reach.proofs.step.Statement.{statement}
 use Rattle.reach.proofs.step.Tie as tie
-use Rattle.reach.proofs.step.Reads as reads
-use Rattle.reach.proofs.step.Lts as lts
-use Rattle.reach.proofs.grow.Reads as grow-reads
 
--- src/lib.rt:27:18
 cast-if1 : tie.Need-cast-if1
 cast-if1 c = search needs
 
--- src/lib.rt:27:9
 shr-if1 : tie.Need-shr-if1
 shr-if1 c = search needs
 
--- src/lib.rt:28:9
 returns : tie.Need-returns
 unfolding stepOf
 returns c = (sym (rw (bit-of _ _ (c .if1 .taken))), flag-refl _)
 
--- src/lib.rt:30:13
 mul-e : tie.Need-mul-e
 mul-e c = search needs
 
--- src/lib.rt:30:13
 element-copy-out-e : tie.Need-element-copy-out-e
 element-copy-out-e c = search needs
 
--- src/lib.rt:31:13
 cast-f : tie.Need-cast-f
 cast-f c = search needs
 
--- src/lib.rt:32:13
 cast-s : tie.Need-cast-s
 cast-s c = search needs
 
--- src/lib.rt:33:13
 mul-m : tie.Need-mul-m
 mul-m c = search needs
 
--- src/lib.rt:33:13
 element-copy-out-m : tie.Need-element-copy-out-m
 element-copy-out-m c = search needs
 
--- src/lib.rt:33:24
 mul-m-2 : tie.Need-mul-m-2
 mul-m-2 c = search needs
 
--- src/lib.rt:33:24
 element-copy-out-m-2 : tie.Need-element-copy-out-m-2
 element-copy-out-m-2 c = search needs
 
--- src/lib.rt:34:5
 grow-requires : tie.Need-grow-requires
 grow-requires c κs = search needs
 
--- src/lib.rt:22:1
 returns-2 : tie.Need-returns-2
 unfolding stepOf
 returns-2 c = (c .grow .ensures .0 ∙ sym (rw (bit-not _ _ (c .before .before .before .before .before .if1 .left))), c .grow .ensures .1)

@@ -1,19 +1,13 @@
-use native.Mathlib.Omega.{arith}
 use borrow.Author.Needs.{needs}
-use Rattle.reach.proofs.quiet_after.Statement.{statement}
-use Rattle.reach.proofs.quiet_after.Tie as tie
-use Rattle.reach.proofs.quiet_after.Reads as reads
-use Rattle.reach.proofs.quiet_after.Lts as lts
+use Rattle.masks.proofs.quiet_after.Statement.{statement}
+use Rattle.masks.proofs.quiet_after.Tie as tie
 
--- src/lib.rt:55:27
 add-result : tie.Need-add-result
 add-result c = search needs
 
--- src/lib.rt:51:1
 returns : tie.Need-returns
 returns c = rw (c .if1 .taken)
 
--- src/lib.rt:51:1
 returns-2 : tie.Need-returns-2
 returns-2 c = rw (c .if1 .left)
 
