@@ -34,8 +34,17 @@ fn no_table() -> Table
         queues: 0,
         task: [Task { top: 0 }; 4],
         sem: [Sem { count: 0 }; 8],
-        queue: [Queue { cap: 0, blank: false }; 8],
-        proc: [Proc { params: 0, vars: 0, nodes: 0, drop: 0, slots }; 8],
+        queue: [Queue {
+            cap: 0,
+            blank: false,
+        }; 8],
+        proc: [Proc {
+            params: 0,
+            vars: 0,
+            nodes: 0,
+            drop: 0,
+            slots,
+        }; 8],
     }
 }
 
@@ -43,7 +52,11 @@ fn refused(n: u8) -> Closing
     ensures { λ r. ⌜ r ≡ refusal n ⌝ }
 {
     let table = no_table();
-    Closing { number: n, line: 0, table }
+    Closing {
+        number: n,
+        line: 0,
+        table,
+    }
 }
 
 // The closer's answer for a table whose fault is n.
@@ -58,7 +71,11 @@ fn close_checked(t: Table, n: u8) -> Closing
         return refused(9);
     }
     let table = closer::closed_table(t);
-    Closing { number: 0, line: 0, table }
+    Closing {
+        number: 0,
+        line: 0,
+        table,
+    }
 }
 
 // A state all 0.
@@ -70,7 +87,11 @@ fn no_state() -> State
     State {
         depth: [0; 4],
         lost: [false; 4],
-        frames: [Frame { proc: 0, node: 0, vars }; 32],
+        frames: [Frame {
+            proc: 0,
+            node: 0,
+            vars,
+        }; 32],
         sems: [0; 8],
         queues: [Entries { len: 0, items }; 8],
     }
@@ -88,7 +109,14 @@ fn kept(t: Table) -> [u32; 8]
 }
 
 // The runner's answer for a table whose fault is n.
-fn run_checked(t: Table, n: u8, schedule: &[u8], values: &[i32], most: usize, log: &mut [u8]) -> Running
+fn run_checked(
+    t: Table,
+    n: u8,
+    schedule: &[u8],
+    values: &[i32],
+    most: usize,
+    log: &mut [u8],
+) -> Running
     requires { ⌜ n ≡ fault t ⌝ }
     ensures answer { λ r. ⌜ r ≡ run t (now (schedule .entry)) (now (values .entry)) most (now (log .entry)) .answer ⌝ }
     ensures log { λ _. ⌜ now (log .exit) ≡ run t (now (schedule .entry)) (now (values .entry)) most (now (log .entry)) .log ⌝ }

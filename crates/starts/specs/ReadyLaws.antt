@@ -49,13 +49,14 @@ module _ (t : Table) (keep : List ℕ) (s : Shaped t) (z : fault t ≡ 0) (keeps
       (λ l. omega (arith, eqb-true (queueAt t q .cap) 0 (and-left (isZero (queueAt t q .cap)) (not (queueAt t q .blank)) (all-behind queueEmpty (t .queue) noQueue (t .queues) q (tidy-parts t (v .unused) .2) refl l))))
 
   pub ready : Ready t keep
-  ready = record
-    { tasks = v .lines .tasks
-    ; sems = s .sems
-    ; tops = λ i l. omega (arith, v .lines .top i l, v .lines .procs)
-    ; params = λ p l. params p
-    ; caps = λ q l. cap q
-    ; nodes = λ p n l m. cases (isAbsent (nodeAt t p n))
+  ready = record {
+    tasks = v .lines .tasks;
+    sems = s .sems;
+    tops = λ i l. omega (arith, v .lines .top i l, v .lines .procs);
+    params = λ p l. params p;
+    caps = λ q l. cap q;
+    nodes = λ p n l m. cases (isAbsent (nodeAt t p n))
         (λ e. rw (absent-is (nodeAt t p n) e) tt)
-        (λ e. let i = inside-of t z p n e in placed p n (nodeAt t p n) (v .lines .proc p (i .0) .node n (i .1)) (v .counts p n (i .0) (i .1)))
-    ; keeps = keeps }
+        (λ e. let i = inside-of t z p n e in placed p n (nodeAt t p n) (v .lines .proc p (i .0) .node n (i .1)) (v .counts p n (i .0) (i .1)));
+    keeps = keeps;
+  }

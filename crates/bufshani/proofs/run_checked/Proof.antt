@@ -1,3 +1,8 @@
+use mathlib.Core.Path.{sym, _∙_, ap}
+use Rattle.text.specs.ShapeLaws.{shaped}
+use Rattle.starts.specs.ReadyLaws.{ready}
+use Rattle.machine.specs.Run.{Ran}
+use Rattle.bufshani.specs.RunLaws.{faulty-answer, faulty-log, begun-is}
 use native.Mathlib.Omega.{arith}
 use borrow.Author.Needs.{needs}
 use Rattle.bufshani.proofs.run_checked.Statement.{statement}
@@ -14,7 +19,11 @@ no-state-requires c κs = search needs
 
 -- src/lib.rt:98:9
 returns : tie.Need-returns
-returns c = search needs
+returns c =
+    let a = c .before .before .before .before in (
+      faulty-answer (a .args .t) _ _ _ _ (a .args .n) (c .no-state .result) (a .pre) (c .before .if1 .taken) (c .no-state .ensures),
+      faulty-log (a .args .t) _ _ _ _ (a .args .n) (a .pre) (c .before .if1 .taken),
+    )
 
 -- src/lib.rt:105:9
 kept-requires : tie.Need-kept-requires
@@ -22,7 +31,9 @@ kept-requires c κs = search needs
 
 -- src/lib.rt:106:5
 run-ready-requires : tie.Need-run-ready-requires
-run-ready-requires c κs = search needs
+run-ready-requires c κs =
+    let a = c .before .before .before .before .before in
+    ready (a .args .t) _ (shaped (a .args .t) (_, a .good .0)) (sym (a .pre) ∙ c .before .before .if1 .left) (c .before .kept .ensures .keeps)
 
 -- src/lib.rt:91:1
 same-length : tie.Need-same-length
@@ -30,7 +41,12 @@ same-length c = search needs
 
 -- src/lib.rt:91:1
 returns-2 : tie.Need-returns-2
-returns-2 c = search needs
+returns-2 c =
+    let a = c .before .before .before .before .before .before .before .before in
+    let e = begun-is (a .args .t) _ _ _ _ (a .args .n) (a .pre) (c .before .before .before .before .before .if1 .left) in (
+      c .before .before .run-ready .ensures .0 ∙ ap (λ (r : Ran). r .answer) e,
+      c .before .before .run-ready .ensures .1 ∙ ap (λ (r : Ran). r .log) e,
+    )
 
 pub run-checked-spec : {M : Type 1} → statement M
 run-checked-spec =
