@@ -14,9 +14,12 @@ pub record Put (k : ℕ) (before : List ℕ) (at : ℕ) (t after : List ℕ) (r 
   pub same : length after ≡ length before
   pub next : r ≡ at + length t
 
--- a place from which a line's end is a small number
+-- a place from which a line's end is a small number, and any place within such a line
 abbrev pub Low : ℕ → Type 0
 Low at = at ≤ 1000000
+
+abbrev pub Near : ℕ → Type 0
+Near at = at ≤ 2000000
 
 -- the rest of a line, with its values
 pub record PutLine (k : ℕ) (d : Line) (w : Vals d) (before : List ℕ) (at : ℕ) (after : List ℕ) (r : ℕ) : Type 0 where
