@@ -11,7 +11,8 @@ use Rattle.text.specs.Number.{digits}
 use Rattle.text.specs.NumberLaws.{digits-small, digits-large}
 use lib.IntN.{ℤ, pos, negsuc}
 use mir.Syntax.{w32}
-use mir.Val.{SFits, ofZ}
+use mir.Val.{SFits, ofZ, toZ}
+use mir.Facts.{toZ-ofZ}
 use Rattle.table.specs.declared.Operand.{Operand}
 use Rattle.table.specs.declared.Operand.the-variants.{Var, Const}
 use Rattle.text.specs.NumberLaws.{byOrder}
@@ -139,11 +140,25 @@ constant-below (negsuc n) f h =
     let e : suc n ≡ 4294967295 - (4294967296 - suc n) + 1 = omega (arith, f .sfits) in
     ap (λ (k : ℕ). 45 ∷ digits k) e
 
-pub put-constant : {l m : List ℕ} {at r b : ℕ} (c : ℤ) → SFits w32 c → b ≡ ofZ w32 c → b < 2147483648 → Put (length (digits b)) l at (digits b) m r → Put 11 l at (spellOperand (Const c)) m r
-put-constant {b = b} c f e h a =
-    rw (constant-plain c f (rw e at h), ← e) (put-more (omega (arith, digits-ten b (omega arith))) a)
+-- an argument's bits are those of the value read back
+bits-back : (c : ℤ) → SFits w32 c → ofZ w32 (toZ w32 (ofZ w32 c)) ≡ ofZ w32 c
+bits-back c f = ap (ofZ w32) (toZ-ofZ f)
 
-pub put-negative : {l m n : List ℕ} {at p r b : ℕ} (c : ℤ) → SFits w32 c → b ≡ ofZ w32 c → 2147483648 ≤ b → b < 4294967296 → Put 1 l at (45 ∷ []) m p
+pub put-constant : {l m : List ℕ} {at r b : ℕ} (c : ℤ) → SFits w32 c → b ≡ ofZ w32 (toZ w32 (ofZ w32 c)) → b < 2147483648 → Put (length (digits b)) l at (digits b) m r
+    → Put 11 l at (spellOperand (Const c)) m r
+put-constant {b = b} c f e h a =
+    let g = e ∙ bits-back c f in
+    rw (constant-plain c f (rw g at h), ← g) (put-more (omega (arith, digits-ten b (omega arith))) a)
+
+pub put-negative : {l m n : List ℕ} {at p r b : ℕ} (c : ℤ) → SFits w32 c → b ≡ ofZ w32 (toZ w32 (ofZ w32 c)) → 2147483648 ≤ b → b < 4294967296 → Put 1 l at (45 ∷ []) m p
     → Put (length (digits (4294967295 - b + 1))) m p (digits (4294967295 - b + 1)) n r → Put 11 l at (spellOperand (Const c)) n r
 put-negative {b = b} c f e h u a o =
-    rw (constant-below c f (rw e at h), ← e) (put-more (omega (arith, digits-ten (4294967295 - b + 1) (omega arith))) (put-after a o))
+    let g = e ∙ bits-back c f in
+    rw (constant-below c f (rw g at h), ← g) (put-more (omega (arith, digits-ten (4294967295 - b + 1) (omega arith))) (put-after a o))
+
+-- a number of 32 bits stands below 2000000, begun low
+pub number-room : (at n : ℕ) → at ≤ 1000401 → n < 10000000000 → at + length (digits n) ≤ 2000000
+number-room at n h k = omega (arith, digits-ten n k)
+
+pub put-variable-operand : {l m n : List ℕ} {at p r : ℕ} (v : ℕ) → Put 1 l at (118 ∷ []) m p → Put 3 m p (digits v) n r → Put 11 l at (spellOperand (Var v)) n r
+put-variable-operand v a b = put-more (omega arith) (put-after a b)
