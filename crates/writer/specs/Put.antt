@@ -1,10 +1,9 @@
 -- What writing bytes into a buffer at a place does.
 use Prim.Native.Nat.{ℕ, _+_, _≤_}
 use mathlib.Core.Path.{_≡_}
-use mathlib.Core.List.{List}
+use mathlib.Core.List.{List, _++_}
 use lib.ListN.{length}
 use lib.Seq.{sets}
-use Rattle.text.specs.Line.{Line, Vals, write}
 
 -- The bytes t, at most k of them, stand at the place where the buffer reaches so far, and every other byte is as before; r is the place
 -- after them. A buffer that does not reach so far keeps its length.
@@ -14,13 +13,22 @@ pub record Put (k : ℕ) (before : List ℕ) (at : ℕ) (t after : List ℕ) (r 
   pub same : length after ≡ length before
   pub next : r ≡ at + length t
 
--- a place from which a line's end is a small number, and any place within such a line
-abbrev pub Low : ℕ → Type 0
-Low at = at ≤ 1000000
+-- The key stands there and then the value.
+pub record PutField (k : ℕ) (before : List ℕ) (at : ℕ) (key value after : List ℕ) (r : ℕ) : Type 0 where
+  pub put : Put k before at (key ++ value) after r
 
-abbrev pub Near : ℕ → Type 0
-Near at = at ≤ 2000000
+-- Places so far down that what is written from there ends at a small number: a byte's, a number's, a value's, a field's and a line's.
+abbrev pub ByteAt : ℕ → Type 0
+ByteAt at = at ≤ 2000000
 
--- the rest of a line, with its values
-pub record PutLine (k : ℕ) (d : Line) (w : Vals d) (before : List ℕ) (at : ℕ) (after : List ℕ) (r : ℕ) : Type 0 where
-  pub put : Put k before at (write d w) after r
+abbrev pub DigitsAt : ℕ → Type 0
+DigitsAt at = at ≤ 1000800
+
+abbrev pub ValueAt : ℕ → Type 0
+ValueAt at = at ≤ 1000600
+
+abbrev pub FieldAt : ℕ → Type 0
+FieldAt at = at ≤ 1000400
+
+abbrev pub LineAt : ℕ → Type 0
+LineAt at = at ≤ 1000000

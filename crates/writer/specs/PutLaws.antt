@@ -16,9 +16,8 @@ use mir.Facts.{toZ-ofZ}
 use Rattle.table.specs.declared.Operand.{Operand}
 use Rattle.table.specs.declared.Operand.the-variants.{Var, Const}
 use Rattle.text.specs.NumberLaws.{byOrder}
-use Rattle.text.specs.Value.{Kind, Of, spell, spellOperand}
-use Rattle.text.specs.Line.{Line, end, field, Vals, write}
-use Rattle.writer.specs.Put.{Put, PutLine}
+use Rattle.text.specs.Value.{spellOperand}
+use Rattle.writer.specs.Put.{Put, PutField}
 
 sets-append : (t u l : List ℕ) (at : ℕ) → sets l at (t ++ u) ≡ sets (sets l at t) (at + length t) u
 sets-append [] u l at = rw add-zero
@@ -157,7 +156,7 @@ put-negative {b = b} c f e h u a o =
     rw (constant-below c f (rw g at h), ← g) (put-more (omega (arith, digits-ten (4294967295 - b + 1) (omega arith))) (put-after a o))
 
 -- a number of 32 bits stands below 2000000, begun low
-pub number-room : (at n : ℕ) → at ≤ 1000401 → n < 10000000000 → at + length (digits n) ≤ 2000000
+pub number-room : (at n : ℕ) → at ≤ 1000700 → n < 10000000000 → at + length (digits n) ≤ 2000000
 number-room at n h k = omega (arith, digits-ten n k)
 
 pub put-variable-operand : {l m n : List ℕ} {at p r : ℕ} (v : ℕ) → Put 1 l at (118 ∷ []) m p → Put 3 m p (digits v) n r → Put 11 l at (spellOperand (Var v)) n r

@@ -12,12 +12,14 @@ ghost use mathlib.Core.List.{_∷_, [], _++_};
 ghost use Prim.Native.Nat.{_+_, _≤_, _<_};
 ghost use lib.ListN.{length};
 ghost use Rattle.text.specs.Number.{bytes, digits};
-ghost use Rattle.text.specs.Value.{spellOperand, spellVariable, spellList, opWord};
+ghost use Rattle.text.specs.Value.{spellOperand, spellVariable, spellList, opWord, commas};
 ghost use Rattle.table.specs.declared.Operand.the-variants.{Const};
-ghost use Rattle.writer.specs.Put.{Put, PutLine, Low, Near};
+ghost use Rattle.text.specs.Format.{nameOf, argNames};
+ghost use Rattle.writer.specs.Put.{Put, PutField, ByteAt, DigitsAt, ValueAt, FieldAt, LineAt};
+ghost use Rattle.writer.specs.Lists.{itemsText, listText, itemText, argsText};
 
 fn put_byte(out: &mut [u8], at: usize, b: u8) -> usize
-    requires { ⌜ Near at ⌝ }
+    requires { ⌜ ByteAt at ⌝ }
     ensures { λ r. ⌜ Put 1 (now (out .entry)) at (b ∷ []) (now (out .exit)) r ⌝ }
 {
     if at < out.len() {
@@ -40,7 +42,7 @@ fn copy_in(out: &mut [u8], at: usize, t: &[u8])
 }
 
 fn put_text(out: &mut [u8], at: usize, t: &[u8]) -> usize
-    requires { ⌜ (Near at) × (length (now t) ≤ 64) ⌝ }
+    requires { ⌜ (ByteAt at) × (length (now t) ≤ 64) ⌝ }
     ensures { λ r. ⌜ Put (length (now (t .entry))) (now (out .entry)) at (now (t .entry)) (now (out .exit)) r ⌝ }
 {
     let end = at + t.len();
@@ -53,7 +55,7 @@ fn put_text(out: &mut [u8], at: usize, t: &[u8]) -> usize
 
 // The decimal digits of a small number.
 fn put_small(out: &mut [u8], at: usize, n: u8) -> usize
-    requires { ⌜ at ≤ 1000500 ⌝ }
+    requires { ⌜ DigitsAt at ⌝ }
     ensures { λ r. ⌜ Put 3 (now (out .entry)) at (digits n) (now (out .exit)) r ⌝ }
 {
     if n < 10 {
@@ -82,7 +84,7 @@ fn put_number(out: &mut [u8], at: usize, n: u32) -> usize
 
 // An operand's constant.
 fn put_constant(out: &mut [u8], at: usize, c: i32) -> usize
-    requires { ⌜ at ≤ 1000400 ⌝ }
+    requires { ⌜ ValueAt at ⌝ }
     ensures { λ r. ⌜ Put 11 (now (out .entry)) at (spellOperand (Const c)) (now (out .exit)) r ⌝ }
 {
     let b = values::bits_of(c);
@@ -94,7 +96,7 @@ fn put_constant(out: &mut [u8], at: usize, c: i32) -> usize
 }
 
 fn put_operand_value(out: &mut [u8], at: usize, o: Operand) -> usize
-    requires { ⌜ at ≤ 1000400 ⌝ }
+    requires { ⌜ ValueAt at ⌝ }
     ensures { λ r. ⌜ Put 11 (now (out .entry)) at (spellOperand o) (now (out .exit)) r ⌝ }
 {
     match o {
@@ -104,4 +106,104 @@ fn put_operand_value(out: &mut [u8], at: usize, o: Operand) -> usize
         }
         Operand::Const(c) => put_constant(out, at, c),
     }
+}
+
+// A variable, or `-`.
+fn put_variable_value(out: &mut [u8], at: usize, v: u8) -> usize
+    requires { ⌜ DigitsAt at ⌝ }
+    ensures { λ r. ⌜ Put 3 (now (out .entry)) at (spellVariable (nameOf v)) (now (out .exit)) r ⌝ }
+{
+    if v == table::REMOVED {
+        return put_byte(out, at, 45);
+    }
+    put_small(out, at, v)
+}
+
+fn put_op_value(out: &mut [u8], at: usize, o: Op) -> usize
+    requires { ⌜ ValueAt at ⌝ }
+    ensures { λ r. ⌜ Put 3 (now (out .entry)) at (opWord o) (now (out .exit)) r ⌝ }
+{
+    match o {
+        Op::Add => put_text(out, at, b"add"),
+        Op::Sub => put_text(out, at, b"sub"),
+        Op::And => put_text(out, at, b"and"),
+        Op::Or => put_text(out, at, b"or"),
+        Op::Xor => put_text(out, at, b"xor"),
+        Op::Shr => put_text(out, at, b"shr"),
+        Op::Lt => put_text(out, at, b"lt"),
+        Op::Eq => put_text(out, at, b"eq"),
+    }
+}
+
+// The number k, if b says that it is in the list that begins at from.
+fn put_item(out: &mut [u8], at: usize, from: usize, k: u8, b: u32) -> usize
+    requires { ⌜ (DigitsAt (at + 1)) × (k < 32) ⌝ }
+    ensures { λ r. ⌜ Put 3 (now (out .entry)) at (itemText from at k b) (now (out .exit)) r ⌝ }
+{
+    if b == 0 {
+        return at;
+    }
+    if at == from {
+        return put_small(out, at, k);
+    }
+    let a = put_byte(out, at, 44);
+    put_small(out, a, k)
+}
+
+// The numbers in a mask with commas between.
+fn put_items(out: &mut [u8], at: usize, m: u32) -> usize
+    requires { ⌜ ValueAt at ⌝ }
+    ensures { λ r. ⌜ Put 96 (now (out .entry)) at (itemsText m) (now (out .exit)) r ⌝ }
+{
+    let mut p = at;
+    let mut k: u8 = 0;
+    let mut rest = m;
+    while rest != 0 {
+        p = put_item(out, p, at, k, rest % 2);
+        k += 1;
+        rest = rest / 2;
+    }
+    p
+}
+
+fn put_list_value(out: &mut [u8], at: usize, m: u32) -> usize
+    requires { ⌜ ValueAt at ⌝ }
+    ensures { λ r. ⌜ Put 96 (now (out .entry)) at (listText m) (now (out .exit)) r ⌝ }
+{
+    let p = put_items(out, at, m);
+    if p == at {
+        return put_text(out, at, b"none");
+    }
+    p
+}
+
+// A comma and a further argument.
+fn put_further(out: &mut [u8], at: usize, v: u8) -> usize
+    requires { ⌜ DigitsAt (at + 1) ⌝ }
+    ensures { λ r. ⌜ Put 4 (now (out .entry)) at (44 ∷ spellVariable (nameOf v)) (now (out .exit)) r ⌝ }
+{
+    let a = put_byte(out, at, 44);
+    put_variable_value(out, a, v)
+}
+
+fn put_args_value(out: &mut [u8], at: usize, x: Args) -> usize
+    requires { ⌜ (ValueAt at) × (x .len ≤ 4) ⌝ }
+    ensures { λ r. ⌜ Put 16 (now (out .entry)) at (argsText x) (now (out .exit)) r ⌝ }
+{
+    if x.len == 0 {
+        return put_text(out, at, b"none");
+    }
+    let a = put_variable_value(out, at, x.a0);
+    if x.len == 1 {
+        return a;
+    }
+    let b = put_further(out, a, x.a1);
+    if x.len == 2 {
+        return b;
+    }
+    let c = put_further(out, b, x.a2);
+    if x.len == 3 {
+        return c;
+    }
+    put_further(out, c, x.a3)
 }
