@@ -1,6 +1,2 @@
-pub mod Put
-pub mod PutLaws
-pub mod Lists
-pub mod ListLaws
 pub mod Lines
 pub mod LineLaws

@@ -1,7 +1,7 @@
--- Laws of lines: a field and what follows it, and the bytes of each line.
-use Prim.Native.Nat.{ℕ, _+_, _≤_}
-use mathlib.Core.Path.{_≡_, refl, sym}
-use mathlib.Core.List.{List, [], _∷_, _++_, append-assoc}
+-- The bytes of each line.
+use Prim.Native.Nat.{ℕ}
+use mathlib.Core.Path.{_≡_, refl}
+use mathlib.Core.List.{List, []}
 use mathlib.Core.Bool.{Bool, true, false}
 use Rattle.table.specs.declared.Operand.{Operand}
 use Rattle.table.specs.declared.Op.{Op}
@@ -15,23 +15,7 @@ use Rattle.text.specs.Value.{spell}
 use Rattle.text.specs.Line.{write}
 use Rattle.text.specs.Format.{Scope, headLine, countsLine, taskLine, semLine, queueLine, procLine, describe}
 use Rattle.text.specs.Writer.{nodeText, queueVals, procVals}
-use Rattle.writer.specs.Put.{Put, PutField}
-use Rattle.writer.specs.PutLaws.{put-after, put-more}
-use Rattle.writer.specs.Lists.{listText}
 use Rattle.writer.specs.Lines.{pairText, countsText, headText, blankText, queueText, dropText, procLineText, numberText, variableText, passText, startText, callText, setText, testText, returnText, anyScope, nodeBytes}
-
--- ---- fields
-
-pub field-of : {i k : ℕ} {l m n key v : List ℕ} {at p r : ℕ} → Put i l at key m p → Put k m p v n r → PutField (i + k) l at key v n r
-field-of a b = record { put = put-after a b }
-
--- a field and the rest of its line
-pub field-then : {i k : ℕ} {l m n key v u : List ℕ} {at p r : ℕ} → PutField i l at key v m p → Put k m p u n r → Put (i + k) l at (key ++ (v ++ u)) n r
-field-then {key = key} {v = v} {u = u} a b = rw (← append-assoc key v u) (put-after (a .put) b)
-
--- a field that ends its line
-pub field-end : {i j k : ℕ} {l m n key v u : List ℕ} {at p r : ℕ} → i + k ≤ j → PutField i l at key v m p → Put k m p u n r → PutField j l at key (v ++ u) n r
-field-end h a b = record { put = put-more h (field-then a b) }
 
 -- ---- the lines before the nodes
 

@@ -10,7 +10,7 @@ use Rattle.text.specs.Number.{bytes, digits}
 use Rattle.text.specs.Value.{spellVariable, spellOperand, opWord, chosen}
 use Rattle.text.specs.Format.{Scope, nameOf, describe}
 use Rattle.text.specs.Writer.{nodeText}
-use Rattle.writer.specs.Lists.{listText, argsText}
+use Rattle.put.specs.Lists.{listText, argsText}
 
 -- LF
 abbrev pub lf : List ℕ

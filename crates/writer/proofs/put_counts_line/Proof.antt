@@ -1,55 +1,40 @@
-use Rattle.writer.specs.PutLaws.{put-more}
-use Rattle.writer.specs.LineLaws.{field-then}
+use Rattle.put.specs.PutLaws.{put-more}
+use Rattle.put.specs.PutLaws.{field-then}
 use native.Mathlib.Omega.{arith}
 use borrow.Author.Needs.{needs}
 use Rattle.writer.proofs.put_counts_line.Statement.{statement}
 use Rattle.writer.proofs.put_counts_line.Tie as tie
-use Rattle.writer.proofs.put_counts_line.Reads as reads
-use Rattle.writer.proofs.put_counts_line.Lts as lts
-use Rattle.writer.proofs.put_byte.Reads as put-byte-reads
-use Rattle.writer.proofs.put_count.Reads as put-count-reads
 
--- src/lib.rt:294:32
 slice-aggregate-put-count : tie.Need-slice-aggregate-put-count
 slice-aggregate-put-count c = search needs
 
--- src/lib.rt:294:9
 put-count-requires : tie.Need-put-count-requires
 put-count-requires c κs = search needs
 
--- src/lib.rt:295:31
 slice-aggregate-put-count-2 : tie.Need-slice-aggregate-put-count-2
 slice-aggregate-put-count-2 c = search needs
 
--- src/lib.rt:295:9
 put-count-requires-2 : tie.Need-put-count-requires-2
 put-count-requires-2 c κs = search needs
 
--- src/lib.rt:296:31
 slice-aggregate-put-count-3 : tie.Need-slice-aggregate-put-count-3
 slice-aggregate-put-count-3 c = search needs
 
--- src/lib.rt:296:9
 put-count-requires-3 : tie.Need-put-count-requires-3
 put-count-requires-3 c κs = search needs
 
--- src/lib.rt:297:31
 slice-aggregate-put-count-4 : tie.Need-slice-aggregate-put-count-4
 slice-aggregate-put-count-4 c = search needs
 
--- src/lib.rt:297:9
 put-count-requires-4 : tie.Need-put-count-requires-4
 put-count-requires-4 c κs = search needs
 
--- src/lib.rt:298:5
 put-byte-requires : tie.Need-put-byte-requires
 put-byte-requires c κs = search needs
 
--- src/lib.rt:290:1
 same-length : tie.Need-same-length
 same-length c = search needs
 
--- src/lib.rt:290:1
 returns : tie.Need-returns
 returns c = put-more (omega arith) (field-then (c .before .before .before .before .before .before .before .before .before .before .before .before .before .before .before .before .before .before .before .before .before .put-count .ensures) (field-then (c .before .before .before .before .before .before .before .before .before .before .before .before .before .before .before .before .put-count2 .ensures) (field-then (c .before .before .before .before .before .before .before .before .before .before .before .put-count3 .ensures) (field-then (c .before .before .before .before .before .before .put-count4 .ensures) (c .before .before .put-byte .ensures)))))
 

@@ -1,55 +1,40 @@
-use Rattle.writer.specs.PutLaws.{put-more}
-use Rattle.writer.specs.LineLaws.{field-then}
+use Rattle.put.specs.PutLaws.{put-more}
+use Rattle.put.specs.PutLaws.{field-then}
 use native.Mathlib.Omega.{arith}
 use borrow.Author.Needs.{needs}
 use Rattle.writer.proofs.put_proc_line.Statement.{statement}
 use Rattle.writer.proofs.put_proc_line.Tie as tie
-use Rattle.writer.proofs.put_proc_line.Reads as reads
-use Rattle.writer.proofs.put_proc_line.Lts as lts
-use Rattle.writer.proofs.put_count.Reads as put-count-reads
-use Rattle.writer.proofs.put_drop.Reads as put-drop-reads
 
--- src/lib.rt:339:32
 slice-aggregate-put-count : tie.Need-slice-aggregate-put-count
 slice-aggregate-put-count c = search needs
 
--- src/lib.rt:339:9
 put-count-requires : tie.Need-put-count-requires
 put-count-requires c κs = search needs
 
--- src/lib.rt:340:31
 slice-aggregate-put-count-2 : tie.Need-slice-aggregate-put-count-2
 slice-aggregate-put-count-2 c = search needs
 
--- src/lib.rt:340:9
 put-count-requires-2 : tie.Need-put-count-requires-2
 put-count-requires-2 c κs = search needs
 
--- src/lib.rt:341:31
 slice-aggregate-put-count-3 : tie.Need-slice-aggregate-put-count-3
 slice-aggregate-put-count-3 c = search needs
 
--- src/lib.rt:341:9
 put-count-requires-3 : tie.Need-put-count-requires-3
 put-count-requires-3 c κs = search needs
 
--- src/lib.rt:342:31
 slice-aggregate-put-count-4 : tie.Need-slice-aggregate-put-count-4
 slice-aggregate-put-count-4 c = search needs
 
--- src/lib.rt:342:9
 put-count-requires-4 : tie.Need-put-count-requires-4
 put-count-requires-4 c κs = search needs
 
--- src/lib.rt:343:5
 put-drop-requires : tie.Need-put-drop-requires
 put-drop-requires c κs = search needs
 
--- src/lib.rt:335:1
 same-length : tie.Need-same-length
 same-length c = search needs
 
--- src/lib.rt:335:1
 returns : tie.Need-returns
 returns c = put-more (omega arith) (field-then (c .before .before .before .before .before .before .before .before .before .before .before .before .before .before .before .before .before .before .before .before .before .put-count .ensures) (field-then (c .before .before .before .before .before .before .before .before .before .before .before .before .before .before .before .before .put-count2 .ensures) (field-then (c .before .before .before .before .before .before .before .before .before .before .before .put-count3 .ensures) (field-then (c .before .before .before .before .before .before .put-count4 .ensures) (c .before .before .put-drop .ensures)))))
 

@@ -1,39 +1,28 @@
-use Rattle.writer.specs.PutLaws.{put-more}
-use Rattle.writer.specs.LineLaws.{field-then}
+use Rattle.put.specs.PutLaws.{put-more}
+use Rattle.put.specs.PutLaws.{field-then}
 use native.Mathlib.Omega.{arith}
 use borrow.Author.Needs.{needs}
 use Rattle.writer.proofs.put_queue_line.Statement.{statement}
 use Rattle.writer.proofs.put_queue_line.Tie as tie
-use Rattle.writer.proofs.put_queue_line.Reads as reads
-use Rattle.writer.proofs.put_queue_line.Lts as lts
-use Rattle.writer.proofs.put_blank.Reads as put-blank-reads
-use Rattle.writer.proofs.put_count.Reads as put-count-reads
 
--- src/lib.rt:319:32
 slice-aggregate-put-count : tie.Need-slice-aggregate-put-count
 slice-aggregate-put-count c = search needs
 
--- src/lib.rt:319:9
 put-count-requires : tie.Need-put-count-requires
 put-count-requires c κs = search needs
 
--- src/lib.rt:320:31
 slice-aggregate-put-count-2 : tie.Need-slice-aggregate-put-count-2
 slice-aggregate-put-count-2 c = search needs
 
--- src/lib.rt:320:9
 put-count-requires-2 : tie.Need-put-count-requires-2
 put-count-requires-2 c κs = search needs
 
--- src/lib.rt:321:5
 put-blank-requires : tie.Need-put-blank-requires
 put-blank-requires c κs = search needs
 
--- src/lib.rt:315:1
 same-length : tie.Need-same-length
 same-length c = search needs
 
--- src/lib.rt:315:1
 returns : tie.Need-returns
 returns c = put-more (omega arith) (field-then (c .before .before .before .before .before .before .before .before .before .before .before .put-count .ensures) (field-then (c .before .before .before .before .before .before .put-count2 .ensures) (c .before .before .put-blank .ensures)))
 
