@@ -17,7 +17,8 @@ pub record Put (k : ℕ) (before : List ℕ) (at : ℕ) (t after : List ℕ) (r 
 pub record PutField (k : ℕ) (before : List ℕ) (at : ℕ) (key value after : List ℕ) (r : ℕ) : Type 0 where
   pub put : Put k before at (key ++ value) after r
 
--- Places so far down that what is written from there ends at a small number: a byte's, a number's, a value's, a field's and a line's.
+-- Places so far down that what is written from there ends at a small number: a byte's, a number's, a value's, a field's, a line's, some lines'
+-- and a table's.
 abbrev pub ByteAt : ℕ → Type 0
 ByteAt at = at ≤ 2000000
 
@@ -32,3 +33,9 @@ FieldAt at = at ≤ 1000400
 
 abbrev pub LineAt : ℕ → Type 0
 LineAt at = at ≤ 1000000
+
+abbrev pub LinesAt : ℕ → Type 0
+LinesAt at = at ≤ 900000
+
+abbrev pub TableAt : ℕ → Type 0
+TableAt at = at ≤ 500000

@@ -15,13 +15,22 @@ use table::Node;
 use table::Op;
 use table::Operand;
 use table::Proc;
+use table::Queue;
+use table::Sem;
+use table::Slot;
 use table::Table;
+use table::Task;
+use text::Writing;
 ghost use mathlib.Core.Path.{_≡_};
 ghost use mathlib.Core.List.{_∷_, [], _++_};
-ghost use Prim.Native.Nat.{_+_, _≤_, _<_};
-ghost use lib.ListN.{length};
-ghost use Rattle.put.specs.Put.{Put, FieldAt, LineAt};
+ghost use Prim.Native.Nat.{_+_, _*_, _≤_, _<_};
+ghost use lib.ListN.{length, getD};
+ghost use Rattle.table.specs.Table.{noTask, noSem, noQueue};
+ghost use Rattle.text.specs.Reader.{concat};
+ghost use Rattle.text.specs.Writer.{text, fitted};
+ghost use Rattle.put.specs.Put.{Put, FieldAt, LineAt, LinesAt, TableAt};
 ghost use Rattle.writer.specs.Lines.{pairText, countsText, headText, blankText, queueText, dropText, procLineText, numberText, variableText, passText, startText, callText, setText, testText, returnText, nodeBytes};
+ghost use Rattle.writer.specs.Table.{FewArgs, NodesIn, ProcIn, ProcsIn, Counts, taskBytes, semBytes, queueBytes, slotBytes, procBytes, procsBytes, WrittenAs};
 
 fn put_pair_line(out: &mut [u8], at: usize, first: &[u8], i: u8, second: &[u8], n: u8) -> usize
     requires { ⌜ (LineAt at) × (length (now first) ≤ 16) × (length (now second) ≤ 16) ⌝ }
@@ -90,7 +99,7 @@ fn put_drop(out: &mut [u8], at: usize, closed: bool, drop: u8) -> usize
 
 fn put_proc_line(out: &mut [u8], at: usize, closed: bool, i: u8, params: u8, vars: u8, nodes: u8, drop: u8) -> usize
     requires { ⌜ LineAt at ⌝ }
-    ensures { λ r. ⌜ Put 300 (now (out .entry)) at (procLineText closed i params vars nodes drop) (now (out .exit)) r ⌝ }
+    ensures { λ r. ⌜ Put 141 (now (out .entry)) at (procLineText closed i params vars nodes drop) (now (out .exit)) r ⌝ }
 {
     let a = put_count(out, at, b"proc=", i);
     let b = put_count(out, a, b" params=", params);
@@ -101,7 +110,7 @@ fn put_proc_line(out: &mut [u8], at: usize, closed: bool, i: u8, params: u8, var
 
 fn put_start(out: &mut [u8], at: usize, j: u8, to: u32) -> usize
     requires { ⌜ LineAt at ⌝ }
-    ensures { λ r. ⌜ Put 300 (now (out .entry)) at (startText j to) (now (out .exit)) r ⌝ }
+    ensures { λ r. ⌜ Put 256 (now (out .entry)) at (startText j to) (now (out .exit)) r ⌝ }
 {
     let a = put_count(out, at, b"node=", j);
     put_last_list(out, a, b" kind=start to=", to)
@@ -110,7 +119,7 @@ fn put_start(out: &mut [u8], at: usize, j: u8, to: u32) -> usize
 // A node with a number under a key: read, wait and signal.
 fn put_number_node(out: &mut [u8], at: usize, j: u8, key: &[u8], n: u8, to: u32) -> usize
     requires { ⌜ (LineAt at) × (length (now key) ≤ 64) ⌝ }
-    ensures { λ r. ⌜ Put 300 (now (out .entry)) at (numberText j (now (key .entry)) n to) (now (out .exit)) r ⌝ }
+    ensures { λ r. ⌜ Put 256 (now (out .entry)) at (numberText j (now (key .entry)) n to) (now (out .exit)) r ⌝ }
 {
     let a = put_count(out, at, b"node=", j);
     let b = put_count(out, a, key, n);
@@ -120,7 +129,7 @@ fn put_number_node(out: &mut [u8], at: usize, j: u8, key: &[u8], n: u8, to: u32)
 // A node with a variable under a key: assert and out.
 fn put_variable_node(out: &mut [u8], at: usize, j: u8, key: &[u8], v: u8, to: u32) -> usize
     requires { ⌜ (LineAt at) × (length (now key) ≤ 64) ⌝ }
-    ensures { λ r. ⌜ Put 300 (now (out .entry)) at (variableText j (now (key .entry)) v to) (now (out .exit)) r ⌝ }
+    ensures { λ r. ⌜ Put 256 (now (out .entry)) at (variableText j (now (key .entry)) v to) (now (out .exit)) r ⌝ }
 {
     let a = put_count(out, at, b"node=", j);
     let b = put_variable(out, a, key, v);
@@ -130,7 +139,7 @@ fn put_variable_node(out: &mut [u8], at: usize, j: u8, key: &[u8], v: u8, to: u3
 // A node with a queue and a variable: send and recv.
 fn put_pass(out: &mut [u8], at: usize, j: u8, key: &[u8], q: u8, v: u8, to: u32) -> usize
     requires { ⌜ (LineAt at) × (length (now key) ≤ 64) ⌝ }
-    ensures { λ r. ⌜ Put 300 (now (out .entry)) at (passText j (now (key .entry)) q v to) (now (out .exit)) r ⌝ }
+    ensures { λ r. ⌜ Put 256 (now (out .entry)) at (passText j (now (key .entry)) q v to) (now (out .exit)) r ⌝ }
 {
     let a = put_count(out, at, b"node=", j);
     let b = put_count(out, a, key, q);
@@ -140,7 +149,7 @@ fn put_pass(out: &mut [u8], at: usize, j: u8, key: &[u8], q: u8, v: u8, to: u32)
 
 fn put_call(out: &mut [u8], at: usize, j: u8, q: u8, x: Args, to: u32) -> usize
     requires { ⌜ (LineAt at) × (x .len ≤ 4) ⌝ }
-    ensures { λ r. ⌜ Put 300 (now (out .entry)) at (callText j q x to) (now (out .exit)) r ⌝ }
+    ensures { λ r. ⌜ Put 256 (now (out .entry)) at (callText j q x to) (now (out .exit)) r ⌝ }
 {
     let a = put_count(out, at, b"node=", j);
     let b = put_count(out, a, b" kind=call proc=", q);
@@ -150,7 +159,7 @@ fn put_call(out: &mut [u8], at: usize, j: u8, q: u8, x: Args, to: u32) -> usize
 
 fn put_set(out: &mut [u8], at: usize, j: u8, v: u8, o: Op, x: Operand, y: Operand, to: u32) -> usize
     requires { ⌜ LineAt at ⌝ }
-    ensures { λ r. ⌜ Put 300 (now (out .entry)) at (setText j v o x y to) (now (out .exit)) r ⌝ }
+    ensures { λ r. ⌜ Put 256 (now (out .entry)) at (setText j v o x y to) (now (out .exit)) r ⌝ }
 {
     let a = put_count(out, at, b"node=", j);
     let b = put_count(out, a, b" kind=set var=", v);
@@ -162,7 +171,7 @@ fn put_set(out: &mut [u8], at: usize, j: u8, v: u8, o: Op, x: Operand, y: Operan
 
 fn put_test(out: &mut [u8], at: usize, j: u8, o: Op, x: Operand, y: Operand, yes: u32, no: u32) -> usize
     requires { ⌜ LineAt at ⌝ }
-    ensures { λ r. ⌜ Put 300 (now (out .entry)) at (testText j o x y yes no) (now (out .exit)) r ⌝ }
+    ensures { λ r. ⌜ Put 256 (now (out .entry)) at (testText j o x y yes no) (now (out .exit)) r ⌝ }
 {
     let a = put_count(out, at, b"node=", j);
     let b = put_op(out, a, b" kind=test op=", o);
@@ -174,8 +183,169 @@ fn put_test(out: &mut [u8], at: usize, j: u8, o: Op, x: Operand, y: Operand, yes
 
 fn put_return(out: &mut [u8], at: usize, j: u8) -> usize
     requires { ⌜ LineAt at ⌝ }
-    ensures { λ r. ⌜ Put 300 (now (out .entry)) at (returnText j) (now (out .exit)) r ⌝ }
+    ensures { λ r. ⌜ Put 256 (now (out .entry)) at (returnText j) (now (out .exit)) r ⌝ }
 {
     let a = put_count(out, at, b"node=", j);
     put_text(out, a, b" kind=return\n")
+}
+
+// A node's line; nothing where there is no node.
+fn put_node(out: &mut [u8], at: usize, j: u8, x: Node) -> usize
+    requires { ⌜ (LineAt at) × (FewArgs x) ⌝ }
+    ensures { λ r. ⌜ Put 256 (now (out .entry)) at (nodeBytes j x) (now (out .exit)) r ⌝ }
+{
+    match x {
+        Node::Absent => at,
+        Node::Start { to } => put_start(out, at, j, to),
+        Node::Set { var, op, a, b, to } => put_set(out, at, j, var, op, a, b, to),
+        Node::Test { op, a, b, yes, no } => put_test(out, at, j, op, a, b, yes, no),
+        Node::Read { var, to } => put_number_node(out, at, j, b" kind=read var=", var, to),
+        Node::Call { callee, args, to } => put_call(out, at, j, callee, args, to),
+        Node::Wait { sem, to } => put_number_node(out, at, j, b" kind=wait sem=", sem, to),
+        Node::Signal { sem, to } => put_number_node(out, at, j, b" kind=signal sem=", sem, to),
+        Node::Send { queue, var, to } => put_pass(out, at, j, b" kind=send queue=", queue, var, to),
+        Node::Recv { queue, var, to } => put_pass(out, at, j, b" kind=recv queue=", queue, var, to),
+        Node::Assert { var, to } => put_variable_node(out, at, j, b" kind=assert var=", var, to),
+        Node::Out { var, to } => put_variable_node(out, at, j, b" kind=out var=", var, to),
+        Node::Return => put_return(out, at, j),
+    }
+}
+
+// The node lines of a procedure.
+fn put_nodes(out: &mut [u8], at: usize, slots: [Slot; 32], n: u8) -> usize
+    requires { ⌜ (LinesAt at) × (NodesIn slots n) ⌝ }
+    ensures { λ r. ⌜ Put (256 * n) (now (out .entry)) at (concat (slotBytes slots) n 0) (now (out .exit)) r ⌝ }
+{
+    let mut p = at;
+    let mut j: u8 = 0;
+    while j < n {
+        let k = j as usize;
+        let s = slots[k];
+        let x = s.node;
+        p = put_node(out, p, j, x);
+        j += 1;
+    }
+    p
+}
+
+// A procedure's line and its node lines.
+fn put_proc(out: &mut [u8], at: usize, closed: bool, i: u8, q: Proc) -> usize
+    requires { ⌜ (at ≤ 800000) × (ProcIn q) ⌝ }
+    ensures { λ r. ⌜ Put 8400 (now (out .entry)) at (procBytes closed i q) (now (out .exit)) r ⌝ }
+{
+    let a = put_proc_line(out, at, closed, i, q.params, q.vars, q.nodes, q.drop);
+    let slots = q.slots;
+    put_nodes(out, a, slots, q.nodes)
+}
+
+fn put_procs(out: &mut [u8], at: usize, closed: bool, procs: [Proc; 8], n: u8) -> usize
+    requires { ⌜ (TableAt at) × (ProcsIn procs n) ⌝ }
+    ensures { λ r. ⌜ Put (8400 * n) (now (out .entry)) at (concat (procsBytes closed procs) n 0) (now (out .exit)) r ⌝ }
+{
+    let mut p = at;
+    let mut i: u8 = 0;
+    while i < n {
+        let k = i as usize;
+        let q = procs[k];
+        p = put_proc(out, p, closed, i, q);
+        i += 1;
+    }
+    p
+}
+
+fn put_task(out: &mut [u8], at: usize, i: u8, x: Task) -> usize
+    requires { ⌜ LineAt at ⌝ }
+    ensures { λ r. ⌜ Put 40 (now (out .entry)) at (taskBytes i x) (now (out .exit)) r ⌝ }
+{
+    put_pair_line(out, at, b"task=", i, b" top=", x.top)
+}
+
+fn put_tasks(out: &mut [u8], at: usize, tasks: [Task; 4], n: u8) -> usize
+    requires { ⌜ (TableAt at) × (n ≤ 4) ⌝ }
+    ensures { λ r. ⌜ Put (40 * n) (now (out .entry)) at (concat (λ i. taskBytes i (getD tasks i noTask)) n 0) (now (out .exit)) r ⌝ }
+{
+    let mut p = at;
+    let mut i: u8 = 0;
+    while i < n {
+        let k = i as usize;
+        let x = tasks[k];
+        p = put_task(out, p, i, x);
+        i += 1;
+    }
+    p
+}
+
+fn put_sem(out: &mut [u8], at: usize, i: u8, x: Sem) -> usize
+    requires { ⌜ LineAt at ⌝ }
+    ensures { λ r. ⌜ Put 40 (now (out .entry)) at (semBytes i x) (now (out .exit)) r ⌝ }
+{
+    put_pair_line(out, at, b"sem=", i, b" count=", x.count)
+}
+
+fn put_sems(out: &mut [u8], at: usize, sems: [Sem; 8], n: u8) -> usize
+    requires { ⌜ (TableAt at) × (n ≤ 8) ⌝ }
+    ensures { λ r. ⌜ Put (40 * n) (now (out .entry)) at (concat (λ i. semBytes i (getD sems i noSem)) n 0) (now (out .exit)) r ⌝ }
+{
+    let mut p = at;
+    let mut i: u8 = 0;
+    while i < n {
+        let k = i as usize;
+        let x = sems[k];
+        p = put_sem(out, p, i, x);
+        i += 1;
+    }
+    p
+}
+
+fn put_queues(out: &mut [u8], at: usize, closed: bool, queues: [Queue; 8], n: u8) -> usize
+    requires { ⌜ (TableAt at) × (n ≤ 8) ⌝ }
+    ensures { λ r. ⌜ Put (40 * n) (now (out .entry)) at (concat (λ i. queueBytes closed i (getD queues i noQueue)) n 0) (now (out .exit)) r ⌝ }
+{
+    let mut p = at;
+    let mut i: u8 = 0;
+    while i < n {
+        let k = i as usize;
+        let x = queues[k];
+        p = put_queue_line(out, p, closed, i, x.cap, x.blank);
+        i += 1;
+    }
+    p
+}
+
+// A table's text, from the buffer's start.
+pub fn put_table(out: &mut [u8], t: Table) -> usize
+    requires { ⌜ Counts t ⌝ }
+    ensures { λ r. ⌜ Put 100000 (now (out .entry)) 0 (text t) (now (out .exit)) r ⌝ }
+{
+    let a = put_head_line(out, 0, t.trap, t.closed);
+    let b = put_counts_line(out, a, t.tasks, t.procs, t.sems, t.queues);
+    let tasks = t.task;
+    let c = put_tasks(out, b, tasks, t.tasks);
+    let sems = t.sem;
+    let d = put_sems(out, c, sems, t.sems);
+    let queues = t.queue;
+    let e = put_queues(out, d, t.closed, queues, t.queues);
+    let procs = t.proc;
+    put_procs(out, e, t.closed, procs, t.procs)
+}
+
+// The text of a table that has no fault, or 8 where the buffer is shorter.
+pub fn write_ready(t: Table, out: &mut [u8]) -> Writing
+    requires { ⌜ Counts t ⌝ }
+    ensures { λ r. ⌜ WrittenAs (text t) (now (out .entry)) (now (out .exit)) r ⌝ }
+{
+    let need = put_table(&mut out[..0], t);
+    if out.len() < need {
+        return Writing {
+            number: 8,
+            line: 0,
+            len: 0,
+        };
+    }
+    let len = put_table(out, t);
+    Writing {
+        number: 0,
+        line: 0,
+        len: len,
+    }
 }
