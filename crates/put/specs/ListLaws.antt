@@ -1,10 +1,9 @@
 -- Laws of lists written item by item.
-use Prim.Native.Nat.{ℕ, zero, suc, _+_, _*_, _/_, _%_, _^_, _≤_, _<_}
+use Prim.Native.Nat.{ℕ, zero, suc, _+_, _*_, _/_, _%_, _^_, _≤_, _<_, _-_, min}
 use mathlib.Core.Path.{_≡_, refl, sym, _∙_, ap}
 use mathlib.Core.List.{List, [], _∷_, _++_, map, append-nil, append-assoc}
-use mathlib.Core.Bool.{Bool, true, false}
 use native.Mathlib.Omega.{arith}
-use native.Mathlib.Nat.{add-zero, pow-suc, div-div-eq-div-mul}
+use native.Mathlib.Nat.{pow-suc, div-div-eq-div-mul}
 use native.Mathlib.Numerals.{add-one}
 use lib.Dec.{eqb}
 use lib.ListN.{length, length-append}
@@ -17,7 +16,7 @@ use Rattle.text.specs.Format.{nameOf}
 use Rattle.table.specs.declared.Args.{Args}
 use Rattle.put.specs.Put.{Put}
 use Rattle.put.specs.PutLaws.{put-after, put-more}
-use Rattle.put.specs.Lists.{above, itemsText, listText, itemText, argsText}
+use Rattle.put.specs.Lists.{above, itemsText, listText, itemText, itemSize, argsText}
 
 -- ---- a mask, bit by bit
 
@@ -46,7 +45,7 @@ above-left n k r h = rw h
 
 -- ---- items
 
-digits-two : (n : ℕ) → n < 100 → length (digits n) ≤ 2
+digits-two : (n : ℕ) → n < 100 → length (digits n) ≤ 1 + min (n / 10) 1
 digits-two n h = byOrder n 10
     (λ s. omega (arith, ap length (digits-small n s)))
     (λ g. omega (arith, ap length (digits-large n g ∙ ap (λ (x : List ℕ). x ++ ((48 + n % 10) ∷ [])) (digits-small (n / 10) (omega arith)))))
@@ -75,17 +74,18 @@ pub record Listing (l : List ℕ) (at m : ℕ) (o : List ℕ) (p k rest : ℕ) :
   pub places : k + left ≡ 32
   pub small : rest < 2 ^ left
   pub all : passed ++ above left k rest ≡ members m
-  pub put : Put (3 * k) l at (commas (map digits passed)) o p
+  pub put : Put (2 * k + (k - 10)) l at (commas (map digits passed)) o p
 
 pub listing-start : {l : List ℕ} {at : ℕ} (m : ℕ) → m < 4294967296 → Listing l at m l at 0 m
 unfolding commas
-listing-start {l} {at} m h = record
-  { passed = []
-  ; left = 32
-  ; places = refl
-  ; small = h
-  ; all = sym (members-above m)
-  ; put = record { few = omega arith; bytes = λ u. refl; same = refl; next = omega arith } }
+listing-start {l} {at} m h = record {
+  passed = [];
+  left = 32;
+  places = refl;
+  small = h;
+  all = sym (members-above m);
+  put = record { few = omega arith; bytes = λ u. refl; same = refl; next = omega arith };
+}
 
 module _ {l o : List ℕ} {at m p k rest : ℕ} (a : Listing l at m o p k rest) where
   pub listing-below : 1 ≤ rest → k < 32
@@ -101,8 +101,8 @@ module _ {l o : List ℕ} {at m p k rest : ℕ} (a : Listing l at m o p k rest) 
   pub listing-same : length o ≡ length l
   listing-same = a .put .same
 
-  held : {o′ : List ℕ} {p′ : ℕ} (xs : List ℕ) → Put (3 * k) l at (commas (map digits xs)) o p
-      → Put 3 o p (pick (eqb p at) (digits k) (44 ∷ digits k)) o′ p′ → Put (3 * (k + 1)) l at (commas (map digits (xs ++ (k ∷ [])))) o′ p′
+  held : {o′ : List ℕ} {p′ : ℕ} (xs : List ℕ) → Put (2 * k + (k - 10)) l at (commas (map digits xs)) o p
+      → Put (itemSize k) o p (pick (eqb p at) (digits k) (44 ∷ digits k)) o′ p′ → Put (2 * (k + 1) + (k + 1 - 10)) l at (commas (map digits (xs ++ (k ∷ [])))) o′ p′
   unfolding commas
   held [] b c =
       let e : p ≡ at = omega (arith, b .next) in
@@ -111,7 +111,7 @@ module _ {l o : List ℕ} {at m p k rest : ℕ} (a : Listing l at m o p k rest) 
       let e : p ≡ at → ⊥ = λ q. omega (arith, b .next, items-some x xs) in
       rw (← items-more x xs k) (put-more (omega arith) (put-after b (rw (ne-eqb p at e) at c)))
 
-  pub listing-turn : {o′ : List ℕ} {p′ : ℕ} → 1 ≤ rest → Put 3 o p (itemText at p k (rest % 2)) o′ p′ → Listing l at m o′ p′ (k + 1) (rest / 2)
+  pub listing-turn : {o′ : List ℕ} {p′ : ℕ} → 1 ≤ rest → Put (itemSize k) o p (itemText at p k (rest % 2)) o′ p′ → Listing l at m o′ p′ (k + 1) (rest / 2)
   listing-turn {o′} {p′} h c = go (a .left) (a .places) (a .small) (a .all)
     where
       go : (n : ℕ) → k + n ≡ 32 → rest < 2 ^ n → a .passed ++ above n k rest ≡ members m → Listing l at m o′ p′ (k + 1) (rest / 2)
@@ -119,40 +119,44 @@ module _ {l o : List ℕ} {at m p k rest : ℕ} (a : Listing l at m o p k rest) 
       go (suc n) e s all = byOrder (rest % 2) 1
           (λ d.
           let z : rest % 2 ≡ 0 = omega arith in
-          record
-            { passed = a .passed
-            ; left = n
-            ; places = omega arith
-            ; small = omega arith
-            ; all = rw (add-one k, ← above-left n k rest z) all
-            ; put = rw append-nil at (put-more {j = 3 * (k + 1)} (omega arith) (put-after (a .put) (rw (eq-eqb (rest % 2) 0 z) at c))) })
+          record {
+            passed = a .passed;
+            left = n;
+            places = omega arith;
+            small = omega arith;
+            all = rw (add-one k, ← above-left n k rest z) all;
+            put = rw append-nil at (put-more {j = 2 * (k + 1) + (k + 1 - 10)} (omega arith) (put-after (a .put) (rw (eq-eqb (rest % 2) 0 z) at c)));
+          })
           (λ d.
           let z : rest % 2 ≡ 1 = omega arith in
-          record
-            { passed = a .passed ++ (k ∷ [])
-            ; left = n
-            ; places = omega arith
-            ; small = omega arith
-            ; all = append-assoc (a .passed) (k ∷ []) _ ∙ rw (add-one k, ← above-held n k rest z) all
-            ; put = held (a .passed) (a .put) (rw (ne-eqb (rest % 2) 0 (λ q. omega arith)) at c) })
+          record {
+            passed = a .passed ++ (k ∷ []);
+            left = n;
+            places = omega arith;
+            small = omega arith;
+            all = append-assoc (a .passed) (k ∷ []) _ ∙ rw (add-one k, ← above-held n k rest z) all;
+            put = held (a .passed) (a .put) (rw (ne-eqb (rest % 2) 0 (λ q. omega arith)) at c);
+          })
 
-  pub listing-end : k ≤ 32 → rest ≡ 0 → Put 96 l at (itemsText m) o p
+  pub listing-end : k ≤ 32 → rest ≡ 0 → Put 86 l at (itemsText m) o p
   listing-end u h =
       let e : a .passed ≡ members m = sym (append-nil (a .passed)) ∙ ap (λ (x : List ℕ). a .passed ++ x) (sym (above-none (a .left) k)) ∙ ap (λ (r : ℕ). a .passed ++ above (a .left) k r) (sym h) ∙ a .all in
       rw (← e) (put-more (omega arith) (a .put))
 
 -- ---- an item
 
-pub item-out : {l : List ℕ} {at b : ℕ} (from k : ℕ) → b ≡ 0 → Put 3 l at (itemText from at k b) l at
+pub item-out : {l : List ℕ} {at b : ℕ} (from k : ℕ) → b ≡ 0 → Put (itemSize k) l at (itemText from at k b) l at
 item-out {l} {at} {b} from k h = rw (eq-eqb b 0 h) (record { few = omega arith; bytes = λ u. refl; same = refl; next = omega arith })
 
-pub item-first : {l m : List ℕ} {at b r : ℕ} (from k : ℕ) → k < 32 → (b ≡ 0 → ⊥) → at ≡ from → Put 3 l at (digits k) m r → Put 3 l at (itemText from at k b) m r
-item-first {at = at} {b = b} from k u h e a = rw (ne-eqb b 0 h, eq-eqb at from e) a
+item-digits : {l m : List ℕ} {at r : ℕ} (k : ℕ) → k < 32 → Put 3 l at (digits k) m r → Put (1 + min (k / 10) 1) l at (digits k) m r
+item-digits k u a = record { few = digits-two k (omega arith); bytes = a .bytes; same = a .same; next = a .next }
 
-pub item-next : {l m n : List ℕ} {at b p r : ℕ} (from k : ℕ) → k < 32 → (b ≡ 0 → ⊥) → (at ≡ from → ⊥) → Put 1 l at (44 ∷ []) m p → Put 3 m p (digits k) n r → Put 3 l at (itemText from at k b) n r
-item-next {at = at} {b = b} from k u h e a d =
-    let f : Put 2 _ _ (digits k) _ _ = record { few = digits-two k (omega arith); bytes = d .bytes; same = d .same; next = d .next } in
-    rw (ne-eqb b 0 h, ne-eqb at from e) (put-after a f)
+pub item-first : {l m : List ℕ} {at b r : ℕ} (from k : ℕ) → k < 32 → (b ≡ 0 → ⊥) → at ≡ from → Put 3 l at (digits k) m r → Put (itemSize k) l at (itemText from at k b) m r
+item-first {at = at} {b = b} from k u h e a = rw (ne-eqb b 0 h, eq-eqb at from e) (put-more (omega arith) (item-digits k u a))
+
+pub item-next : {l m n : List ℕ} {at b p r : ℕ} (from k : ℕ) → k < 32 → (b ≡ 0 → ⊥) → (at ≡ from → ⊥) → Put 1 l at (44 ∷ []) m p → Put 3 m p (digits k) n r
+    → Put (itemSize k) l at (itemText from at k b) n r
+item-next {at = at} {b = b} from k u h e a d = rw (ne-eqb b 0 h, ne-eqb at from e) (put-more (omega arith) (put-after a (item-digits k u d)))
 
 -- ---- the whole list
 
@@ -160,18 +164,18 @@ items-none : (xs : List ℕ) → length (commas (map digits xs)) ≡ 0 → xs �
 items-none [] h = refl
 items-none (x ∷ xs) h = absurd (omega (arith, items-some x xs))
 
-pub list-none : {l o n : List ℕ} {at p r : ℕ} (m : ℕ) → Put 96 l at (itemsText m) o p → p ≡ at → Put 4 o at (bytes "none") n r → Put 96 l at (listText m) n r
+pub list-none : {l o n : List ℕ} {at p r : ℕ} (m : ℕ) → Put 86 l at (itemsText m) o p → p ≡ at → Put 4 o at (bytes "none") n r → Put 86 l at (listText m) n r
 unfolding commas
 list-none m a e b =
     let z : members m ≡ [] = items-none (members m) (omega (arith, a .next)) in
     let c = rw (z, e) at a in
     rw z (put-more {k = 4} (omega arith) record { few = b .few; bytes = put-after c b .bytes; same = put-after c b .same; next = put-after c b .next })
 
-pub list-some : {l o : List ℕ} {at p : ℕ} (m : ℕ) → Put 96 l at (itemsText m) o p → (p ≡ at → ⊥) → Put 96 l at (listText m) o p
+pub list-some : {l o : List ℕ} {at p : ℕ} (m : ℕ) → Put 86 l at (itemsText m) o p → (p ≡ at → ⊥) → Put 86 l at (listText m) o p
 unfolding commas
 list-some {l} {o} {at} {p} m a h = go (members m) a
   where
-    go : (xs : List ℕ) → Put 96 l at (commas (map digits xs)) o p → Put 96 l at (spellList (map digits xs)) o p
+    go : (xs : List ℕ) → Put 86 l at (commas (map digits xs)) o p → Put 86 l at (spellList (map digits xs)) o p
     go [] a = absurd (h (omega (arith, a .next)))
     go (x ∷ xs) a = a
 

@@ -1,5 +1,5 @@
 -- Laws of writing: one piece after another, a field, a line.
-use Prim.Native.Nat.{ℕ, zero, suc, _+_, _-_, _*_, _/_, _%_, _≤_, _<_}
+use Prim.Native.Nat.{ℕ, zero, suc, _+_, _-_, _/_, _%_, _≤_, _<_}
 use mathlib.Core.Path.{_≡_, refl, sym, _∙_, ap}
 use mathlib.Core.List.{List, [], _∷_, _++_, append-assoc}
 use native.Mathlib.Omega.{arith}
@@ -13,7 +13,6 @@ use lib.IntN.{ℤ, pos, negsuc}
 use mir.Syntax.{w32}
 use mir.Val.{SFits, ofZ, toZ}
 use mir.Facts.{toZ-ofZ}
-use Rattle.table.specs.declared.Operand.{Operand}
 use Rattle.table.specs.declared.Operand.the-variants.{Var, Const}
 use Rattle.text.specs.NumberLaws.{byOrder}
 use Rattle.text.specs.Value.{spellOperand}
@@ -25,14 +24,15 @@ sets-append (b ∷ t) u l at = sets-append t u _ (suc at) ∙ rw (suc-add, ← a
 
 -- one piece after another
 pub put-after : {k j : ℕ} {l m n t u : List ℕ} {at p q : ℕ} → Put k l at t m p → Put j m p u n q → Put (k + j) l at (t ++ u) n q
-put-after {k} {j} {l} {m} {n} {t} {u} {at} {p} {q} a b = record
-  { few = omega (arith, a .few, b .few, length-append t u)
-  ; bytes = λ h.
+put-after {k} {j} {l} {m} {n} {t} {u} {at} {p} {q} a b = record {
+  few = omega (arith, a .few, b .few, length-append t u);
+  bytes = λ h.
       let e = length-append t u in
       let c : m ≡ sets l at t = a .bytes (omega arith) in
-      b .bytes (omega (arith, a .next, a .same)) ∙ ap (λ (x : List ℕ). sets x p u) c ∙ ap (λ (i : ℕ). sets (sets l at t) i u) (a .next) ∙ sym (sets-append t u l at)
-  ; same = b .same ∙ a .same
-  ; next = b .next ∙ omega (arith, a .next, length-append t u) }
+      b .bytes (omega (arith, a .next, a .same)) ∙ ap (λ (x : List ℕ). sets x p u) c ∙ ap (λ (i : ℕ). sets (sets l at t) i u) (a .next) ∙ sym (sets-append t u l at);
+  same = b .same ∙ a .same;
+  next = b .next ∙ omega (arith, a .next, length-append t u);
+}
 
 pub put-more : {k j : ℕ} {l m t : List ℕ} {at p : ℕ} → k ≤ j → Put k l at t m p → Put j l at t m p
 put-more h a = record { few = omega (arith, a .few); bytes = a .bytes; same = a .same; next = a .next }
@@ -59,13 +59,14 @@ pub copying-same : {l t m : List ℕ} {at i : ℕ} → Copying l at t m i → le
 copying-same {l} {t} {m} {at} {i} a = ap length (a .so-far) ∙ length-sets l at (take i t)
 
 pub copying-turn : {l t m : List ℕ} {at i : ℕ} → Copying l at t m i → i < length t → Copying l at t (set m (at + i) (getD t i 0)) (i + 1)
-copying-turn {l} {t} {m} {at} {i} a h = record
-  { within = omega arith
-  ; so-far = rw (add-one i, take-suc t i 0 h, sets-append (take i t) (getD t i 0 ∷ []) l at, ← a .so-far, length-take-le i t (omega arith)) }
+copying-turn {l} {t} {m} {at} {i} a h = record {
+  within = omega arith;
+  so-far = rw (add-one i, take-suc t i 0 h, sets-append (take i t) (getD t i 0 ∷ []) l at, ← a .so-far, length-take-le i t (omega arith));
+}
 
 pub copying-end : {l t m : List ℕ} {at i : ℕ} → Copying l at t m i → length t ≤ i → Put (length t) l at t m (at + length t)
 copying-end {l} {t} {m} {at} {i} a h = record
-  { few = omega arith; bytes = λ k. a .so-far ∙ ap (sets l at) (take-all i t h); same = copying-same a; next = refl }
+    { few = omega arith; bytes = λ k. a .so-far ∙ ap (sets l at) (take-all i t h); same = copying-same a; next = refl }
 
 -- ---- numbers
 

@@ -4,7 +4,6 @@
 use table::Args;
 use table::Op;
 use table::Operand;
-ghost use mathlib.Core.Path.{_≡_};
 ghost use mathlib.Core.List.{_∷_, [], _++_};
 ghost use Prim.Native.Nat.{_+_, _≤_, _<_};
 ghost use lib.ListN.{length};
@@ -13,7 +12,7 @@ ghost use Rattle.text.specs.Number.{digits};
 ghost use Rattle.text.specs.Value.{spellOperand, spellVariable, opWord};
 ghost use Rattle.text.specs.Format.{nameOf};
 ghost use Rattle.put.specs.Put.{Put, PutField, ByteAt, DigitsAt, ValueAt, FieldAt};
-ghost use Rattle.put.specs.Lists.{itemsText, listText, itemText, argsText};
+ghost use Rattle.put.specs.Lists.{itemsText, listText, itemText, itemSize, argsText};
 
 pub fn put_byte(out: &mut [u8], at: usize, b: u8) -> usize
     requires { ⌜ ByteAt at ⌝ }
@@ -135,7 +134,7 @@ pub fn put_op_value(out: &mut [u8], at: usize, o: Op) -> usize
 // The number k, if b says that it is in the list that begins at from.
 pub fn put_item(out: &mut [u8], at: usize, from: usize, k: u8, b: u32) -> usize
     requires { ⌜ (DigitsAt (at + 1)) × (k < 32) ⌝ }
-    ensures { λ r. ⌜ Put 3 (now (out .entry)) at (itemText from at k b) (now (out .exit)) r ⌝ }
+    ensures { λ r. ⌜ Put (itemSize k) (now (out .entry)) at (itemText from at k b) (now (out .exit)) r ⌝ }
 {
     if b == 0 {
         return at;
@@ -150,7 +149,7 @@ pub fn put_item(out: &mut [u8], at: usize, from: usize, k: u8, b: u32) -> usize
 // The numbers in a mask with commas between.
 pub fn put_items(out: &mut [u8], at: usize, m: u32) -> usize
     requires { ⌜ ValueAt at ⌝ }
-    ensures { λ r. ⌜ Put 96 (now (out .entry)) at (itemsText m) (now (out .exit)) r ⌝ }
+    ensures { λ r. ⌜ Put 86 (now (out .entry)) at (itemsText m) (now (out .exit)) r ⌝ }
 {
     let mut p = at;
     let mut k: u8 = 0;
@@ -165,7 +164,7 @@ pub fn put_items(out: &mut [u8], at: usize, m: u32) -> usize
 
 pub fn put_list_value(out: &mut [u8], at: usize, m: u32) -> usize
     requires { ⌜ ValueAt at ⌝ }
-    ensures { λ r. ⌜ Put 96 (now (out .entry)) at (listText m) (now (out .exit)) r ⌝ }
+    ensures { λ r. ⌜ Put 86 (now (out .entry)) at (listText m) (now (out .exit)) r ⌝ }
 {
     let p = put_items(out, at, m);
     if p == at {
@@ -240,7 +239,7 @@ pub fn put_operand(out: &mut [u8], at: usize, key: &[u8], v: Operand) -> usize
 
 pub fn put_list(out: &mut [u8], at: usize, key: &[u8], v: u32) -> usize
     requires { ⌜ (FieldAt at) × (length (now key) ≤ 64) ⌝ }
-    ensures { λ r. ⌜ PutField (length (now (key .entry)) + 96) (now (out .entry)) at (now (key .entry)) (listText v) (now (out .exit)) r ⌝ }
+    ensures { λ r. ⌜ PutField (length (now (key .entry)) + 86) (now (out .entry)) at (now (key .entry)) (listText v) (now (out .exit)) r ⌝ }
 {
     let a = put_text(out, at, key);
     put_list_value(out, a, v)
@@ -257,7 +256,7 @@ pub fn put_args(out: &mut [u8], at: usize, key: &[u8], v: Args) -> usize
 // A list that ends its line.
 pub fn put_last_list(out: &mut [u8], at: usize, key: &[u8], to: u32) -> usize
     requires { ⌜ (FieldAt at) × (length (now key) ≤ 64) ⌝ }
-    ensures { λ r. ⌜ PutField (length (now (key .entry)) + 97) (now (out .entry)) at (now (key .entry)) (listText to ++ (10 ∷ [])) (now (out .exit)) r ⌝ }
+    ensures { λ r. ⌜ PutField (length (now (key .entry)) + 87) (now (out .entry)) at (now (key .entry)) (listText to ++ (10 ∷ [])) (now (out .exit)) r ⌝ }
 {
     let a = put_list(out, at, key, to);
     put_byte(out, a, 10)

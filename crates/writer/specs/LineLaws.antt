@@ -17,7 +17,7 @@ use Rattle.text.specs.Format.{Scope, headLine, countsLine, taskLine, semLine, q
 use Rattle.text.specs.Writer.{nodeText, queueVals, procVals}
 use native.Mathlib.Omega.{arith}
 use Rattle.put.specs.Put.{Put}
-use Rattle.writer.specs.Lines.{pairText, countsText, headText, blankText, queueText, dropText, procLineText, numberText, variableText, passText, startText, callText, setText, testText, returnText, anyScope, nodeBytes}
+use Rattle.writer.specs.Lines.{pairText, countsText, headText, queueText, procLineText, numberText, variableText, passText, startText, callText, setText, testText, returnText, nodeBytes}
 
 -- ---- the lines before the nodes
 
@@ -119,5 +119,5 @@ node-scope c j (Out v to) = refl
 node-scope c j Return = refl
 
 -- where there is no node nothing is written
-pub node-none : {l : List ℕ} {at : ℕ} (j : ℕ) → Put 256 l at (nodeBytes j Absent) l at
+pub node-none : {l : List ℕ} {at : ℕ} (j : ℕ) → Put 240 l at (nodeBytes j Absent) l at
 node-none j = rw (node-absent j) (record { few = omega arith; bytes = λ u. refl; same = refl; next = omega arith })

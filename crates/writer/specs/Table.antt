@@ -4,7 +4,7 @@ use mathlib.Core.Path.{_≡_}
 use mathlib.Core.List.{List, _++_}
 use mathlib.Core.Bool.{Bool}
 use lib.ListN.{length, getD}
-use Rattle.table.specs.Table.{noSlot, outside, procAt, nodeIn}
+use Rattle.table.specs.Table.{noSlot, outside}
 use Rattle.table.specs.declared.Node.{Node}
 use Rattle.table.specs.declared.Node.the-variants.{Absent, Start, Set, Test, Read, Call, Wait, Signal, Send, Recv, Assert, Out, Return}
 use Rattle.table.specs.declared.Slot.{Slot}
@@ -15,7 +15,7 @@ use Rattle.table.specs.declared.Proc.{Proc}
 use Rattle.table.specs.declared.Table.{Table}
 use Rattle.text.specs.Number.{bytes}
 use Rattle.text.specs.Reader.{concat}
-use Rattle.text.specs.Writer.{Written, fitted}
+use Rattle.text.specs.Writer.{fitted}
 use Rattle.text.specs.declared.Writing.{Writing}
 use Rattle.writer.specs.Lines.{pairText, queueText, procLineText, nodeBytes}
 

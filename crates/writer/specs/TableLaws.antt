@@ -2,25 +2,24 @@
 use Prim.Native.Nat.{ℕ, zero, suc, _+_, _*_, _≤_, _<_}
 use mathlib.Core.Path.{_≡_, refl, sym, _∙_, ap}
 use mathlib.Core.List.{List, [], _∷_, _++_, append-nil, append-assoc}
-use mathlib.Core.Bool.{Bool, true, false}
 use native.Mathlib.Omega.{arith}
-use native.Mathlib.Nat.{add-zero, zero-add, suc-add, add-suc}
+use native.Mathlib.Nat.{add-zero}
 use native.Mathlib.Numerals.{add-one}
-use lib.ListN.{length, getD, drop}
-use lib.Seq.{sets, sets-eq}
+use lib.ListN.{length, drop}
+use lib.Seq.{sets-eq}
 use borrow.Author.Tests.{lt-ltb, le-ltb}
 use Rattle.table.specs.Table.{taskAt, semAt, queueAt, procAt, nodeIn}
 use Rattle.table.specs.declared.Table.{Table}
 use Rattle.text.specs.Line.{write}
 use Rattle.text.specs.Format.{taskLine, semLine, queueLine, describe}
 use Rattle.text.specs.Reader.{concat}
-use Rattle.text.specs.Writer.{text, procText, scope, nodeText, queueVals, procVals, fitted}
+use Rattle.text.specs.Writer.{text, procText, scope, nodeText, queueVals, fitted}
 use Rattle.text.specs.Fault.{number}
 use Rattle.put.specs.Put.{Put}
 use Rattle.put.specs.PutLaws.{put-after, put-more}
-use Rattle.writer.specs.Lines.{headText, countsText, nodeBytes}
+use Rattle.writer.specs.Lines.{headText, countsText}
 use Rattle.writer.specs.LineLaws.{head-text, counts-text, task-text, sem-text, queue-text, proc-text, node-scope}
-use Rattle.writer.specs.Table.{taskBytes, semBytes, queueBytes, slotBytes, procBytes, procsBytes, WrittenAs}
+use Rattle.writer.specs.Table.{taskBytes, semBytes, queueBytes, slotBytes, procsBytes, WrittenAs}
 
 -- ---- rows
 
@@ -82,6 +81,36 @@ module _ {l m n o i j k : List ℕ} {p q r s u v : ℕ} where
       → Put (40 * t .tasks) n q (concat (λ a. taskBytes a (taskAt t a)) (t .tasks) 0) o r
       → Put (40 * t .sems) o r (concat (λ a. semBytes a (semAt t a)) (t .sems) 0) i s
       → Put (40 * t .queues) i s (concat (λ a. queueBytes (t .closed) a (queueAt t a)) (t .queues) 0) j u
-      → Put (8400 * t .procs) j u (concat (procsBytes (t .closed) (t .proc)) (t .procs) 0) k v
-      → Put 100000 l 0 (text t) k v
+      → Put (7820 * t .procs) j u (concat (procsBytes (t .closed) (t .proc)) (t .procs) 0) k v
+      → Put 65536 l 0 (text t) k v
   table-put t e f g h a b c d w x = rw (table-text t) (put-more (omega arith) (put-after a (put-after b (put-after c (put-after d (put-after w x))))))
+
+-- ---- the answer
+
+none-left : (m : List ℕ) → length m ≡ 0 → m ≡ []
+none-left [] h = refl
+none-left (b ∷ m) h = absurd (omega arith)
+
+-- measured in an empty part of the buffer, which stays as it was
+measured : {s l m : List ℕ} {r : ℕ} → Put 65536 [] 0 s m r → (m ++ l ≡ l) × (r ≡ length s)
+measured {l = l} {m = m} a = (ap (λ (x : List ℕ). x ++ l) (none-left m (a .same)), omega (arith, a .next))
+
+short-as : (s l : List ℕ) → length l < length s → WrittenAs s l l (record { number = 8; line = 0; len = 0 })
+unfolding number
+short-as s l h = record { answer = rw (lt-ltb (length l) (length s) h, fitted); buffer = rw (lt-ltb (length l) (length s) h, fitted) }
+
+whole-as : (s l k : List ℕ) (q : ℕ) → length s ≤ length l → Put 65536 l 0 s k q → WrittenAs s l k (record { number = 0; line = 0; len = q })
+whole-as s l k q h a =
+    let e : q ≡ length s = omega (arith, a .next) in
+    let z : 0 + length s ≡ length s = omega arith in
+    let b : k ≡ s ++ drop (length s) l = a .bytes (omega arith) ∙ sets-eq s l 0 (omega arith) ∙ ap (λ (i : ℕ). s ++ drop i l) z in
+    record { answer = rw (le-ltb (length l) (length s) h, fitted, e); buffer = rw (le-ltb (length l) (length s) h, fitted) b }
+
+pub ready-large : {s l k : List ℕ} {q : ℕ} → 65536 ≤ length l → Put 65536 l 0 s k q → WrittenAs s l k (record { number = 0; line = 0; len = q })
+ready-large {s} {l} {k} {q} h a = whole-as s l k q (omega (arith, a .few)) a
+
+pub ready-short : {s l m : List ℕ} {r : ℕ} → Put 65536 [] 0 s m r → length (m ++ l) < r → WrittenAs s l (m ++ l) (record { number = 8; line = 0; len = 0 })
+ready-short {s} {l} {m} a h = let e = measured {l = l} a in rw (e .0) (short-as s l (rw (e .0, e .1) at h))
+
+pub ready-whole : {s l m k : List ℕ} {r q : ℕ} → Put 65536 [] 0 s m r → r ≤ length (m ++ l) → Put 65536 (m ++ l) 0 s k q → WrittenAs s l k (record { number = 0; line = 0; len = q })
+ready-whole {s} {l} {m} {k} {r} {q} a h b = let e = measured {l = l} a in whole-as s l k q (rw (e .0, e .1) at h) (rw (e .0) at b)

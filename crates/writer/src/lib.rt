@@ -21,13 +21,11 @@ use table::Slot;
 use table::Table;
 use table::Task;
 use text::Writing;
-ghost use mathlib.Core.Path.{_≡_};
-ghost use mathlib.Core.List.{_∷_, [], _++_};
-ghost use Prim.Native.Nat.{_+_, _*_, _≤_, _<_};
+ghost use Prim.Native.Nat.{_*_, _≤_, _<_};
 ghost use lib.ListN.{length, getD};
 ghost use Rattle.table.specs.Table.{noTask, noSem, noQueue};
 ghost use Rattle.text.specs.Reader.{concat};
-ghost use Rattle.text.specs.Writer.{text, fitted};
+ghost use Rattle.text.specs.Writer.{text};
 ghost use Rattle.put.specs.Put.{Put, FieldAt, LineAt, LinesAt, TableAt};
 ghost use Rattle.writer.specs.Lines.{pairText, countsText, headText, blankText, queueText, dropText, procLineText, numberText, variableText, passText, startText, callText, setText, testText, returnText, nodeBytes};
 ghost use Rattle.writer.specs.Table.{FewArgs, NodesIn, ProcIn, ProcsIn, Counts, taskBytes, semBytes, queueBytes, slotBytes, procBytes, procsBytes, WrittenAs};
@@ -89,7 +87,7 @@ fn put_queue_line(out: &mut [u8], at: usize, closed: bool, i: u8, n: u8, blank: 
 // A procedure line from its drop field on.
 fn put_drop(out: &mut [u8], at: usize, closed: bool, drop: u8) -> usize
     requires { ⌜ FieldAt at ⌝ }
-    ensures { λ r. ⌜ Put 103 (now (out .entry)) at (dropText closed drop) (now (out .exit)) r ⌝ }
+    ensures { λ r. ⌜ Put 93 (now (out .entry)) at (dropText closed drop) (now (out .exit)) r ⌝ }
 {
     if closed {
         return put_last_list(out, at, b" drop=", drop as u32);
@@ -97,9 +95,18 @@ fn put_drop(out: &mut [u8], at: usize, closed: bool, drop: u8) -> usize
     put_byte(out, at, 10)
 }
 
-fn put_proc_line(out: &mut [u8], at: usize, closed: bool, i: u8, params: u8, vars: u8, nodes: u8, drop: u8) -> usize
+fn put_proc_line(
+    out: &mut [u8],
+    at: usize,
+    closed: bool,
+    i: u8,
+    params: u8,
+    vars: u8,
+    nodes: u8,
+    drop: u8,
+) -> usize
     requires { ⌜ LineAt at ⌝ }
-    ensures { λ r. ⌜ Put 141 (now (out .entry)) at (procLineText closed i params vars nodes drop) (now (out .exit)) r ⌝ }
+    ensures { λ r. ⌜ Put 140 (now (out .entry)) at (procLineText closed i params vars nodes drop) (now (out .exit)) r ⌝ }
 {
     let a = put_count(out, at, b"proc=", i);
     let b = put_count(out, a, b" params=", params);
@@ -110,7 +117,7 @@ fn put_proc_line(out: &mut [u8], at: usize, closed: bool, i: u8, params: u8, var
 
 fn put_start(out: &mut [u8], at: usize, j: u8, to: u32) -> usize
     requires { ⌜ LineAt at ⌝ }
-    ensures { λ r. ⌜ Put 256 (now (out .entry)) at (startText j to) (now (out .exit)) r ⌝ }
+    ensures { λ r. ⌜ Put 240 (now (out .entry)) at (startText j to) (now (out .exit)) r ⌝ }
 {
     let a = put_count(out, at, b"node=", j);
     put_last_list(out, a, b" kind=start to=", to)
@@ -119,7 +126,7 @@ fn put_start(out: &mut [u8], at: usize, j: u8, to: u32) -> usize
 // A node with a number under a key: read, wait and signal.
 fn put_number_node(out: &mut [u8], at: usize, j: u8, key: &[u8], n: u8, to: u32) -> usize
     requires { ⌜ (LineAt at) × (length (now key) ≤ 64) ⌝ }
-    ensures { λ r. ⌜ Put 256 (now (out .entry)) at (numberText j (now (key .entry)) n to) (now (out .exit)) r ⌝ }
+    ensures { λ r. ⌜ Put 240 (now (out .entry)) at (numberText j (now (key .entry)) n to) (now (out .exit)) r ⌝ }
 {
     let a = put_count(out, at, b"node=", j);
     let b = put_count(out, a, key, n);
@@ -129,7 +136,7 @@ fn put_number_node(out: &mut [u8], at: usize, j: u8, key: &[u8], n: u8, to: u32)
 // A node with a variable under a key: assert and out.
 fn put_variable_node(out: &mut [u8], at: usize, j: u8, key: &[u8], v: u8, to: u32) -> usize
     requires { ⌜ (LineAt at) × (length (now key) ≤ 64) ⌝ }
-    ensures { λ r. ⌜ Put 256 (now (out .entry)) at (variableText j (now (key .entry)) v to) (now (out .exit)) r ⌝ }
+    ensures { λ r. ⌜ Put 240 (now (out .entry)) at (variableText j (now (key .entry)) v to) (now (out .exit)) r ⌝ }
 {
     let a = put_count(out, at, b"node=", j);
     let b = put_variable(out, a, key, v);
@@ -139,7 +146,7 @@ fn put_variable_node(out: &mut [u8], at: usize, j: u8, key: &[u8], v: u8, to: u3
 // A node with a queue and a variable: send and recv.
 fn put_pass(out: &mut [u8], at: usize, j: u8, key: &[u8], q: u8, v: u8, to: u32) -> usize
     requires { ⌜ (LineAt at) × (length (now key) ≤ 64) ⌝ }
-    ensures { λ r. ⌜ Put 256 (now (out .entry)) at (passText j (now (key .entry)) q v to) (now (out .exit)) r ⌝ }
+    ensures { λ r. ⌜ Put 240 (now (out .entry)) at (passText j (now (key .entry)) q v to) (now (out .exit)) r ⌝ }
 {
     let a = put_count(out, at, b"node=", j);
     let b = put_count(out, a, key, q);
@@ -149,7 +156,7 @@ fn put_pass(out: &mut [u8], at: usize, j: u8, key: &[u8], q: u8, v: u8, to: u32)
 
 fn put_call(out: &mut [u8], at: usize, j: u8, q: u8, x: Args, to: u32) -> usize
     requires { ⌜ (LineAt at) × (x .len ≤ 4) ⌝ }
-    ensures { λ r. ⌜ Put 256 (now (out .entry)) at (callText j q x to) (now (out .exit)) r ⌝ }
+    ensures { λ r. ⌜ Put 240 (now (out .entry)) at (callText j q x to) (now (out .exit)) r ⌝ }
 {
     let a = put_count(out, at, b"node=", j);
     let b = put_count(out, a, b" kind=call proc=", q);
@@ -159,7 +166,7 @@ fn put_call(out: &mut [u8], at: usize, j: u8, q: u8, x: Args, to: u32) -> usize
 
 fn put_set(out: &mut [u8], at: usize, j: u8, v: u8, o: Op, x: Operand, y: Operand, to: u32) -> usize
     requires { ⌜ LineAt at ⌝ }
-    ensures { λ r. ⌜ Put 256 (now (out .entry)) at (setText j v o x y to) (now (out .exit)) r ⌝ }
+    ensures { λ r. ⌜ Put 240 (now (out .entry)) at (setText j v o x y to) (now (out .exit)) r ⌝ }
 {
     let a = put_count(out, at, b"node=", j);
     let b = put_count(out, a, b" kind=set var=", v);
@@ -169,9 +176,18 @@ fn put_set(out: &mut [u8], at: usize, j: u8, v: u8, o: Op, x: Operand, y: Operan
     put_last_list(out, e, b" to=", to)
 }
 
-fn put_test(out: &mut [u8], at: usize, j: u8, o: Op, x: Operand, y: Operand, yes: u32, no: u32) -> usize
+fn put_test(
+    out: &mut [u8],
+    at: usize,
+    j: u8,
+    o: Op,
+    x: Operand,
+    y: Operand,
+    yes: u32,
+    no: u32,
+) -> usize
     requires { ⌜ LineAt at ⌝ }
-    ensures { λ r. ⌜ Put 256 (now (out .entry)) at (testText j o x y yes no) (now (out .exit)) r ⌝ }
+    ensures { λ r. ⌜ Put 240 (now (out .entry)) at (testText j o x y yes no) (now (out .exit)) r ⌝ }
 {
     let a = put_count(out, at, b"node=", j);
     let b = put_op(out, a, b" kind=test op=", o);
@@ -183,7 +199,7 @@ fn put_test(out: &mut [u8], at: usize, j: u8, o: Op, x: Operand, y: Operand, yes
 
 fn put_return(out: &mut [u8], at: usize, j: u8) -> usize
     requires { ⌜ LineAt at ⌝ }
-    ensures { λ r. ⌜ Put 256 (now (out .entry)) at (returnText j) (now (out .exit)) r ⌝ }
+    ensures { λ r. ⌜ Put 240 (now (out .entry)) at (returnText j) (now (out .exit)) r ⌝ }
 {
     let a = put_count(out, at, b"node=", j);
     put_text(out, a, b" kind=return\n")
@@ -192,7 +208,7 @@ fn put_return(out: &mut [u8], at: usize, j: u8) -> usize
 // A node's line; nothing where there is no node.
 fn put_node(out: &mut [u8], at: usize, j: u8, x: Node) -> usize
     requires { ⌜ (LineAt at) × (FewArgs x) ⌝ }
-    ensures { λ r. ⌜ Put 256 (now (out .entry)) at (nodeBytes j x) (now (out .exit)) r ⌝ }
+    ensures { λ r. ⌜ Put 240 (now (out .entry)) at (nodeBytes j x) (now (out .exit)) r ⌝ }
 {
     match x {
         Node::Absent => at,
@@ -214,7 +230,7 @@ fn put_node(out: &mut [u8], at: usize, j: u8, x: Node) -> usize
 // The node lines of a procedure.
 fn put_nodes(out: &mut [u8], at: usize, slots: [Slot; 32], n: u8) -> usize
     requires { ⌜ (LinesAt at) × (NodesIn slots n) ⌝ }
-    ensures { λ r. ⌜ Put (256 * n) (now (out .entry)) at (concat (slotBytes slots) n 0) (now (out .exit)) r ⌝ }
+    ensures { λ r. ⌜ Put (240 * n) (now (out .entry)) at (concat (slotBytes slots) n 0) (now (out .exit)) r ⌝ }
 {
     let mut p = at;
     let mut j: u8 = 0;
@@ -231,7 +247,7 @@ fn put_nodes(out: &mut [u8], at: usize, slots: [Slot; 32], n: u8) -> usize
 // A procedure's line and its node lines.
 fn put_proc(out: &mut [u8], at: usize, closed: bool, i: u8, q: Proc) -> usize
     requires { ⌜ (at ≤ 800000) × (ProcIn q) ⌝ }
-    ensures { λ r. ⌜ Put 8400 (now (out .entry)) at (procBytes closed i q) (now (out .exit)) r ⌝ }
+    ensures { λ r. ⌜ Put 7820 (now (out .entry)) at (procBytes closed i q) (now (out .exit)) r ⌝ }
 {
     let a = put_proc_line(out, at, closed, i, q.params, q.vars, q.nodes, q.drop);
     let slots = q.slots;
@@ -240,7 +256,7 @@ fn put_proc(out: &mut [u8], at: usize, closed: bool, i: u8, q: Proc) -> usize
 
 fn put_procs(out: &mut [u8], at: usize, closed: bool, procs: [Proc; 8], n: u8) -> usize
     requires { ⌜ (TableAt at) × (ProcsIn procs n) ⌝ }
-    ensures { λ r. ⌜ Put (8400 * n) (now (out .entry)) at (concat (procsBytes closed procs) n 0) (now (out .exit)) r ⌝ }
+    ensures { λ r. ⌜ Put (7820 * n) (now (out .entry)) at (concat (procsBytes closed procs) n 0) (now (out .exit)) r ⌝ }
 {
     let mut p = at;
     let mut i: u8 = 0;
@@ -315,7 +331,7 @@ fn put_queues(out: &mut [u8], at: usize, closed: bool, queues: [Queue; 8], n: u8
 // A table's text, from the buffer's start.
 pub fn put_table(out: &mut [u8], t: Table) -> usize
     requires { ⌜ Counts t ⌝ }
-    ensures { λ r. ⌜ Put 100000 (now (out .entry)) 0 (text t) (now (out .exit)) r ⌝ }
+    ensures { λ r. ⌜ Put 65536 (now (out .entry)) 0 (text t) (now (out .exit)) r ⌝ }
 {
     let a = put_head_line(out, 0, t.trap, t.closed);
     let b = put_counts_line(out, a, t.tasks, t.procs, t.sems, t.queues);
@@ -329,11 +345,19 @@ pub fn put_table(out: &mut [u8], t: Table) -> usize
     put_procs(out, e, t.closed, procs, t.procs)
 }
 
-// The text of a table that has no fault, or 8 where the buffer is shorter.
+// The text of a table that has no fault, or 8 where the buffer is shorter. No table's text is longer than 65,536 bytes.
 pub fn write_ready(t: Table, out: &mut [u8]) -> Writing
     requires { ⌜ Counts t ⌝ }
     ensures { λ r. ⌜ WrittenAs (text t) (now (out .entry)) (now (out .exit)) r ⌝ }
 {
+    if 65536 <= out.len() {
+        let len = put_table(out, t);
+        return Writing {
+            number: 0,
+            line: 0,
+            len: len,
+        };
+    }
     let need = put_table(&mut out[..0], t);
     if out.len() < need {
         return Writing {

@@ -1,6 +1,5 @@
 use Rattle.put.specs.PutLaws.{small-room, number-small, large-room, last-room, put-same, put-same-2, number-large}
 use borrow.Author.Needs.{needs}
-use native.Mathlib.Omega.{arith}
 use Prim.Native.Nat.{ℕ, _<_}
 use borrow.Fn.Kinds.{In}
 use borrow.Fn.PlainCycle.{Measures, is, falls, and}

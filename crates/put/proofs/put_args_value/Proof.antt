@@ -1,5 +1,4 @@
 use Rattle.put.specs.ListLaws.{args-none, args-one, args-two, args-three, args-four, last-count}
-use native.Mathlib.Omega.{arith}
 use borrow.Author.Needs.{needs}
 use Rattle.put.proofs.put_args_value.Statement.{statement}
 use Rattle.put.proofs.put_args_value.Tie as tie

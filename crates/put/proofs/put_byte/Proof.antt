@@ -1,5 +1,4 @@
 use Rattle.put.specs.PutLaws.{put-past}
-use native.Mathlib.Omega.{arith}
 use borrow.Author.Needs.{needs}
 use Rattle.put.proofs.put_byte.Statement.{statement}
 use Rattle.put.proofs.put_byte.Tie as tie

@@ -1,5 +1,4 @@
 use Rattle.put.specs.PutLaws.{put-after}
-use native.Mathlib.Omega.{arith}
 use borrow.Author.Needs.{needs}
 use Rattle.put.proofs.put_further.Statement.{statement}
 use Rattle.put.proofs.put_further.Tie as tie

@@ -1,5 +1,4 @@
 use Rattle.put.specs.ListLaws.{item-out, item-first, item-next}
-use native.Mathlib.Omega.{arith}
 use borrow.Author.Needs.{needs}
 use Rattle.put.proofs.put_item.Statement.{statement}
 use Rattle.put.proofs.put_item.Tie as tie

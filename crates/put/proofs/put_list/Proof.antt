@@ -1,5 +1,4 @@
 use Rattle.put.specs.PutLaws.{field-of}
-use native.Mathlib.Omega.{arith}
 use borrow.Author.Needs.{needs}
 use Rattle.put.proofs.put_list.Statement.{statement}
 use Rattle.put.proofs.put_list.Tie as tie

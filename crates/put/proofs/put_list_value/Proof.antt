@@ -1,5 +1,4 @@
 use Rattle.put.specs.ListLaws.{list-none, list-some}
-use native.Mathlib.Omega.{arith}
 use borrow.Author.Needs.{needs}
 use Rattle.put.proofs.put_list_value.Statement.{statement}
 use Rattle.put.proofs.put_list_value.Tie as tie

@@ -3,7 +3,6 @@ use mir.Val.{toZ, ofZ}
 use mir.Syntax.{w32}
 use mir.Facts.{toZ-ofZ}
 use Rattle.put.specs.PutLaws.{put-variable-operand}
-use native.Mathlib.Omega.{arith}
 use borrow.Author.Needs.{needs}
 use Rattle.put.proofs.put_operand_value.Statement.{statement}
 use Rattle.put.proofs.put_operand_value.Tie as tie

@@ -1,5 +1,4 @@
 use Rattle.put.specs.PutLaws.{put-digit, put-two, put-three}
-use native.Mathlib.Omega.{arith}
 use borrow.Author.Needs.{needs}
 use Rattle.put.proofs.put_small.Statement.{statement}
 use Rattle.put.proofs.put_small.Tie as tie

@@ -1,5 +1,4 @@
 use Rattle.put.specs.PutLaws.{put-skip}
-use native.Mathlib.Omega.{arith}
 use borrow.Author.Needs.{needs}
 use Rattle.put.proofs.put_text.Statement.{statement}
 use Rattle.put.proofs.put_text.Tie as tie

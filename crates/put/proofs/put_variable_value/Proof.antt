@@ -1,5 +1,4 @@
 use Rattle.put.specs.ListLaws.{variable-removed, variable-named}
-use native.Mathlib.Omega.{arith}
 use borrow.Author.Needs.{needs}
 use Rattle.put.proofs.put_variable_value.Statement.{statement}
 use Rattle.put.proofs.put_variable_value.Tie as tie

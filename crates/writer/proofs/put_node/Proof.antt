@@ -3,242 +3,175 @@ use native.Mathlib.Omega.{arith}
 use borrow.Author.Needs.{needs}
 use Rattle.writer.proofs.put_node.Statement.{statement}
 use Rattle.writer.proofs.put_node.Tie as tie
-use Rattle.writer.proofs.put_node.Reads as reads
-use Rattle.writer.proofs.put_node.Lts as lts
-use Rattle.writer.proofs.put_call.Reads as put-call-reads
-use Rattle.writer.proofs.put_number_node.Reads as put-number-node-reads
-use Rattle.writer.proofs.put_pass.Reads as put-pass-reads
-use Rattle.writer.proofs.put_return.Reads as put-return-reads
-use Rattle.writer.proofs.put_set.Reads as put-set-reads
-use Rattle.writer.proofs.put_start.Reads as put-start-reads
-use Rattle.writer.proofs.put_test.Reads as put-test-reads
-use Rattle.writer.proofs.put_variable_node.Reads as put-variable-node-reads
 
--- src/lib.rt:198:25
 enum-told : tie.Need-enum-told
 enum-told c = search needs
 
--- src/lib.rt:199:23
 enum-known-x : tie.Need-enum-known-x
 enum-known-x c = search needs
 
--- src/lib.rt:199:31
 put-start-requires : tie.Need-put-start-requires
 put-start-requires c κs = search needs
 
--- src/lib.rt:200:21
 enum-known-x-2 : tie.Need-enum-known-x-2
 enum-known-x-2 c = search needs
 
--- src/lib.rt:200:44
 put-set-requires : tie.Need-put-set-requires
 put-set-requires c κs = search needs
 
--- src/lib.rt:201:22
 enum-known-x-3 : tie.Need-enum-known-x-3
 enum-known-x-3 c = search needs
 
--- src/lib.rt:201:45
 put-test-requires : tie.Need-put-test-requires
 put-test-requires c κs = search needs
 
--- src/lib.rt:202:22
 enum-known-x-4 : tie.Need-enum-known-x-4
 enum-known-x-4 c = search needs
 
--- src/lib.rt:202:63
 slice-aggregate-put-number-node : tie.Need-slice-aggregate-put-number-node
 slice-aggregate-put-number-node c = search needs
 
--- src/lib.rt:202:35
 put-number-node-requires : tie.Need-put-number-node-requires
 put-number-node-requires c κs = search needs
 
--- src/lib.rt:203:22
 enum-known-x-5 : tie.Need-enum-known-x-5
 enum-known-x-5 c = search needs
 
--- src/lib.rt:203:44
 put-call-requires : tie.Need-put-call-requires
 put-call-requires c κs = (omega arith, rw (c .before .before .x5 .given .1) at (c .before .before .before .before .before .pre .1))
 
--- src/lib.rt:204:22
 enum-known-x-6 : tie.Need-enum-known-x-6
 enum-known-x-6 c = search needs
 
--- src/lib.rt:204:63
 slice-aggregate-put-number-node-2 : tie.Need-slice-aggregate-put-number-node-2
 slice-aggregate-put-number-node-2 c = search needs
 
--- src/lib.rt:204:35
 put-number-node-requires-2 : tie.Need-put-number-node-requires-2
 put-number-node-requires-2 c κs = search needs
 
--- src/lib.rt:205:24
 enum-known-x-7 : tie.Need-enum-known-x-7
 enum-known-x-7 c = search needs
 
--- src/lib.rt:205:65
 slice-aggregate-put-number-node-3 : tie.Need-slice-aggregate-put-number-node-3
 slice-aggregate-put-number-node-3 c = search needs
 
--- src/lib.rt:205:37
 put-number-node-requires-3 : tie.Need-put-number-node-requires-3
 put-number-node-requires-3 c κs = search needs
 
--- src/lib.rt:206:22
 enum-known-x-8 : tie.Need-enum-known-x-8
 enum-known-x-8 c = search needs
 
--- src/lib.rt:206:63
 slice-aggregate-put-pass : tie.Need-slice-aggregate-put-pass
 slice-aggregate-put-pass c = search needs
 
--- src/lib.rt:206:42
 put-pass-requires : tie.Need-put-pass-requires
 put-pass-requires c κs = search needs
 
--- src/lib.rt:207:22
 enum-known-x-9 : tie.Need-enum-known-x-9
 enum-known-x-9 c = search needs
 
--- src/lib.rt:207:63
 slice-aggregate-put-pass-2 : tie.Need-slice-aggregate-put-pass-2
 slice-aggregate-put-pass-2 c = search needs
 
--- src/lib.rt:207:42
 put-pass-requires-2 : tie.Need-put-pass-requires-2
 put-pass-requires-2 c κs = search needs
 
--- src/lib.rt:208:24
 enum-known-x-10 : tie.Need-enum-known-x-10
 enum-known-x-10 c = search needs
 
--- src/lib.rt:208:67
 slice-aggregate-put-variable-node : tie.Need-slice-aggregate-put-variable-node
 slice-aggregate-put-variable-node c = search needs
 
--- src/lib.rt:208:37
 put-variable-node-requires : tie.Need-put-variable-node-requires
 put-variable-node-requires c κs = search needs
 
--- src/lib.rt:209:21
 enum-known-x-11 : tie.Need-enum-known-x-11
 enum-known-x-11 c = search needs
 
--- src/lib.rt:209:64
 slice-aggregate-put-variable-node-2 : tie.Need-slice-aggregate-put-variable-node-2
 slice-aggregate-put-variable-node-2 c = search needs
 
--- src/lib.rt:209:34
 put-variable-node-requires-2 : tie.Need-put-variable-node-requires-2
 put-variable-node-requires-2 c κs = search needs
 
--- src/lib.rt:210:36
 enum-told-2 : tie.Need-enum-told-2
 enum-told-2 c = search needs
 
--- src/lib.rt:210:25
 put-return-requires : tie.Need-put-return-requires
 put-return-requires c κs = search needs
 
--- src/lib.rt:193:1
 returns : tie.Need-returns
 returns c = rw (c .enum-told .given .1) (node-none _)
 
--- src/lib.rt:193:1
 same-length : tie.Need-same-length
 same-length c = search needs
 
--- src/lib.rt:193:1
 returns-2 : tie.Need-returns-2
 returns-2 c = rw (c .before .before .before .before .before .x .given .1, node-start) (c .before .before .put-start .ensures)
 
--- src/lib.rt:193:1
 same-length-2 : tie.Need-same-length-2
 same-length-2 c = search needs
 
--- src/lib.rt:193:1
 returns-3 : tie.Need-returns-3
 returns-3 c = rw (c .before .before .before .before .before .x2 .given .1, node-set) (c .before .before .put-set .ensures)
 
--- src/lib.rt:193:1
 same-length-3 : tie.Need-same-length-3
 same-length-3 c = search needs
 
--- src/lib.rt:193:1
 returns-4 : tie.Need-returns-4
 returns-4 c = rw (c .before .before .before .before .before .x3 .given .1, node-test) (c .before .before .put-test .ensures)
 
--- src/lib.rt:193:1
 same-length-4 : tie.Need-same-length-4
 same-length-4 c = search needs
 
--- src/lib.rt:193:1
 returns-5 : tie.Need-returns-5
 returns-5 c = rw (c .before .before .before .before .before .before .x4 .given .1, node-read) (c .before .before .put-number-node .ensures)
 
--- src/lib.rt:193:1
 same-length-5 : tie.Need-same-length-5
 same-length-5 c = search needs
 
--- src/lib.rt:193:1
 returns-6 : tie.Need-returns-6
 returns-6 c = rw (c .before .before .before .before .before .x5 .given .1, node-call) (c .before .before .put-call .ensures)
 
--- src/lib.rt:193:1
 same-length-6 : tie.Need-same-length-6
 same-length-6 c = search needs
 
--- src/lib.rt:193:1
 returns-7 : tie.Need-returns-7
 returns-7 c = rw (c .before .before .before .before .before .before .x6 .given .1, node-wait) (c .before .before .put-number-node2 .ensures)
 
--- src/lib.rt:193:1
 same-length-7 : tie.Need-same-length-7
 same-length-7 c = search needs
 
--- src/lib.rt:193:1
 returns-8 : tie.Need-returns-8
 returns-8 c = rw (c .before .before .before .before .before .before .x7 .given .1, node-signal) (c .before .before .put-number-node3 .ensures)
 
--- src/lib.rt:193:1
 same-length-8 : tie.Need-same-length-8
 same-length-8 c = search needs
 
--- src/lib.rt:193:1
 returns-9 : tie.Need-returns-9
 returns-9 c = rw (c .before .before .before .before .before .before .x8 .given .1, node-send) (c .before .before .put-pass .ensures)
 
--- src/lib.rt:193:1
 same-length-9 : tie.Need-same-length-9
 same-length-9 c = search needs
 
--- src/lib.rt:193:1
 returns-10 : tie.Need-returns-10
 returns-10 c = rw (c .before .before .before .before .before .before .x9 .given .1, node-recv) (c .before .before .put-pass2 .ensures)
 
--- src/lib.rt:193:1
 same-length-10 : tie.Need-same-length-10
 same-length-10 c = search needs
 
--- src/lib.rt:193:1
 returns-11 : tie.Need-returns-11
 returns-11 c = rw (c .before .before .before .before .before .before .x10 .given .1, node-assert) (c .before .before .put-variable-node .ensures)
 
--- src/lib.rt:193:1
 same-length-11 : tie.Need-same-length-11
 same-length-11 c = search needs
 
--- src/lib.rt:193:1
 returns-12 : tie.Need-returns-12
 returns-12 c = rw (c .before .before .before .before .before .before .x11 .given .1, node-out) (c .before .before .put-variable-node2 .ensures)
 
--- src/lib.rt:193:1
 same-length-12 : tie.Need-same-length-12
 same-length-12 c = search needs
 
--- src/lib.rt:193:1
 returns-13 : tie.Need-returns-13
 returns-13 c = rw (c .before .before .before .before .enum-told2 .given .1, node-return) (c .before .before .put-return .ensures)
 

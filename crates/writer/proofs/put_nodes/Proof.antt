@@ -1,58 +1,44 @@
 use Rattle.writer.specs.Table.{slotBytes}
 use Rattle.writer.specs.TableLaws.{PutRows, rows-start, rows-turn, rows-end}
 use Prim.Native.Nat.{_-_, _≤_}
-use lib.ListN.{getD}
 use borrow.Author.Needs.{needs}
 use native.Mathlib.Omega.{arith}
 use Rattle.writer.proofs.put_nodes.Statement.{statement}
 use Rattle.writer.proofs.put_nodes.Tie as tie
-use Rattle.writer.proofs.put_nodes.Reads as reads
-use Rattle.writer.proofs.put_nodes.Lts as lts
-use Rattle.writer.proofs.put_node.Reads as put-node-reads
 
 abbrev Inv-loop : tie.InvT-loop
-Inv-loop out₀ at n slots p₀ j₀ out p j = (PutRows 256 (slotBytes slots) out₀ at out p j) × (j ≤ n)
+Inv-loop out₀ at n slots p₀ j₀ out p j = (PutRows 240 (slotBytes slots) out₀ at out p j) × (j ≤ n)
 
 abbrev μ-loop : tie.MeasureT-loop
 μ-loop out₀ at n slots p₀ j₀ out p j = n - j
 
--- src/lib.rt:221:5
 loop-holds : tie.Need-loop-holds Inv-loop μ-loop
 loop-holds c = (rows-start, omega arith)
 
--- src/lib.rt:222:17
 cast-k : tie.Need-cast-k Inv-loop μ-loop
 cast-k c = search needs
 
--- src/lib.rt:223:17
 mul-s : tie.Need-mul-s Inv-loop μ-loop
 mul-s c = search needs
 
--- src/lib.rt:223:17
 array-copy-out-s : tie.Need-array-copy-out-s Inv-loop μ-loop
 array-copy-out-s c = search needs
 
--- src/lib.rt:225:9
 put-node-requires : tie.Need-put-node-requires Inv-loop μ-loop
 put-node-requires c κs = (omega (arith, c .before .before .before .loop .inv .0 .put .few, c .before .before .before .loop .inv .0 .put .next), c .before .before .before .before .before .pre .1 .few (c .before .before .before .loop .j) (c .before .before .loop-test .taken))
 
--- src/lib.rt:226:9
 add-j : tie.Need-add-j Inv-loop μ-loop
 add-j c = search needs
 
--- src/lib.rt:221:5
 loop-less : tie.Need-loop-less Inv-loop μ-loop
 loop-less c = search needs
 
--- src/lib.rt:221:5
 loop-again : tie.Need-loop-again Inv-loop μ-loop
 loop-again c = (rows-turn (c .before .before .before .before .before .before .loop .inv .0) (c .before .before .put-node .ensures), omega arith)
 
--- src/lib.rt:215:1
 same-length : tie.Need-same-length Inv-loop μ-loop
 same-length c = search needs
 
--- src/lib.rt:215:1
 returns : tie.Need-returns Inv-loop μ-loop
 returns c = rows-end (c .before .loop .inv .0) (c .before .loop .inv .1) (c .loop-test .left)
 

@@ -5,53 +5,40 @@ use borrow.Author.Needs.{needs}
 use native.Mathlib.Omega.{arith}
 use Rattle.writer.proofs.put_procs.Statement.{statement}
 use Rattle.writer.proofs.put_procs.Tie as tie
-use Rattle.writer.proofs.put_procs.Reads as reads
-use Rattle.writer.proofs.put_procs.Lts as lts
-use Rattle.writer.proofs.put_proc.Reads as put-proc-reads
 
 abbrev Inv-loop : tie.InvT-loop
-Inv-loop out₀ at closed n procs p₀ i₀ out p i = (PutRows 8400 (procsBytes closed procs) out₀ at out p i) × (i ≤ n)
+Inv-loop out₀ at closed n procs p₀ i₀ out p i = (PutRows 7820 (procsBytes closed procs) out₀ at out p i) × (i ≤ n)
 
 abbrev μ-loop : tie.MeasureT-loop
 μ-loop out₀ at closed n procs p₀ i₀ out p i = n - i
 
--- src/lib.rt:247:5
 loop-holds : tie.Need-loop-holds Inv-loop μ-loop
 loop-holds c = (rows-start, omega arith)
 
--- src/lib.rt:248:17
 cast-k : tie.Need-cast-k Inv-loop μ-loop
 cast-k c = search needs
 
--- src/lib.rt:249:17
 mul-q : tie.Need-mul-q Inv-loop μ-loop
 mul-q c = search needs
 
--- src/lib.rt:249:17
 array-copy-out-q : tie.Need-array-copy-out-q Inv-loop μ-loop
 array-copy-out-q c = search needs
 
--- src/lib.rt:250:9
 put-proc-requires : tie.Need-put-proc-requires Inv-loop μ-loop
 put-proc-requires c κs = (omega (arith, c .before .before .before .loop .inv .0 .put .few, c .before .before .before .loop .inv .0 .put .next), c .before .before .before .before .before .pre .1 .each (c .before .before .before .loop .i) (c .before .before .loop-test .taken))
 
--- src/lib.rt:251:9
 add-i : tie.Need-add-i Inv-loop μ-loop
 add-i c = search needs
 
--- src/lib.rt:247:5
 loop-less : tie.Need-loop-less Inv-loop μ-loop
 loop-less c = search needs
 
--- src/lib.rt:247:5
 loop-again : tie.Need-loop-again Inv-loop μ-loop
 loop-again c = (rows-turn (c .before .before .before .before .before .before .loop .inv .0) (c .before .before .put-proc .ensures), omega arith)
 
--- src/lib.rt:241:1
 same-length : tie.Need-same-length Inv-loop μ-loop
 same-length c = search needs
 
--- src/lib.rt:241:1
 returns : tie.Need-returns Inv-loop μ-loop
 returns c = rows-end (c .before .loop .inv .0) (c .before .loop .inv .1) (c .loop-test .left)
 

@@ -7,9 +7,6 @@ use borrow.Author.Needs.{needs}
 use native.Mathlib.Omega.{arith}
 use Rattle.writer.proofs.put_queues.Statement.{statement}
 use Rattle.writer.proofs.put_queues.Tie as tie
-use Rattle.writer.proofs.put_queues.Reads as reads
-use Rattle.writer.proofs.put_queues.Lts as lts
-use Rattle.writer.proofs.put_queue_line.Reads as put-queue-line-reads
 
 abbrev Inv-loop : tie.InvT-loop
 Inv-loop out₀ at closed n queues p₀ i₀ out p i = (PutRows 40 (λ k. queueBytes closed k (getD queues k noQueue)) out₀ at out p i) × (i ≤ n)
@@ -17,43 +14,33 @@ Inv-loop out₀ at closed n queues p₀ i₀ out p i = (PutRows 40 (λ k. queueB
 abbrev μ-loop : tie.MeasureT-loop
 μ-loop out₀ at closed n queues p₀ i₀ out p i = n - i
 
--- src/lib.rt:306:5
 loop-holds : tie.Need-loop-holds Inv-loop μ-loop
 loop-holds c = (rows-start, omega arith)
 
--- src/lib.rt:307:17
 cast-k : tie.Need-cast-k Inv-loop μ-loop
 cast-k c = search needs
 
--- src/lib.rt:308:17
 mul-x : tie.Need-mul-x Inv-loop μ-loop
 mul-x c = search needs
 
--- src/lib.rt:308:17
 array-copy-out-x : tie.Need-array-copy-out-x Inv-loop μ-loop
 array-copy-out-x c = search needs
 
--- src/lib.rt:309:9
 put-queue-line-requires : tie.Need-put-queue-line-requires Inv-loop μ-loop
 put-queue-line-requires c κs = search needs
 
--- src/lib.rt:310:9
 add-i : tie.Need-add-i Inv-loop μ-loop
 add-i c = search needs
 
--- src/lib.rt:306:5
 loop-less : tie.Need-loop-less Inv-loop μ-loop
 loop-less c = search needs
 
--- src/lib.rt:306:5
 loop-again : tie.Need-loop-again Inv-loop μ-loop
 loop-again c = (rows-turn (c .before .before .before .before .before .before .loop .inv .0) (c .before .before .put-queue-line .ensures), omega arith)
 
--- src/lib.rt:300:1
 same-length : tie.Need-same-length Inv-loop μ-loop
 same-length c = search needs
 
--- src/lib.rt:300:1
 returns : tie.Need-returns Inv-loop μ-loop
 returns c = rows-end (c .before .loop .inv .0) (c .before .loop .inv .1) (c .loop-test .left)
 

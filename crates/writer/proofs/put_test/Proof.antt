@@ -65,4 +65,3 @@ put-test-spec =
     put-last-list-requires
     same-length
     returns)
-
