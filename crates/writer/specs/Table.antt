@@ -5,8 +5,6 @@ use mathlib.Core.List.{List, _++_}
 use mathlib.Core.Bool.{Bool}
 use lib.ListN.{length, getD}
 use Rattle.table.specs.Table.{noSlot, outside}
-use Rattle.table.specs.declared.Node.{Node}
-use Rattle.table.specs.declared.Node.the-variants.{Absent, Start, Set, Test, Read, Call, Wait, Signal, Send, Recv, Assert, Out, Return}
 use Rattle.table.specs.declared.Slot.{Slot}
 use Rattle.table.specs.declared.Task.{Task}
 use Rattle.table.specs.declared.Sem.{Sem}
@@ -17,25 +15,9 @@ use Rattle.text.specs.Number.{bytes}
 use Rattle.text.specs.Reader.{concat}
 use Rattle.text.specs.Writer.{fitted}
 use Rattle.text.specs.declared.Writing.{Writing}
-use Rattle.writer.specs.Lines.{pairText, queueText, procLineText, nodeBytes}
+use Rattle.lines.specs.Lines.{FewArgs, pairText, queueText, procLineText, nodeBytes}
 
 -- ---- counts
-
--- a call has at most four arguments
-abbrev pub FewArgs : Node → Type 0
-FewArgs Absent = Unit {0}
-FewArgs (Start to) = Unit {0}
-FewArgs (Set v o a b to) = Unit {0}
-FewArgs (Test o a b y n) = Unit {0}
-FewArgs (Read v to) = Unit {0}
-FewArgs (Call q x to) = x .len ≤ 4
-FewArgs (Wait s to) = Unit {0}
-FewArgs (Signal s to) = Unit {0}
-FewArgs (Send q v to) = Unit {0}
-FewArgs (Recv q v to) = Unit {0}
-FewArgs (Assert v to) = Unit {0}
-FewArgs (Out v to) = Unit {0}
-FewArgs Return = Unit {0}
 
 -- the first n of 32 places for nodes
 pub record NodesIn (slots : List Slot) (n : ℕ) : Type 0 where

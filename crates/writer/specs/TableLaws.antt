@@ -17,8 +17,8 @@ use Rattle.text.specs.Writer.{text, procText, scope, nodeText, queueVals, fitte
 use Rattle.text.specs.Fault.{number}
 use Rattle.put.specs.Put.{Put}
 use Rattle.put.specs.PutLaws.{put-after, put-more}
-use Rattle.writer.specs.Lines.{headText, countsText}
-use Rattle.writer.specs.LineLaws.{head-text, counts-text, task-text, sem-text, queue-text, proc-text, node-scope}
+use Rattle.lines.specs.Lines.{headText, countsText}
+use Rattle.lines.specs.LineLaws.{head-text, counts-text, task-text, sem-text, queue-text, proc-text, node-scope}
 use Rattle.writer.specs.Table.{taskBytes, semBytes, queueBytes, slotBytes, procsBytes, WrittenAs}
 
 -- ---- rows

@@ -1,5 +1,4 @@
 use Rattle.writer.specs.TableLaws.{ready-large, ready-short, ready-whole}
-use native.Mathlib.Omega.{arith}
 use borrow.Author.Needs.{needs}
 use Rattle.writer.proofs.write_ready.Statement.{statement}
 use Rattle.writer.proofs.write_ready.Tie as tie
