@@ -1,0 +1,4 @@
+pub mod Put
+pub mod PutLaws
+pub mod Lists
+pub mod ListLaws

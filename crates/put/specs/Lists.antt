@@ -1,0 +1,33 @@
+-- How a list is written, item by item.
+use Prim.Native.Nat.{ℕ, zero, suc, _+_, _/_, _%_, min}
+use mathlib.Core.List.{List, [], _∷_, map}
+use lib.Dec.{eqb}
+use Rattle.table.specs.Mask.{pick, also, members}
+use Rattle.text.specs.Number.{digits}
+use Rattle.text.specs.Value.{spellVariable, spellList, commas}
+use Rattle.text.specs.Format.{argNames}
+use Rattle.table.specs.declared.Args.{Args}
+
+-- of the n numbers from k on those whose bits are in r, of which the lowest bit is k's
+unfoldable pub above : ℕ → ℕ → ℕ → List ℕ
+above zero k r = []
+above (suc n) k r = also (eqb (r % 2) 1) k (above n (suc k) (r / 2))
+
+-- the numbers in a mask, with commas between, and as a list is spelt
+abbrev pub itemsText : ℕ → List ℕ
+itemsText m = commas (map digits (members m))
+
+abbrev pub listText : ℕ → List ℕ
+listText m = spellList (map digits (members m))
+
+-- what the number k, in the list or not as b says, adds at a place of a list that begins at another
+abbrev pub itemText : ℕ → ℕ → ℕ → ℕ → List ℕ
+itemText from at k b = pick (eqb b 0) [] (pick (eqb at from) (digits k) (44 ∷ digits k))
+
+-- the most bytes that it adds: a comma and a digit, or two
+abbrev pub itemSize : ℕ → ℕ
+itemSize k = 2 + min (k / 10) 1
+
+-- a call's arguments
+abbrev pub argsText : Args → List ℕ
+argsText x = spellList (map spellVariable (argNames x))

@@ -1,0 +1,177 @@
+-- Laws of writing: one piece after another, a field, a line.
+use Prim.Native.Nat.{ℕ, zero, suc, _+_, _-_, _/_, _%_, _≤_, _<_}
+use mathlib.Core.Path.{_≡_, refl, sym, _∙_, ap}
+use mathlib.Core.List.{List, [], _∷_, _++_, append-assoc}
+use native.Mathlib.Omega.{arith}
+use native.Mathlib.Nat.{add-zero, add-suc, suc-add}
+use native.Mathlib.Numerals.{add-one}
+use lib.ListN.{length, set, getD, take, length-append, length-set}
+use lib.Seq.{sets, length-sets, take-suc, take-all, length-take-le}
+use Rattle.text.specs.Number.{digits}
+use Rattle.text.specs.NumberLaws.{digits-small, digits-large}
+use lib.IntN.{ℤ, pos, negsuc}
+use mir.Syntax.{w32}
+use mir.Val.{SFits, ofZ, toZ}
+use mir.Facts.{toZ-ofZ}
+use Rattle.table.specs.declared.Operand.the-variants.{Var, Const}
+use Rattle.text.specs.NumberLaws.{byOrder}
+use Rattle.text.specs.Value.{spellOperand}
+use Rattle.put.specs.Put.{Put, PutField}
+
+sets-append : (t u l : List ℕ) (at : ℕ) → sets l at (t ++ u) ≡ sets (sets l at t) (at + length t) u
+sets-append [] u l at = rw add-zero
+sets-append (b ∷ t) u l at = sets-append t u _ (suc at) ∙ rw (suc-add, ← add-suc at (length t))
+
+-- one piece after another
+pub put-after : {k j : ℕ} {l m n t u : List ℕ} {at p q : ℕ} → Put k l at t m p → Put j m p u n q → Put (k + j) l at (t ++ u) n q
+put-after {k} {j} {l} {m} {n} {t} {u} {at} {p} {q} a b = record {
+  few = omega (arith, a .few, b .few, length-append t u);
+  bytes = λ h.
+      let e = length-append t u in
+      let c : m ≡ sets l at t = a .bytes (omega arith) in
+      b .bytes (omega (arith, a .next, a .same)) ∙ ap (λ (x : List ℕ). sets x p u) c ∙ ap (λ (i : ℕ). sets (sets l at t) i u) (a .next) ∙ sym (sets-append t u l at);
+  same = b .same ∙ a .same;
+  next = b .next ∙ omega (arith, a .next, length-append t u);
+}
+
+pub put-more : {k j : ℕ} {l m t : List ℕ} {at p : ℕ} → k ≤ j → Put k l at t m p → Put j l at t m p
+put-more h a = record { few = omega (arith, a .few); bytes = a .bytes; same = a .same; next = a .next }
+
+-- a byte, and a byte past the end
+pub put-byte : {l : List ℕ} {at b : ℕ} → Put 1 l at (b ∷ []) (set l at b) (at + 1)
+put-byte {l} {at} {b} = record { few = omega arith; bytes = λ h. refl; same = length-set l at b; next = refl }
+
+pub put-past : {l : List ℕ} {at b : ℕ} → length l ≤ at → Put 1 l at (b ∷ []) l (at + 1)
+put-past h = record { few = omega arith; bytes = λ k. absurd (omega arith); same = refl; next = refl }
+
+pub put-skip : {l t : List ℕ} {at : ℕ} → length l < at + length t → Put (length t) l at t l (at + length t)
+put-skip h = record { few = omega arith; bytes = λ k. absurd (omega arith); same = refl; next = refl }
+
+-- ---- a text, byte by byte
+pub record Copying (l : List ℕ) (at : ℕ) (t m : List ℕ) (i : ℕ) : Type 0 where
+  pub within : i ≤ length t
+  pub so-far : m ≡ sets l at (take i t)
+
+pub copying-start : {l t : List ℕ} {at : ℕ} → Copying l at t l 0
+copying-start = record { within = omega arith; so-far = refl }
+
+pub copying-same : {l t m : List ℕ} {at i : ℕ} → Copying l at t m i → length m ≡ length l
+copying-same {l} {t} {m} {at} {i} a = ap length (a .so-far) ∙ length-sets l at (take i t)
+
+pub copying-turn : {l t m : List ℕ} {at i : ℕ} → Copying l at t m i → i < length t → Copying l at t (set m (at + i) (getD t i 0)) (i + 1)
+copying-turn {l} {t} {m} {at} {i} a h = record {
+  within = omega arith;
+  so-far = rw (add-one i, take-suc t i 0 h, sets-append (take i t) (getD t i 0 ∷ []) l at, ← a .so-far, length-take-le i t (omega arith));
+}
+
+pub copying-end : {l t m : List ℕ} {at i : ℕ} → Copying l at t m i → length t ≤ i → Put (length t) l at t m (at + length t)
+copying-end {l} {t} {m} {at} {i} a h = record
+    { few = omega arith; bytes = λ k. a .so-far ∙ ap (sets l at) (take-all i t h); same = copying-same a; next = refl }
+
+-- ---- numbers
+
+pub put-digit : {l m : List ℕ} {at r : ℕ} (n : ℕ) → n < 10 → Put 1 l at ((48 + n) ∷ []) m r → Put 3 l at (digits n) m r
+put-digit n h a = rw (digits-small n h) (put-more (omega arith) a)
+
+pub put-two : {l m k : List ℕ} {at p r : ℕ} (n : ℕ) → 10 ≤ n → n < 100 → Put 1 l at ((48 + n / 10) ∷ []) m p → Put 1 m p ((48 + n % 10) ∷ []) k r → Put 3 l at (digits n) k r
+put-two n g h a b = rw (digits-large n g, digits-small (n / 10) (omega arith)) (put-more (omega arith) (put-after a b))
+
+pub put-three : {l m k o : List ℕ} {at p q r : ℕ} (n : ℕ) → 100 ≤ n → n < 256
+    → Put 1 l at ((48 + n / 100) ∷ []) m p → Put 1 m p ((48 + n / 10 % 10) ∷ []) k q → Put 1 k q ((48 + n % 10) ∷ []) o r → Put 3 l at (digits n) o r
+put-three n g h a b c =
+    let e : n / 10 / 10 ≡ n / 100 = omega arith in
+    rw (digits-large n (omega arith), digits-large (n / 10) (omega arith), digits-small (n / 10 / 10) (omega arith), e) (put-more (omega arith) (put-after (put-after a b) c))
+
+small-length : (n : ℕ) → n < 10 → length (digits n) ≡ 1
+small-length n h = rw (digits-small n h)
+
+large-length : (n : ℕ) → 10 ≤ n → length (digits n) ≡ length (digits (n / 10)) + 1
+large-length n h = ap length (digits-large n h) ∙ length-append (digits (n / 10)) _
+
+pub number-small : {l m : List ℕ} {at r : ℕ} (n : ℕ) → n < 10 → Put 1 l at ((48 + n) ∷ []) m r → Put (length (digits n)) l at (digits n) m r
+number-small n h a = rw (digits-small n h) a
+
+pub number-large : {l k m : List ℕ} {at p r : ℕ} (n : ℕ) → 10 ≤ n → Put (length (digits (n / 10))) l at (digits (n / 10)) k p → Put 1 k p ((48 + n % 10) ∷ []) m r → Put (length (digits n)) l at (digits n) m r
+number-large n h a b = put-more {k = length (digits (n / 10)) + 1} (omega (arith, large-length n h)) (rw (digits-large n h) (put-after a b))
+
+pub small-room : (at n : ℕ) → at + length (digits n) ≤ 2000000 → at ≤ 2000000
+small-room at n h = omega arith
+
+pub large-room : (at n : ℕ) → 10 ≤ n → at + length (digits n) ≤ 2000000 → at + length (digits (n / 10)) ≤ 2000000
+large-room at n g h = omega (arith, large-length n g)
+
+pub last-room : {l k : List ℕ} {at p : ℕ} (n : ℕ) → 10 ≤ n → at + length (digits n) ≤ 2000000 → Put (length (digits (n / 10))) l at (digits (n / 10)) k p → p ≤ 2000000
+last-room n g h a = omega (arith, large-length n g, a .next)
+
+pub put-same : {j : ℕ} {l m t : List ℕ} {at r : ℕ} → Put j l at t m r → length m ≡ length l
+put-same a = a .same
+
+pub put-same-2 : {i j : ℕ} {l m n t u : List ℕ} {at p q r : ℕ} → Put i l at t m p → Put j m q u n r → length n ≡ length l
+put-same-2 a b = b .same ∙ a .same
+
+pub put-same-3 : {i j k : ℕ} {l m n o t u v : List ℕ} {at p q r s z : ℕ} → Put i l at t m p → Put j m q u n r → Put k n s v o z → length o ≡ length l
+put-same-3 a b c = c .same ∙ b .same ∙ a .same
+
+-- at most f + 1 digits stand below 10 ^ (f + 1): here ten below 10 ^ 10
+digits-few : (f n : ℕ) → n / 10 ≤ f → length (digits n) ≤ f + 1
+digits-few zero n h = omega (arith, small-length n (omega arith))
+digits-few (suc f) n h = byOrder n 10
+    (λ s. omega (arith, small-length n s))
+    (λ g. omega (arith, large-length n g, digits-few f (n / 10) (omega arith)))
+
+pub digits-ten : (n : ℕ) → n < 10000000000 → length (digits n) ≤ 10
+digits-ten n h = step n 10 (omega arith) (λ a. step (n / 10) 9 (omega arith) (λ b. step (n / 10 / 10) 8 (omega arith) (λ c. step (n / 10 / 10 / 10) 7 (omega arith) (λ d.
+    step (n / 10 / 10 / 10 / 10) 6 (omega arith) (λ e. step (n / 10 / 10 / 10 / 10 / 10) 5 (omega arith) (λ f. step (n / 10 / 10 / 10 / 10 / 10 / 10) 4 (omega arith) (λ g.
+    step (n / 10 / 10 / 10 / 10 / 10 / 10 / 10) 3 (omega arith) (λ i. step (n / 10 / 10 / 10 / 10 / 10 / 10 / 10 / 10) 2 (omega arith) (λ j.
+    omega (arith, small-length (n / 10 / 10 / 10 / 10 / 10 / 10 / 10 / 10 / 10) (omega arith)))))))))))
+  where
+    step : (m k : ℕ) → 1 ≤ k - 1 → (10 ≤ m → length (digits (m / 10)) ≤ k - 1) → length (digits m) ≤ k
+    step m k o f = byOrder m 10 (λ s. omega (arith, small-length m s)) (λ g. omega (arith, large-length m g, f g))
+
+-- ---- operands
+
+constant-plain : (c : ℤ) → SFits w32 c → ofZ w32 c < 2147483648 → spellOperand (Const c) ≡ digits (ofZ w32 c)
+constant-plain (pos n) f h = refl
+constant-plain (negsuc n) f h = absurd (omega (arith, f .sfits))
+
+constant-below : (c : ℤ) → SFits w32 c → 2147483648 ≤ ofZ w32 c → spellOperand (Const c) ≡ 45 ∷ digits (4294967295 - ofZ w32 c + 1)
+constant-below (pos n) f h = absurd (omega (arith, f .sfits))
+constant-below (negsuc n) f h =
+    let e : suc n ≡ 4294967295 - (4294967296 - suc n) + 1 = omega (arith, f .sfits) in
+    ap (λ (k : ℕ). 45 ∷ digits k) e
+
+-- an argument's bits are those of the value read back
+bits-back : (c : ℤ) → SFits w32 c → ofZ w32 (toZ w32 (ofZ w32 c)) ≡ ofZ w32 c
+bits-back c f = ap (ofZ w32) (toZ-ofZ f)
+
+pub put-constant : {l m : List ℕ} {at r b : ℕ} (c : ℤ) → SFits w32 c → b ≡ ofZ w32 (toZ w32 (ofZ w32 c)) → b < 2147483648 → Put (length (digits b)) l at (digits b) m r
+    → Put 11 l at (spellOperand (Const c)) m r
+put-constant {b = b} c f e h a =
+    let g = e ∙ bits-back c f in
+    rw (constant-plain c f (rw g at h), ← g) (put-more (omega (arith, digits-ten b (omega arith))) a)
+
+pub put-negative : {l m n : List ℕ} {at p r b : ℕ} (c : ℤ) → SFits w32 c → b ≡ ofZ w32 (toZ w32 (ofZ w32 c)) → 2147483648 ≤ b → b < 4294967296 → Put 1 l at (45 ∷ []) m p
+    → Put (length (digits (4294967295 - b + 1))) m p (digits (4294967295 - b + 1)) n r → Put 11 l at (spellOperand (Const c)) n r
+put-negative {b = b} c f e h u a o =
+    let g = e ∙ bits-back c f in
+    rw (constant-below c f (rw g at h), ← g) (put-more (omega (arith, digits-ten (4294967295 - b + 1) (omega arith))) (put-after a o))
+
+-- a number of 32 bits stands below 2000000, begun low
+pub number-room : (at n : ℕ) → at ≤ 1000700 → n < 10000000000 → at + length (digits n) ≤ 2000000
+number-room at n h k = omega (arith, digits-ten n k)
+
+pub put-variable-operand : {l m n : List ℕ} {at p r : ℕ} (v : ℕ) → Put 1 l at (118 ∷ []) m p → Put 3 m p (digits v) n r → Put 11 l at (spellOperand (Var v)) n r
+put-variable-operand v a b = put-more (omega arith) (put-after a b)
+
+-- ---- fields
+
+pub field-of : {i k : ℕ} {l m n key v : List ℕ} {at p r : ℕ} → Put i l at key m p → Put k m p v n r → PutField (i + k) l at key v n r
+field-of a b = record { put = put-after a b }
+
+-- a field and the rest of its line
+pub field-then : {i k : ℕ} {l m n key v u : List ℕ} {at p r : ℕ} → PutField i l at key v m p → Put k m p u n r → Put (i + k) l at (key ++ (v ++ u)) n r
+field-then {key = key} {v = v} {u = u} a b = rw (← append-assoc key v u) (put-after (a .put) b)
+
+-- a field that ends its line
+pub field-end : {i j k : ℕ} {l m n key v u : List ℕ} {at p r : ℕ} → i + k ≤ j → PutField i l at key v m p → Put k m p u n r → PutField j l at key (v ++ u) n r
+field-end h a b = record { put = put-more h (field-then a b) }

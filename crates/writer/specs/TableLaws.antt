@@ -1,0 +1,116 @@
+-- Laws of a table's lines, one after another.
+use Prim.Native.Nat.{ℕ, zero, suc, _+_, _*_, _≤_, _<_}
+use mathlib.Core.Path.{_≡_, refl, sym, _∙_, ap}
+use mathlib.Core.List.{List, [], _∷_, _++_, append-nil, append-assoc}
+use native.Mathlib.Omega.{arith}
+use native.Mathlib.Nat.{add-zero}
+use native.Mathlib.Numerals.{add-one}
+use lib.ListN.{length, drop}
+use lib.Seq.{sets-eq}
+use borrow.Author.Tests.{lt-ltb, le-ltb}
+use Rattle.table.specs.Table.{taskAt, semAt, queueAt, procAt, nodeIn}
+use Rattle.table.specs.declared.Table.{Table}
+use Rattle.text.specs.Line.{write}
+use Rattle.text.specs.Format.{taskLine, semLine, queueLine, describe}
+use Rattle.text.specs.Reader.{concat}
+use Rattle.text.specs.Writer.{text, procText, scope, nodeText, queueVals, fitted}
+use Rattle.text.specs.Fault.{number}
+use Rattle.put.specs.Put.{Put}
+use Rattle.put.specs.PutLaws.{put-after, put-more}
+use Rattle.lines.specs.Lines.{headText, countsText}
+use Rattle.lines.specs.LineLaws.{head-text, counts-text, task-text, sem-text, queue-text, proc-text, node-scope}
+use Rattle.writer.specs.Table.{taskBytes, semBytes, queueBytes, slotBytes, procsBytes, WrittenAs}
+
+-- ---- rows
+
+concat-last : (f : ℕ → List ℕ) (n i : ℕ) → concat f (suc n) i ≡ concat f n i ++ f (i + n)
+unfolding concat
+concat-last f zero i = append-nil (f i) ∙ ap f (sym (add-zero i))
+concat-last f (suc n) i =
+    let e : suc i + n ≡ i + suc n = omega arith in
+    ap (λ (x : List ℕ). f i ++ x) (concat-last f n (suc i)) ∙ sym (append-assoc (f i) (concat f n (suc i)) (f (suc i + n))) ∙ ap (λ (k : ℕ). (f i ++ concat f n (suc i)) ++ f k) e
+
+concat-same : (f g : ℕ → List ℕ) → ((i : ℕ) → f i ≡ g i) → (n i : ℕ) → concat f n i ≡ concat g n i
+unfolding concat
+concat-same f g h zero i = refl
+concat-same f g h (suc n) i = rw (h i, concat-same f g h n (suc i))
+
+-- i rows of at most k bytes stand there
+pub record PutRows (k : ℕ) (f : ℕ → List ℕ) (before : List ℕ) (at : ℕ) (after : List ℕ) (p i : ℕ) : Type 0 where
+  pub put : Put (k * i) before at (concat f i 0) after p
+
+pub rows-start : {k : ℕ} {f : ℕ → List ℕ} {l : List ℕ} {at : ℕ} → PutRows k f l at l at 0
+unfolding concat
+rows-start {k} = record { put = record { few = omega arith; bytes = λ u. refl; same = refl; next = omega arith } }
+
+pub rows-turn : {k i p q at : ℕ} {f : ℕ → List ℕ} {l m n : List ℕ} → PutRows k f l at m p i → Put k m p (f i) n q → PutRows k f l at n q (i + 1)
+rows-turn {k} {i} {f = f} a b =
+    let z : 0 + i ≡ i = omega arith in
+    record { put = rw (add-one i, concat-last f i 0, z) (put-more (omega arith) (put-after (a .put) b)) }
+
+pub rows-end : {k i n p at : ℕ} {f : ℕ → List ℕ} {l m : List ℕ} → PutRows k f l at m p i → i ≤ n → n ≤ i → Put (k * n) l at (concat f n 0) m p
+rows-end {k} {i} {n} {p} {at} {f} {l} {m} a h g = let e : i ≡ n = omega arith in rw (← e) (a .put)
+
+-- ---- the whole text
+
+proc-bytes : (t : Table) (i : ℕ) → procText t i ≡ procsBytes (t .closed) (t .proc) i
+proc-bytes t i =
+    let q = procAt t i in
+    rw (proc-text (t .closed) i q, concat-same (λ j. nodeText (scope t q) j (describe (scope t q) (nodeIn q j))) (slotBytes (q .slots)) (λ j. node-scope (scope t q) j (nodeIn q j)) (q .nodes) 0)
+
+pub table-text : (t : Table) → text t ≡ headText (t .trap) (t .closed)
+    ++ (countsText (t .tasks) (t .procs) (t .sems) (t .queues)
+    ++ (concat (λ i. taskBytes i (taskAt t i)) (t .tasks) 0
+    ++ (concat (λ i. semBytes i (semAt t i)) (t .sems) 0
+    ++ (concat (λ i. queueBytes (t .closed) i (queueAt t i)) (t .queues) 0
+    ++ concat (procsBytes (t .closed) (t .proc)) (t .procs) 0))))
+unfolding text
+table-text t = rw (
+  head-text (t .trap) (t .closed),
+  counts-text (t .tasks) (t .procs) (t .sems) (t .queues),
+  concat-same (λ i. write (taskLine (t .procs) i) (i, (taskAt t i .top, tt))) (λ i. taskBytes i (taskAt t i)) (λ i. task-text (t .procs) i (taskAt t i .top)) (t .tasks) 0,
+  concat-same (λ i. write (semLine i) (i, (semAt t i .count, tt))) (λ i. semBytes i (semAt t i)) (λ i. sem-text i (semAt t i .count)) (t .sems) 0,
+  concat-same (λ i. write (queueLine (t .closed) i) (queueVals (t .closed) i (queueAt t i))) (λ i. queueBytes (t .closed) i (queueAt t i)) (λ i. queue-text (t .closed) i (queueAt t i)) (t .queues) 0,
+  concat-same (procText t) (procsBytes (t .closed) (t .proc)) (proc-bytes t) (t .procs) 0,
+)
+
+-- the parts, one after another, are the text
+module _ {l m n o i j k : List ℕ} {p q r s u v : ℕ} where
+  pub table-put : (t : Table) → t .tasks ≤ 4 → t .sems ≤ 8 → t .queues ≤ 8 → t .procs ≤ 8 → Put 40 l 0 (headText (t .trap) (t .closed)) m p
+      → Put 40 m p (countsText (t .tasks) (t .procs) (t .sems) (t .queues)) n q
+      → Put (40 * t .tasks) n q (concat (λ a. taskBytes a (taskAt t a)) (t .tasks) 0) o r
+      → Put (40 * t .sems) o r (concat (λ a. semBytes a (semAt t a)) (t .sems) 0) i s
+      → Put (40 * t .queues) i s (concat (λ a. queueBytes (t .closed) a (queueAt t a)) (t .queues) 0) j u
+      → Put (7820 * t .procs) j u (concat (procsBytes (t .closed) (t .proc)) (t .procs) 0) k v
+      → Put 65536 l 0 (text t) k v
+  table-put t e f g h a b c d w x = rw (table-text t) (put-more (omega arith) (put-after a (put-after b (put-after c (put-after d (put-after w x))))))
+
+-- ---- the answer
+
+none-left : (m : List ℕ) → length m ≡ 0 → m ≡ []
+none-left [] h = refl
+none-left (b ∷ m) h = absurd (omega arith)
+
+-- measured in an empty part of the buffer, which stays as it was
+measured : {s l m : List ℕ} {r : ℕ} → Put 65536 [] 0 s m r → (m ++ l ≡ l) × (r ≡ length s)
+measured {l = l} {m = m} a = (ap (λ (x : List ℕ). x ++ l) (none-left m (a .same)), omega (arith, a .next))
+
+short-as : (s l : List ℕ) → length l < length s → WrittenAs s l l (record { number = 8; line = 0; len = 0 })
+unfolding number
+short-as s l h = record { answer = rw (lt-ltb (length l) (length s) h, fitted); buffer = rw (lt-ltb (length l) (length s) h, fitted) }
+
+whole-as : (s l k : List ℕ) (q : ℕ) → length s ≤ length l → Put 65536 l 0 s k q → WrittenAs s l k (record { number = 0; line = 0; len = q })
+whole-as s l k q h a =
+    let e : q ≡ length s = omega (arith, a .next) in
+    let z : 0 + length s ≡ length s = omega arith in
+    let b : k ≡ s ++ drop (length s) l = a .bytes (omega arith) ∙ sets-eq s l 0 (omega arith) ∙ ap (λ (i : ℕ). s ++ drop i l) z in
+    record { answer = rw (le-ltb (length l) (length s) h, fitted, e); buffer = rw (le-ltb (length l) (length s) h, fitted) b }
+
+pub ready-large : {s l k : List ℕ} {q : ℕ} → 65536 ≤ length l → Put 65536 l 0 s k q → WrittenAs s l k (record { number = 0; line = 0; len = q })
+ready-large {s} {l} {k} {q} h a = whole-as s l k q (omega (arith, a .few)) a
+
+pub ready-short : {s l m : List ℕ} {r : ℕ} → Put 65536 [] 0 s m r → length (m ++ l) < r → WrittenAs s l (m ++ l) (record { number = 8; line = 0; len = 0 })
+ready-short {s} {l} {m} a h = let e = measured {l = l} a in rw (e .0) (short-as s l (rw (e .0, e .1) at h))
+
+pub ready-whole : {s l m k : List ℕ} {r q : ℕ} → Put 65536 [] 0 s m r → r ≤ length (m ++ l) → Put 65536 (m ++ l) 0 s k q → WrittenAs s l k (record { number = 0; line = 0; len = q })
+ready-whole {s} {l} {m} {k} {r} {q} a h b = let e = measured {l = l} a in whole-as s l k q (rw (e .0, e .1) at h) (rw (e .0) at b)
