@@ -1,11 +1,11 @@
 -- Laws of writing: one piece after another, a field, a line.
-use Prim.Native.Nat.{ℕ, zero, suc, _+_, _-_, _/_, _%_, _≤_, _<_}
+use Prim.Native.Nat.{ℕ, suc, _+_, _-_, _/_, _%_, _≤_, _<_}
 use mathlib.Core.Path.{_≡_, refl, sym, _∙_, ap}
 use mathlib.Core.List.{List, [], _∷_, _++_, append-assoc}
 use native.Mathlib.Omega.{arith}
 use native.Mathlib.Nat.{add-zero, add-suc, suc-add}
 use native.Mathlib.Numerals.{add-one}
-use lib.ListN.{length, set, getD, take, length-append, length-set}
+use lib.ListN.{length, set, getD, take, length-append}
 use lib.Seq.{sets, length-sets, take-suc, take-all, length-take-le}
 use Rattle.text.specs.Number.{digits}
 use Rattle.text.specs.NumberLaws.{digits-small, digits-large}
@@ -37,10 +37,7 @@ put-after {k} {j} {l} {m} {n} {t} {u} {at} {p} {q} a b = record {
 pub put-more : {k j : ℕ} {l m t : List ℕ} {at p : ℕ} → k ≤ j → Put k l at t m p → Put j l at t m p
 put-more h a = record { few = omega (arith, a .few); bytes = a .bytes; same = a .same; next = a .next }
 
--- a byte, and a byte past the end
-pub put-byte : {l : List ℕ} {at b : ℕ} → Put 1 l at (b ∷ []) (set l at b) (at + 1)
-put-byte {l} {at} {b} = record { few = omega arith; bytes = λ h. refl; same = length-set l at b; next = refl }
-
+-- a byte past the end
 pub put-past : {l : List ℕ} {at b : ℕ} → length l ≤ at → Put 1 l at (b ∷ []) l (at + 1)
 put-past h = record { few = omega arith; bytes = λ k. absurd (omega arith); same = refl; next = refl }
 
@@ -109,16 +106,7 @@ put-same a = a .same
 pub put-same-2 : {i j : ℕ} {l m n t u : List ℕ} {at p q r : ℕ} → Put i l at t m p → Put j m q u n r → length n ≡ length l
 put-same-2 a b = b .same ∙ a .same
 
-pub put-same-3 : {i j k : ℕ} {l m n o t u v : List ℕ} {at p q r s z : ℕ} → Put i l at t m p → Put j m q u n r → Put k n s v o z → length o ≡ length l
-put-same-3 a b c = c .same ∙ b .same ∙ a .same
-
--- at most f + 1 digits stand below 10 ^ (f + 1): here ten below 10 ^ 10
-digits-few : (f n : ℕ) → n / 10 ≤ f → length (digits n) ≤ f + 1
-digits-few zero n h = omega (arith, small-length n (omega arith))
-digits-few (suc f) n h = byOrder n 10
-    (λ s. omega (arith, small-length n s))
-    (λ g. omega (arith, large-length n g, digits-few f (n / 10) (omega arith)))
-
+-- ten digits stand below 10 ^ 10
 pub digits-ten : (n : ℕ) → n < 10000000000 → length (digits n) ≤ 10
 digits-ten n h = step n 10 (omega arith) (λ a. step (n / 10) 9 (omega arith) (λ b. step (n / 10 / 10) 8 (omega arith) (λ c. step (n / 10 / 10 / 10) 7 (omega arith) (λ d.
     step (n / 10 / 10 / 10 / 10) 6 (omega arith) (λ e. step (n / 10 / 10 / 10 / 10 / 10) 5 (omega arith) (λ f. step (n / 10 / 10 / 10 / 10 / 10 / 10) 4 (omega arith) (λ g.

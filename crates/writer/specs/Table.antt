@@ -3,7 +3,7 @@ use Prim.Native.Nat.{ℕ, _≤_, _<_}
 use mathlib.Core.Path.{_≡_}
 use mathlib.Core.List.{List, _++_}
 use mathlib.Core.Bool.{Bool}
-use lib.ListN.{length, getD}
+use lib.ListN.{getD}
 use Rattle.table.specs.Table.{noSlot, outside}
 use Rattle.table.specs.declared.Slot.{Slot}
 use Rattle.table.specs.declared.Task.{Task}
@@ -22,7 +22,6 @@ use Rattle.lines.specs.Lines.{FewArgs, pairText, queueText, procLineText, nodeB
 -- the first n of 32 places for nodes
 pub record NodesIn (slots : List Slot) (n : ℕ) : Type 0 where
   pub count : n ≤ 32
-  pub places : length slots ≡ 32
   pub few : (j : ℕ) → j < n → FewArgs (getD slots j noSlot .node)
 
 pub record ProcIn (q : Proc) : Type 0 where
