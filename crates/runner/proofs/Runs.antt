@@ -23,13 +23,16 @@ use Rattle.machine.specs.declared.State.{State}
 use Rattle.machine.specs.declared.Running.{Running}
 use Rattle.machine.specs.State.{noFrame, openFrames, isLost, place, frameAt, topmost, semCount, entriesAt, varAt, standsBefore, firstState, Begun, begun, blockedAt, blocked}
 use Rattle.machine.specs.State as First
-use Rattle.machine.specs.Step.{Stop, noTask, logFull, taskLost, taskBlocked, stopNumber, Memory, assign, appended, oldest, shortened, Did, stops, goes, exec, keptIn, Walk, halts, arrives, onward, walk, Flow, flow, Entry, Step, stopped, stepped, landed, settled, entering, called, closed, memory, flowed, entryOf, stepOf, before, step}
+use Rattle.machine.specs.Step.{Stop, noTask, logFull, taskLost, taskBlocked, stopNumber, Memory, assign, appended, oldest, shortened, Did, stops, goes, exec, keptIn, Walk, halts, arrives, onward, walk, Flow, flow, Entry, shown, Step, stopped, stepped, landed, settled, entering, called, closed, memory, flowed, entryOf, stepOf, before, step}
 use Rattle.machine.specs.Run.{word, flagged, entryBytes, Ran, ended, turn, afterStep, runFrom, runBegun}
-use Rattle.steps.specs.Cut.{stopOf, goesTo, haltsAt, raised, readAt, actOf, sidesOf, queueAfter, stuckOf, shownOf}
+use Rattle.steps.specs.Cut.{stopOf, goesTo, haltsAt, readAt, stuckOf, showing, shownOf, actOf, sidesOf, queueAfter}
 use Rattle.steps.specs.declared.Acted.{Acted}
 use Rattle.steps.specs.declared.Sides.{Sides}
 use Rattle.steps.specs.declared.Shown.{Shown}
 use Rattle.runner.proofs.Walks.{Met, halted, arrived, met, withVars, didOf, read-did}
+
+pub true-false : _≡_ {A = Bool} true false → ⊥
+true-false e = let y : _≡_ {A = ℕ} 0 1 = cc in omega arith
 
 -- ---- blocked
 
@@ -113,15 +116,12 @@ module _ (m : Memory) (long : length (m .vars) ≡ 16) where
     doing-is (Read v to) y f = read-did v to (semCount (m .sems) 0) m vs used ∙ go (leb (length vs) used)
       where
         go : (b : Bool) → didOf vs m (pick b (haltsAt 15 used (semCount (m .sems) 0)) (goesTo v (getD vs used (pos 0)) (used + 1) to (semCount (m .sems) 0)))
-            ≡ didIn vs m (record { sem = 0; queue = 0; how = 0; back = 0 }) (pick b (haltsAt 15 used (semCount (m .sems) 0)) (goesTo v (getD vs used (pos 0)) (used + 1) to (semCount (m .sems) 0)))
+            ≡ didIn vs m (record { sem = 0; queue = 0; how = 0; back = 0; few = false }) (pick b (haltsAt 15 used (semCount (m .sems) 0)) (goesTo v (getD vs used (pos 0)) (used + 1) to (semCount (m .sems) 0)))
         go true = refl
         go false = plain to v (getD vs used (pos 0)) (used + 1)
     doing-is (Call q xs to) y f = none-set 0
     doing-is (Wait i to) y f = λ j. goes to (parts (same-vars (pos 0) j) (set (m .sems) i (semCount (m .sems) i - 1)) (same-queues j)) (drop used vs)
-    doing-is (Signal i to) y f =
-        let c = semCount (m .sems) i in
-        let e : c + 1 ≡ raised c = rw (lt-ltb c 255 (leb-false 255 c f)) refl in
-        λ j. goes to (parts (same-vars (pos 0) j) (set (m .sems) i (e j)) (same-queues j)) (drop used vs)
+    doing-is (Signal i to) y f = λ j. goes to (parts (same-vars (pos 0) j) (set (m .sems) i (semCount (m .sems) i + 1)) (same-queues j)) (drop used vs)
     doing-is (Send q v to) y f =
         let b = entriesAt (m .queues) q in
         let x = varAt (m .vars) v in
@@ -131,6 +131,94 @@ module _ (m : Memory) (long : length (m .vars) ≡ 16) where
     doing-is (Assert v to) y f = none-set to
     doing-is (Out v to) y f = none-set to
     doing-is Return y f = none-set (arcTo y)
+
+-- the call's arc matters to a return alone
+pub back-free : (x : Node) (a b : ℕ) (l : List ℤ) (c : ℕ) (y : ℤ) (vs : List ℤ) (used : ℕ) → sidesOf x .back ≡ 0 → actOf x a l c y vs used ≡ actOf x b l c y vs used
+unfolding actOf sidesOf
+back-free Absent a b l c y vs used h = refl
+back-free (Start to) a b l c y vs used h = refl
+back-free (Set v o i j to) a b l c y vs used h = refl
+back-free (Test o i j k n) a b l c y vs used h = refl
+back-free (Read v to) a b l c y vs used h = refl
+back-free (Call q xs to) a b l c y vs used h = refl
+back-free (Wait i to) a b l c y vs used h = refl
+back-free (Signal i to) a b l c y vs used h = refl
+back-free (Send q v to) a b l c y vs used h = refl
+back-free (Recv q v to) a b l c y vs used h = refl
+back-free (Assert v to) a b l c y vs used h = refl
+back-free (Out v to) a b l c y vs used h = refl
+back-free Return a b l c y vs used h = absurd (omega arith)
+
+-- what is logged is what the node shows
+pub logged-is : (x : Node) (a : ℕ) (l : List ℤ) (c : ℕ) (y : ℤ) (vs : List ℤ) (used : ℕ) → let r = actOf x a l c y vs used in showing (r .flag) (r .bits) ≡ shownOf (shown l x)
+unfolding actOf shown
+logged-is Absent a l c y vs used = refl
+logged-is (Start to) a l c y vs used = refl
+logged-is (Set v o i j to) a l c y vs used = refl
+logged-is (Test o i j k n) a l c y vs used = refl
+logged-is (Read v to) a l c y vs used = go (leb (length vs) used)
+  where
+    go : (b : Bool) → let r = pick b (haltsAt 15 used c) (goesTo v (getD vs used (pos 0)) (used + 1) to c) in showing (r .flag) (r .bits) ≡ showing 0 0
+    go true = refl
+    go false = refl
+logged-is (Call q xs to) a l c y vs used = refl
+logged-is (Wait i to) a l c y vs used = refl
+logged-is (Signal i to) a l c y vs used = refl
+logged-is (Send q v to) a l c y vs used = refl
+logged-is (Recv q v to) a l c y vs used = refl
+logged-is (Assert v to) a l c y vs used = refl
+logged-is (Out v to) a l c y vs used = refl
+logged-is Return a l c y vs used = refl
+
+-- a return shows nothing
+pub unshown : (x : Node) (l l′ : List ℤ) → (sidesOf x .back ≡ 0 → ⊥) → shown l x ≡ shown l′ x
+unfolding shown sidesOf
+unshown Absent l l′ h = refl
+unshown (Start to) l l′ h = refl
+unshown (Set v o i j to) l l′ h = refl
+unshown (Test o i j k n) l l′ h = refl
+unshown (Read v to) l l′ h = refl
+unshown (Call q xs to) l l′ h = refl
+unshown (Wait i to) l l′ h = refl
+unshown (Signal i to) l l′ h = refl
+unshown (Send q v to) l l′ h = refl
+unshown (Recv q v to) l l′ h = refl
+unshown (Assert v to) l l′ h = absurd (h refl)
+unshown (Out v to) l l′ h = absurd (h refl)
+unshown Return l l′ h = refl
+
+-- a node that neither closes a frame nor has a queue
+pub few-back : (x : Node) → sidesOf x .few ≡ false → sidesOf x .back ≡ 0
+unfolding sidesOf
+few-back Absent h = refl
+few-back (Start to) h = refl
+few-back (Set v o i j to) h = refl
+few-back (Test o i j k n) h = refl
+few-back (Read v to) h = refl
+few-back (Call q xs to) h = refl
+few-back (Wait i to) h = refl
+few-back (Signal i to) h = refl
+few-back (Send q v to) h = refl
+few-back (Recv q v to) h = refl
+few-back (Assert v to) h = refl
+few-back (Out v to) h = refl
+few-back Return h = absurd (true-false h)
+
+pub few-how : (x : Node) → sidesOf x .few ≡ false → sidesOf x .how ≡ 0
+unfolding sidesOf
+few-how Absent h = refl
+few-how (Start to) h = refl
+few-how (Set v o i j to) h = refl
+few-how (Test o i j k n) h = refl
+few-how (Read v to) h = refl
+few-how (Call q xs to) h = refl
+few-how (Wait i to) h = refl
+few-how (Signal i to) h = refl
+few-how (Send q v to) h = absurd (true-false h)
+few-how (Recv q v to) h = absurd (true-false h)
+few-how (Assert v to) h = refl
+few-how (Out v to) h = refl
+few-how Return h = refl
 
 -- ---- a step that is no call
 
@@ -152,9 +240,6 @@ opens (Recv q v to) = false
 opens (Assert v to) = false
 opens (Out v to) = false
 opens Return = false
-
-true-false : _≡_ {A = Bool} true false → ⊥
-true-false e = let y : _≡_ {A = ℕ} 0 1 = cc in omega arith
 
 module _ (t : Table) (most : ℕ) (s : State) (k : ℕ) (vs : List ℤ) where
   abbrev pub top : Frame

@@ -7,10 +7,10 @@ use Prim.Native.Nat.{ℕ, zero, suc, _+_, _-_, _*_, _<_, _≤_}
 use native.Mathlib.Omega.{arith}
 use native.Mathlib.Numerals.{add-one}
 use lib.ListN.{length, getD, set, take, drop}
-use lib.Seq.{sets}
-use lib.Dec.{eqb}
+use lib.Seq.{sets, set-set, set-getD}
+use lib.Dec.{eqb, leb, ltb}
 use lib.IntN.{ℤ, pos}
-use borrow.Author.Tests.{leb-false, eq-eqb, ne-eqb}
+use borrow.Author.Tests.{leb-false, le-leb, lt-leb, lt-ltb, eqb-true, eqb-false, eq-eqb, ne-eqb}
 use types.Run.{OneOf, miss}
 use denote.Enum.Declared.{tagOf}
 use Rattle.table.proofs.Node.{the-type}
@@ -28,7 +28,7 @@ use Rattle.machine.specs.declared.State.{State}
 use Rattle.machine.specs.State.{noFrame, openFrames, isLost, place, frameAt, topmost, semCount, entriesAt, standsBefore, withFrames, blockedAt, blocked}
 use Rattle.machine.specs.Step.{noTask, logFull, taskLost, taskBlocked, stopNumber, Memory, assign, oldest, shown, Choice, choose, Did, keptIn, Walk, along, onward, walk, Step, stopped, settled, called, entering, memory, entryOf, landed}
 use Rattle.machine.specs.Run.{word, flagged, entryBytes, Ran, runFrom}
-use Rattle.steps.specs.Cut.{stopOf, Named, choiceOf, Sound, Arrived, halting, actOf, sidesOf, queueAfter, stuckOf, shownOf}
+use Rattle.steps.specs.Cut.{stopOf, Named, choiceOf, Sound, Arrived, halting, haltsAt, stuckOf, showing, shownOf, actOf, triedOf, sidesOf, queueAfter, underOf}
 use Rattle.steps.specs.declared.Acted.{Acted}
 use Rattle.steps.specs.declared.Chosen.{Chosen}
 use Rattle.steps.specs.declared.Shown.{Shown}
@@ -37,7 +37,7 @@ use Rattle.starts.specs.Ready.{Placed, Ready}
 use Rattle.starts.specs.Begins.{Row, frameIn, Good}
 use Rattle.starts.specs.GoodLaws.{FrameGood, good-frame, good-depth}
 use Rattle.runner.proofs.Walks.{Met, halted, arrived, met, metOf, withVars, walking, walk-over, walk-spent, walk-halts, act-named, named-stop}
-use Rattle.runner.proofs.Runs.{stuck-is, doing, storedIn, didIn, doing-is, closes, opens, step-calls, goesOn, step-goes, storedAs, landed-is, flagged-is, runs, stopsAt, at-end, after, runs-turn, turn-none, turn-full, turn-lost, turn-blocked, turn-goes, after-halted, after-arrived}
+use Rattle.runner.proofs.Runs.{stuck-is, doing, storedIn, didIn, doing-is, true-false, back-free, logged-is, unshown, few-back, few-how, closes, opens, step-calls, goesOn, step-goes, landed-is, flagged-is, runs, stopsAt, at-end, after, runs-turn, turn-none, turn-full, turn-lost, turn-blocked, turn-goes, after-halted, after-arrived}
 
 -- ---- the small numbers that go with a node
 
@@ -72,6 +72,13 @@ back-below (Recv q v to) d c len cap f = omega arith
 back-below (Assert v to) d c len cap f = omega arith
 back-below (Out v to) d c len cap f = omega arith
 back-below Return d c len cap f = omega (arith, leb-false d 1 f)
+
+pub under-le : (f b d : ℕ) → underOf f b d ≤ f
+under-le f b d = go (ltb b d)
+  where
+    go : (t : Bool) → pick t (f - b) f ≤ f
+    go true = omega arith
+    go false = omega arith
 
 pub sem-below : (x : Node) → Placed x → sidesOf x .sem < 8
 unfolding sidesOf
@@ -128,7 +135,7 @@ module _ (t : Table) (keep : List ℕ) (ready : Ready t keep) (most : ℕ) (vs :
     pub ends-spent : (z r : Chosen) → w .over ≡ false → d ≡ 0 → r ≡ halting 14 (w .used) → z ≡ r → Ends p d l w z
     ends-spent z r o e h i = rw (i, h) (ends-at 14 (λ mm. walk-spent t keep ready vs p inside d (withVars mm l) w sound o e))
 
-    pub ends-halts : (z r : Chosen) (a : Acted) → w .over ≡ false → (d ≡ 0 → ⊥) → a ≡ actOf (nodeAt t p (w .node)) 0 l 0 (pos 0) vs (w .used) → (a .stop ≡ 0 → ⊥) → r ≡ halting (a .stop) (w .used) → z ≡ r → Ends p d l w z
+    pub ends-halts : (z r : Chosen) (a : Acted) → w .over ≡ false → (d ≡ 0 → ⊥) → a ≡ triedOf (nodeAt t p (w .node)) 0 l 0 0 0 0 (pos 0) vs (w .used) → (a .stop ≡ 0 → ⊥) → r ≡ halting (a .stop) (w .used) → z ≡ r → Ends p d l w z
     ends-halts z r a o e k n h i = rw (i, h) (ends-at (a .stop) (λ mm. walk-halts t keep ready vs p inside d (withVars mm l) w a sound o e long k n))
 
   -- ---- a turn, by the first task number
@@ -191,11 +198,77 @@ module _ (t : Table) (keep : List ℕ) (ready : Ready t keep) (most : ℕ) (vs :
       unfolding stopNumber
       stop-blocked b = runs-turn t most vs n s used log ks (stopped taskBlocked) (st .some) (turn-blocked t most vs n s used log k (st .task) (let h = st .room in omega arith) (st .here) (blocks-is ∙ b))
 
+      call-blocks : (q : ℕ) (xs : Args) (to : ℕ) → x ≡ Call q xs to → blocks ≡ leb 8 d
+      unfolding stuckOf
+      call-blocks q xs to e = rw e refl
+
+      pub stop-call : (q : ℕ) (xs : Args) (to : ℕ) → x ≡ Call q xs to → 8 ≤ d → going ≡ ending 13
+      stop-call q xs to e h = stop-blocked (call-blocks q xs to e ∙ le-leb 8 d h)
+
+      pub call-free : (q : ℕ) (xs : Args) (to : ℕ) → x ≡ Call q xs to → d < 8 → blocks ≡ false
+      call-free q xs to e h = call-blocks q xs to e ∙ lt-leb 8 d h
+
+      pub call-shows : (q : ℕ) (xs : Args) (to : ℕ) → x ≡ Call q xs to → showing 0 0 ≡ shownOf (shown (frameIn (s .frames) f .vars) x)
+      unfolding shown
+      call-shows q xs to e = rw e refl
+
       pub placed : Placed x
       placed = rw (st .node) (ready .nodes _ _ (st .good .procs _) (st .good .nodes _))
 
       abbrev top : Frame
       top = frameIn (s .frames) f
+
+      -- ---- the node tried, in the frame at place g; back is the call's arc where it matters
+
+      module _ (g back : ℕ) (o : Acted) (backs : (v .back ≡ 0 → ⊥) → back ≡ arcTo (nodeAt t (frameIn (s .frames) g .proc) (frameIn (s .frames) g .node)))
+          (tries : o ≡ triedOf x back (frameIn (s .frames) g .vars) d (getD (s .sems) (v .sem) 0) (entriesAt (s .queues) (v .queue) .len) (queueAt t (v .queue) .cap) (getD (entriesAt (s .queues) (v .queue) .items) 0 (pos 0)) vs used) where
+        abbrev cnt : ℕ
+        cnt = getD (s .sems) (v .sem) 0
+
+        abbrev old : ℤ
+        old = getD (entriesAt (s .queues) (v .queue) .items) 0 (pos 0)
+
+        abbrev vars : List ℤ
+        vars = frameIn (s .frames) g .vars
+
+        pub halts-blocked : blocks ≡ true → o .stop ≡ 13
+        halts-blocked b = ap (λ (r : Acted). r .stop) tries ∙ ap (λ (b : Bool). (pick b (haltsAt 13 used cnt) (actOf x back vars cnt old vs used)) .stop) b
+
+        pub freed : o .stop ≡ 0 → blocks ≡ false
+        freed h = go blocks refl
+          where
+            go : (b : Bool) → blocks ≡ b → blocks ≡ false
+            go true e = absurd (omega (arith, h, halts-blocked e))
+            go false e = e
+
+        -- blocked, or what the node itself says
+        pub stop-tried : (blocks ≡ false → going ≡ ending (o .stop)) → going ≡ ending (o .stop)
+        stop-tried h = go blocks refl
+          where
+            go : (b : Bool) → blocks ≡ b → going ≡ ending (o .stop)
+            go true e = stop-blocked e ∙ ap ending (sym (halts-blocked e))
+            go false e = h e
+
+        same-back : actOf x back vars cnt old vs used ≡ actOf x (arcTo (nodeAt t (frameIn (s .frames) g .proc) (frameIn (s .frames) g .node))) vars cnt old vs used
+        same-back = go (eqb (v .back) 0) refl
+          where
+            go : (b : Bool) → eqb (v .back) 0 ≡ b → actOf x back vars cnt old vs used ≡ actOf x (arcTo (nodeAt t (frameIn (s .frames) g .proc) (frameIn (s .frames) g .node))) vars cnt old vs used
+            go true e = back-free x _ _ vars cnt old vs used (ap (λ (v : Sides). v .back) (sym (st .sides)) ∙ eqb-true (v .back) 0 e)
+            go false e = ap (λ (a : ℕ). actOf x a vars cnt old vs used) (backs (eqb-false (v .back) 0 e))
+
+        pub acted : blocks ≡ false → o ≡ actOf x (arcTo (nodeAt t (frameIn (s .frames) g .proc) (frameIn (s .frames) g .node))) vars cnt old vs used
+        acted b = tries ∙ ap (λ (b : Bool). pick b (haltsAt 13 used cnt) (actOf x back vars cnt old vs used)) b ∙ same-back
+
+        pub logs : blocks ≡ false → g ≡ underOf f (v .back) d → showing (o .flag) (o .bits) ≡ shownOf (shown (top .vars) x)
+        logs b e = ap (λ (r : Acted). showing (r .flag) (r .bits)) (acted b) ∙ logged-is x _ vars cnt old vs used ∙ ap shownOf (go (eqb (v .back) 0) refl)
+          where
+            go : (b : Bool) → eqb (v .back) 0 ≡ b → shown vars x ≡ shown (top .vars) x
+            go true h =
+                let z = eqb-true (v .back) 0 h in
+                let p : v .back < d = omega (arith, z, st .good .opened k (st .task)) in
+                let i : g ≡ f = e ∙ rw (lt-ltb (v .back) d p) (omega arith) in
+                ap (λ (i : ℕ). shown (frameIn (s .frames) i .vars) x) i
+            go false h = unshown x vars (top .vars) (λ z. eqb-false (v .back) 0 h (ap (λ (v : Sides). v .back) (st .sides) ∙ z))
 
       top-is : top ≡ topmost s k
       top-is = ap (λ (i : ℕ). frameIn (s .frames) i) (st .at)
@@ -245,7 +318,7 @@ module _ (t : Table) (keep : List ℕ) (ready : Ready t keep) (most : ℕ) (vs :
               good-depth opened k (d + 1) (good-frame (withFrames s (set (s .frames) (f + 1) fr)) (f + 1) fr (st .good) frame-good refl refl) (omega arith) (omega arith) refl refl
 
         -- any other node, executed in the frame at place g
-        module _ (stays : opens x ≡ false) (g : ℕ) (at-next : g ≡ f - v .back) (y : Node) (comes : y ≡ nodeAt t (frameIn (s .frames) g .proc) (frameIn (s .frames) g .node))
+        module _ (stays : opens x ≡ false) (g : ℕ) (at-next : g ≡ underOf f (v .back) d) (y : Node) (comes : y ≡ nodeAt t (frameIn (s .frames) g .proc) (frameIn (s .frames) g .node))
             (o : Acted) (acts : o ≡ actOf x (arcTo y) (frameIn (s .frames) g .vars) (getD (s .sems) (v .sem) 0) (getD (entriesAt (s .queues) (v .queue) .items) 0 (pos 0)) vs used) where
           abbrev fr : Frame
           fr = frameIn (s .frames) g
@@ -263,7 +336,10 @@ module _ (t : Table) (keep : List ℕ) (ready : Ready t keep) (most : ℕ) (vs :
           near = omega (arith, back-le)
 
           pub at-j : g ≡ place k j
-          at-j = omega (arith, back-le, st .at, at-next)
+          at-j =
+              let l : v .back < d = omega (arith, back-le, st .good .opened k (st .task)) in
+              let e : g ≡ f - v .back = at-next ∙ rw (lt-ltb (v .back) d l) refl in
+              omega (arith, back-le, st .at, e)
 
           pub low : g < 32
           low = omega (arith, at-j, st .task, ready .tasks, st .good .bounded k (st .task), st .good .opened k (st .task))
@@ -314,30 +390,69 @@ module _ (t : Table) (keep : List ℕ) (ready : Ready t keep) (most : ℕ) (vs :
             pub stop-walking : (z .stop ≡ 0 → ⊥) → going ≡ ending (z .stop)
             stop-walking h = kept-is ∙ after-halted t most vs n s used log rest (entryOf k (topmost s k) x) (closes (v .back) s k) k j p (ways (didIn vs (memory s fr) v o)) (z .stop) (met-is ∙ rw (ne-eqb (z .stop) 0 h) refl)
 
-            -- b is what the closed frame's place gets, q the queue after the node
-            abbrev pub stored : Frame → Entries → State
-            stored b q = record {
-              depth = set (s .depth) k (d - v .back);
-              lost = set (s .lost) k (z .lost);
-              frames = set (set (s .frames) f b) g (record { proc = p; node = z .node; vars = l });
-              sems = mem .sems;
-              queues = set (s .queues) (v .queue) q;
+            abbrev frameOf : ℕ → Frame
+            frameOf q = record { proc = q; node = z .node; vars = l }
+
+            abbrev frame : Frame
+            frame = frameOf p
+
+            -- the state stored, over one in which a closed frame is blank and the queue is changed
+            abbrev pub storedAt : ℕ → State → State
+            storedAt q u = record {
+              depth = set (u .depth) k (d - v .back);
+              lost = set (u .lost) k (z .lost);
+              frames = set (u .frames) g (frameOf q);
+              sems = set (u .sems) (v .sem) (o .count);
+              queues = u .queues;
             }
 
-            module _ (b : Frame) (q : Entries) (blank : b ≡ noFrame) (queued : q ≡ queueAfter (entriesAt (s .queues) (v .queue)) (v .how) (o .value)) where
-              pub turn-walks : z .stop ≡ 0 → pick (z .lost) (z .node) 0 ≡ 0 → going ≡ next (stored b q) (z .used)
-              turn-walks h gone =
-                  kept-is ∙ after-arrived t most vs n s used log rest (entryOf k (topmost s k) x) (closes (v .back) s k) k j p (ways (didIn vs (memory s fr) v o)) (pick (z .lost) none (some (z .node))) (withVars mem l) (drop (z .used) vs) (met-is ∙ rw (eq-eqb (z .stop) 0 h) refl) ∙
-                  sym
-                  (λ i. runFrom t (keptIn t) most vs rest (add-one n i) (landed-is s k f g j (v .back) p (z .node) (withVars mem l) (st .at) at-j near (st .here) (z .lost) (rw (st .sides) (back-few x)) gone i) (drop (z .used) vs) (log-is i)) ∙
-                  sym (λ i. next (stored (blank i) (queued i)) (z .used))
+            abbrev pub storedOver : State → State
+            storedOver u = storedAt p u
 
-              pub stored-good : length l ≡ 16 → z .node < 32 → Good t (stored b q)
+            abbrev pub changed : Frame → Entries → State
+            changed b q = record { depth = s .depth; lost = s .lost; frames = set (s .frames) f b; sems = s .sems; queues = set (s .queues) (v .queue) q }
+
+            abbrev queued : Entries
+            queued = queueAfter (entriesAt (s .queues) (v .queue)) (v .how) (o .value)
+
+            abbrev whole : State
+            whole = storedOver (changed noFrame queued)
+
+            turn-whole : z .stop ≡ 0 → pick (z .lost) (z .node) 0 ≡ 0 → going ≡ next whole (z .used)
+            turn-whole h gone =
+                kept-is ∙ after-arrived t most vs n s used log rest (entryOf k (topmost s k) x) (closes (v .back) s k) k j p (ways (didIn vs (memory s fr) v o)) (pick (z .lost) none (some (z .node))) (withVars mem l) (drop (z .used) vs) (met-is ∙ rw (eq-eqb (z .stop) 0 h) refl) ∙
+                sym
+                (λ i. runFrom t (keptIn t) most vs rest (add-one n i) (landed-is s k f g j (v .back) p (z .node) (withVars mem l) (st .at) at-j near (st .here) (z .lost) (rw (st .sides) (back-few x)) gone i) (drop (z .used) vs) (log-is i))
+
+            -- where the node closes no frame and has no queue, nothing is changed
+            unchanged : v .few ≡ false → storedOver s ≡ whole
+            unchanged e =
+                let h : sidesOf x .few ≡ false = ap (λ (v : Sides). v .few) (sym (st .sides)) ∙ e in
+                let b : v .back ≡ 0 = ap (λ (v : Sides). v .back) (st .sides) ∙ few-back x h in
+                let w : v .how ≡ 0 = ap (λ (v : Sides). v .how) (st .sides) ∙ few-how x h in
+                let z′ : g ≡ f = omega (arith, at-j, b, st .at) in
+                let a : set (s .frames) g frame ≡ set (set (s .frames) f noFrame) g frame = ap (λ (i : ℕ). set (s .frames) i frame) z′ ∙ sym (set-set (s .frames) f noFrame frame) ∙ ap (λ (i : ℕ). set (set (s .frames) f noFrame) i frame) (sym z′) in
+                let q : s .queues ≡ set (s .queues) (v .queue) queued = rw w (sym (set-getD (s .queues) (v .queue) (record { len = 0; items = [] }))) in
+                λ i. record { depth = set (s .depth) k (d - v .back); lost = set (s .lost) k (z .lost); frames = a i; sems = set (s .sems) (v .sem) (o .count); queues = q i }
+
+            pub few-is : (u : State) (b : Frame) (q : Entries) → b ≡ noFrame → q ≡ queued → u ≡ changed b q → storedOver u ≡ whole
+            few-is u b q eb eq e = ap storedOver e ∙ (λ i. storedOver (changed (eb i) (eq i)))
+
+            pub most-is : (u : State) → v .few ≡ false → u ≡ s → storedOver u ≡ whole
+            most-is u h e = ap storedOver e ∙ unchanged h
+
+            module _ (u : State) (same : storedOver u ≡ whole) (q : ℕ) (proc : q ≡ p) where
+              all-same : storedAt q u ≡ whole
+              all-same = ap (λ (q : ℕ). storedAt q u) proc ∙ same
+
+              pub turn-walks : z .stop ≡ 0 → pick (z .lost) (z .node) 0 ≡ 0 → going ≡ next (storedAt q u) (z .used)
+              turn-walks h gone = turn-whole h gone ∙ ap (λ (u : State). next u (z .used)) (sym all-same)
+
+              pub stored-good : length l ≡ 16 → z .node < 32 → Good t (storedAt q u)
               stored-good long′ small =
-                  let fg : FrameGood b = rw blank (record { proc = omega arith; node = omega arith; vars = refl }) in
-                  let a = good-frame (withFrames s (set (s .frames) f b)) f b (st .good) fg refl refl in
-                  let e = good-frame (withFrames s (set (set (s .frames) f b) g (record { proc = p; node = z .node; vars = l }))) g (record { proc = p; node = z .node; vars = l }) a (record { proc = st .good .procs g; node = small; vars = long′ }) refl refl in
-                  good-depth (stored b q) k (d - v .back) e (omega (arith, back-le, st .good .opened k (st .task))) (omega (arith, st .good .bounded k (st .task))) refl refl
+                  let a = good-frame (withFrames s (set (s .frames) f noFrame)) f noFrame (st .good) (record { proc = omega arith; node = omega arith; vars = refl }) refl refl in
+                  let e = good-frame (withFrames s (set (set (s .frames) f noFrame) g frame)) g frame a (record { proc = st .good .procs g; node = small; vars = long′ }) refl refl in
+                  rw all-same (good-depth whole k (d - v .back) e (omega (arith, back-le, st .good .opened k (st .task))) (omega (arith, st .good .bounded k (st .task))) refl refl)
 
 -- ---- the other side of the test for a call
 

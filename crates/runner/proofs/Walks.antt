@@ -19,7 +19,7 @@ use Rattle.table.specs.declared.Table.{Table}
 use Rattle.closing.specs.Dirty.{Fact}
 use Rattle.closing.specs.Closing.{dirty, keptBy, kept}
 use Rattle.machine.specs.Step.{Stop, tooMany, stopNumber, Memory, operandIn, assign, Did, stops, goes, exec, Choice, nowhere, node, bad, choose, keptOf, keptIn, Walk, halts, arrives, along, onward, noting, walk}
-use Rattle.steps.specs.Cut.{stopOf, Named, choiceOf, overIn, Sound, halting, goesTo, haltsAt, readAt, actOf}
+use Rattle.steps.specs.Cut.{stopOf, Named, choiceOf, overIn, Sound, halting, goesTo, haltsAt, readAt, stuckOf, actOf, triedOf}
 use Rattle.steps.specs.declared.Chosen.{Chosen}
 use Rattle.steps.specs.declared.Acted.{Acted}
 use Rattle.starts.specs.Ready.{Ready}
@@ -93,6 +93,22 @@ dropped-did (Assert v to) m vs used s h = absurd (s refl)
 dropped-did (Out v to) m vs used s h = absurd (s refl)
 dropped-did Return m vs used s h = absurd (s refl)
 
+pub dropped-tried : (x : Node) (l vs : List ℤ) (used : ℕ) → sometimes x → triedOf x 0 l 0 0 0 0 (pos 0) vs used ≡ actOf x 0 l 0 (pos 0) vs used
+unfolding stuckOf keeping
+dropped-tried Absent l vs used s = refl
+dropped-tried (Start to) l vs used s = refl
+dropped-tried (Set v o a b to) l vs used s = refl
+dropped-tried (Test o a b y n) l vs used s = refl
+dropped-tried (Read v to) l vs used s = refl
+dropped-tried (Call q xs to) l vs used s = absurd (s refl)
+dropped-tried (Wait i to) l vs used s = absurd (s refl)
+dropped-tried (Signal i to) l vs used s = absurd (s refl)
+dropped-tried (Send q v to) l vs used s = absurd (s refl)
+dropped-tried (Recv q v to) l vs used s = absurd (s refl)
+dropped-tried (Assert v to) l vs used s = refl
+dropped-tried (Out v to) l vs used s = refl
+dropped-tried Return l vs used s = absurd (s refl)
+
 -- an answer's stop is 0 or the number of a stop
 pub act-named : (x : Node) (back : ℕ) (l : List ℤ) (c : ℕ) (y : ℤ) (vs : List ℤ) (used : ℕ) → Named (actOf x back l c y vs used .stop)
 unfolding actOf stopNumber
@@ -133,6 +149,13 @@ act-within (Recv q v to) back l c y vs used h = h
 act-within (Assert v to) back l c y vs used h = h
 act-within (Out v to) back l c y vs used h = h
 act-within Return back l c y vs used h = h
+
+pub tried-within : (x : Node) (back : ℕ) (l : List ℤ) (d c len cap : ℕ) (y : ℤ) (vs : List ℤ) (used : ℕ) → used ≤ length vs → triedOf x back l d c len cap y vs used .used ≤ length vs
+tried-within x back l d c len cap y vs used h = go (stuckOf x d c len cap)
+  where
+    go : (b : Bool) → (pick b (haltsAt 13 used c) (actOf x back l c y vs used)) .used ≤ length vs
+    go true = h
+    go false = act-within x back l c y vs used h
 
 pub named-stop : (n : ℕ) → Named n → (n ≡ 0 → ⊥) → stopNumber (stopOf n) ≡ n
 named-stop n h z = let e = ne-eqb n 0 z in rw e at h
@@ -191,26 +214,29 @@ module _ (t : Table) (keep : List ℕ) (ready : Ready t keep) (vs : List ℤ) (p
   walk-spent (suc d) m r s o z = absurd (omega arith)
 
   -- a dropped node is executed: the walk halts, or goes on by its arc
+  tried-is : (m : Memory) (r : Chosen) (a : Acted) → On r → a ≡ triedOf (nodeAt t p (r .node)) 0 (m .vars) 0 0 0 0 (pos 0) vs (r .used) → a ≡ actOf (nodeAt t p (r .node)) 0 (m .vars) 0 (pos 0) vs (r .used)
+  tried-is m r a n e = e ∙ dropped-tried (nodeAt t p (r .node)) (m .vars) vs (r .used) (unkept t (t .closed) p (r .node) (n .unkept))
+
   step-on : (d : ℕ) (m : Memory) (r : Chosen) (a : Acted) → Sound kp vs r → r .over ≡ false → (d ≡ 0 → ⊥) → length (m .vars) ≡ 16
-      → a ≡ actOf (nodeAt t p (r .node)) 0 (m .vars) 0 (pos 0) vs (r .used)
+      → a ≡ triedOf (nodeAt t p (r .node)) 0 (m .vars) 0 0 0 0 (pos 0) vs (r .used)
       → met (walking t vs p d m r) ≡ met (onward (λ n m ws. walk t (keptIn t) p (d - 1) n m ws) (didOf vs m a))
   unfolding walk
   step-on zero m r a s o z h e = absurd (z refl)
   step-on (suc d) m r a s o z h e =
       let n = walk-on r s o in
       let k : suc d - 1 ≡ d = omega arith in
-      let x : exec (nodeAt t p (r .node)) m (drop (r .used) vs) ≡ didOf vs m a = dropped-did (nodeAt t p (r .node)) m vs (r .used) (unkept t (t .closed) p (r .node) (n .unkept)) h ∙ ap (didOf vs m) (sym e) in
+      let x : exec (nodeAt t p (r .node)) m (drop (r .used) vs) ≡ didOf vs m a = dropped-did (nodeAt t p (r .node)) m vs (r .used) (unkept t (t .closed) p (r .node) (n .unkept)) h ∙ ap (didOf vs m) (sym (tried-is m r a n e)) in
       rw (k, n .choice, walk, n .unkept) (met-noting (r .node) (onward (λ n m ws. walk t (keptIn t) p d n m ws) (exec (nodeAt t p (r .node)) m (drop (r .used) vs))) ∙ ap (λ (y : Did). met (onward (λ n m ws. walk t (keptIn t) p d n m ws) y)) x)
 
   pub walk-halts : (d : ℕ) (m : Memory) (r : Chosen) (a : Acted) → Sound kp vs r → r .over ≡ false → (d ≡ 0 → ⊥) → length (m .vars) ≡ 16
-      → a ≡ actOf (nodeAt t p (r .node)) 0 (m .vars) 0 (pos 0) vs (r .used) → (a .stop ≡ 0 → ⊥) → met (walking t vs p d m r) ≡ metOf vs m (halting (a .stop) (r .used))
+      → a ≡ triedOf (nodeAt t p (r .node)) 0 (m .vars) 0 0 0 0 (pos 0) vs (r .used) → (a .stop ≡ 0 → ⊥) → met (walking t vs p d m r) ≡ metOf vs m (halting (a .stop) (r .used))
   walk-halts d m r a s o z h e n =
       let f = ne-eqb (a .stop) 0 n in
-      let i : Named (a .stop) = rw e (act-named (nodeAt t p (r .node)) 0 (m .vars) 0 (pos 0) vs (r .used)) in
+      let i : Named (a .stop) = rw (tried-is m r a (walk-on r s o) e) (act-named (nodeAt t p (r .node)) 0 (m .vars) 0 (pos 0) vs (r .used)) in
       step-on d m r a s o z h e ∙ rw f (ap halted (named-stop (a .stop) i n))
 
   pub walk-goes : (d : ℕ) (m : Memory) (r : Chosen) (a : Acted) (r′ : Chosen) → Sound kp vs r → r .over ≡ false → (d ≡ 0 → ⊥) → length (m .vars) ≡ 16
-      → a ≡ actOf (nodeAt t p (r .node)) 0 (m .vars) 0 (pos 0) vs (r .used) → a .stop ≡ 0 → choose (a .arc) (drop (a .used) vs) ≡ choiceOf vs r′
+      → a ≡ triedOf (nodeAt t p (r .node)) 0 (m .vars) 0 0 0 0 (pos 0) vs (r .used) → a .stop ≡ 0 → choose (a .arc) (drop (a .used) vs) ≡ choiceOf vs r′
       → met (walking t vs p d m r) ≡ met (walking t vs p (d - 1) (assign (a .var) (a .value) m) r′)
   walk-goes d m r a r′ s o z h e n c =
       step-on d m r a s o z h e ∙ rw (eq-eqb (a .stop) 0 n) (ap (λ (y : Choice). met (along (λ n m ws. walk t (keptIn t) p (d - 1) n m ws) (assign (a .var) (a .value) m) y)) c)

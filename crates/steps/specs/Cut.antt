@@ -15,7 +15,7 @@ use Rattle.table.specs.declared.Node.{Node}
 use Rattle.table.specs.declared.Node.the-variants.{Absent, Start, Set, Test, Read, Call, Wait, Signal, Send, Recv, Assert, Out, Return}
 use Rattle.machine.specs.declared.Entries.{Entries}
 use Rattle.machine.specs.State.{semCount, entriesAt, varAt}
-use Rattle.machine.specs.Step.{Stop, tooMany, spent, badToss, stopNumber, Memory, operandIn, appended, shortened, Choice, nowhere, node, bad, choose, Did, stops, goes}
+use Rattle.machine.specs.Step.{Stop, tooMany, spent, badToss, stopNumber, Memory, operandIn, valueOf, appended, shortened, Choice, nowhere, node, bad, choose, Did, stops, goes}
 use Rattle.steps.specs.declared.Chosen.{Chosen}
 use Rattle.steps.specs.declared.Acted.{Acted}
 use Rattle.steps.specs.declared.Shown.{Shown}
@@ -67,63 +67,6 @@ pub record Arrived (arc keep : ℕ) (vs : List ℤ) (used : ℕ) (r : Chosen) : 
   pub choice : choose arc (drop used vs) ≡ choiceOf vs r
   pub sound : Sound keep vs r
 
--- ---- a node executed: the variable set and its value, the values used, the arc, the semaphore's count after it
-
-abbrev pub goesTo : ℕ → ℤ → ℕ → ℕ → ℕ → Acted
-goesTo v x used arc c = record { stop = 0; var = v; value = x; used = used; arc = arc; count = c }
-
-abbrev pub haltsAt : ℕ → ℕ → ℕ → Acted
-haltsAt stop used c = record { stop = stop; var = 255; value = pos 0; used = used; arc = 0; count = c }
-
-abbrev pub raised : ℕ → ℕ
-raised c = pick (ltb c 255) (c + 1) 255
-
-abbrev pub readAt : ℕ → ℕ → ℕ → List ℤ → ℕ → Acted
-readAt v to c vs used = pick (leb (length vs) used) (haltsAt 15 used c) (goesTo v (getD vs used (pos 0)) (used + 1) to c)
-
--- from the arc of the call that a return goes back to, the frame's variables, the semaphore's count and the queue's oldest entry
-unfoldable pub actOf : Node → ℕ → List ℤ → ℕ → ℤ → List ℤ → ℕ → Acted
-actOf Absent back l c x vs used = goesTo 255 (pos 0) used 0 c
-actOf (Start to) back l c x vs used = goesTo 255 (pos 0) used to c
-actOf (Set v o a b to) back l c x vs used = goesTo v (apply o (operandIn l a) (operandIn l b)) used to c
-actOf (Test o a b y n) back l c x vs used = goesTo 255 (pos 0) used (pick (holds (apply o (operandIn l a) (operandIn l b))) y n) c
-actOf (Read v to) back l c x vs used = readAt v to c vs used
-actOf (Call q xs to) back l c x vs used = goesTo 255 (pos 0) used 0 c
-actOf (Wait i to) back l c x vs used = goesTo 255 (pos 0) used to (c - 1)
-actOf (Signal i to) back l c x vs used = goesTo 255 (pos 0) used to (raised c)
-actOf (Send q v to) back l c x vs used = goesTo 255 (varAt l v) used to c
-actOf (Recv q v to) back l c x vs used = goesTo v x used to c
-actOf (Assert v to) back l c x vs used = goesTo 255 (pos 0) used to c
-actOf (Out v to) back l c x vs used = goesTo 255 (pos 0) used to c
-actOf Return back l c x vs used = goesTo 255 (pos 0) used back c
-
--- ---- what a node has to do with: its semaphore, its queue, 1 if it sends and 2 if it receives, how many frames it closes
-
-abbrev pub siding : ℕ → ℕ → ℕ → ℕ → Sides
-siding sem queue how back = record { sem = sem; queue = queue; how = how; back = back }
-
-abbrev pub noSides : Sides
-noSides = siding 0 0 0 0
-
-unfoldable pub sidesOf : Node → Sides
-sidesOf Absent = noSides
-sidesOf (Start to) = noSides
-sidesOf (Set v o a b to) = noSides
-sidesOf (Test o a b y n) = noSides
-sidesOf (Read v to) = noSides
-sidesOf (Call q xs to) = noSides
-sidesOf (Wait i to) = siding i 0 0 0
-sidesOf (Signal i to) = siding i 0 0 0
-sidesOf (Send q v to) = siding 0 q 1 0
-sidesOf (Recv q v to) = siding 0 q 2 0
-sidesOf (Assert v to) = noSides
-sidesOf (Out v to) = noSides
-sidesOf Return = siding 0 0 0 1
-
--- the queue after it, x being the value sent
-abbrev pub queueAfter : Entries → ℕ → ℤ → Entries
-queueAfter e how x = pick (eqb how 1) (pick (ltb (e .len) 8) (appended x e) e) (pick (eqb how 2) (shortened e) e)
-
 -- ---- blocked, by the frames open, the semaphore's count, the queue's length and capacity
 unfoldable pub stuckOf : Node → ℕ → ℕ → ℕ → ℕ → Bool
 stuckOf Absent d c len cap = false
@@ -147,3 +90,72 @@ showing flag bits = record { flag = flag; bits = bits }
 abbrev pub shownOf : Option ℤ → Shown
 shownOf none = showing 0 0
 shownOf (some x) = showing 1 (ofZ w32 x)
+
+-- ---- a node executed: the variable set and its value, the values used, the arc, the semaphore's count after it, the log's flag and bits
+
+abbrev pub goesTo : ℕ → ℤ → ℕ → ℕ → ℕ → Acted
+goesTo v x used arc c = record { stop = 0; var = v; value = x; used = used; arc = arc; count = c; flag = 0; bits = 0 }
+
+abbrev pub haltsAt : ℕ → ℕ → ℕ → Acted
+haltsAt stop used c = record { stop = stop; var = 255; value = pos 0; used = used; arc = 0; count = c; flag = 0; bits = 0 }
+
+abbrev pub logsTo : ℕ → ℕ → ℕ → Shown → Acted
+logsTo used arc c e = record { stop = 0; var = 255; value = pos 0; used = used; arc = arc; count = c; flag = e .flag; bits = e .bits }
+
+-- a node that is blocked if b
+abbrev pub unless : Bool → ℕ → ℕ → Acted → Acted
+unless b used c r = pick b (haltsAt 13 used c) r
+
+abbrev pub readAt : ℕ → ℕ → ℕ → List ℤ → ℕ → Acted
+readAt v to c vs used = pick (leb (length vs) used) (haltsAt 15 used c) (goesTo v (getD vs used (pos 0)) (used + 1) to c)
+
+-- from the arc of the call that a return goes back to, the frame's variables, the semaphore's count and the queue's oldest entry
+unfoldable pub actOf : Node → ℕ → List ℤ → ℕ → ℤ → List ℤ → ℕ → Acted
+actOf Absent back l c x vs used = goesTo 255 (pos 0) used 0 c
+actOf (Start to) back l c x vs used = goesTo 255 (pos 0) used to c
+actOf (Set v o a b to) back l c x vs used = goesTo v (apply o (operandIn l a) (operandIn l b)) used to c
+actOf (Test o a b y n) back l c x vs used = goesTo 255 (pos 0) used (pick (holds (apply o (operandIn l a) (operandIn l b))) y n) c
+actOf (Read v to) back l c x vs used = readAt v to c vs used
+actOf (Call q xs to) back l c x vs used = goesTo 255 (pos 0) used 0 c
+actOf (Wait i to) back l c x vs used = goesTo 255 (pos 0) used to (c - 1)
+actOf (Signal i to) back l c x vs used = goesTo 255 (pos 0) used to (c + 1)
+actOf (Send q v to) back l c x vs used = goesTo 255 (varAt l v) used to c
+actOf (Recv q v to) back l c x vs used = goesTo v x used to c
+actOf (Assert v to) back l c x vs used = logsTo used to c (shownOf (valueOf l v))
+actOf (Out v to) back l c x vs used = logsTo used to c (shownOf (valueOf l v))
+actOf Return back l c x vs used = goesTo 255 (pos 0) used back c
+
+-- the same, where a node may be blocked: by the frames open, the semaphore's count, the queue's length and capacity
+abbrev pub triedOf : Node → ℕ → List ℤ → ℕ → ℕ → ℕ → ℕ → ℤ → List ℤ → ℕ → Acted
+triedOf x back l d c len cap y vs used = unless (stuckOf x d c len cap) used c (actOf x back l c y vs used)
+
+-- ---- what a node has to do with: its semaphore, its queue, 1 if it sends and 2 if it receives, how many frames it closes; few do either
+
+abbrev pub siding : ℕ → ℕ → ℕ → ℕ → Bool → Sides
+siding sem queue how back few = record { sem = sem; queue = queue; how = how; back = back; few = few }
+
+abbrev pub noSides : Sides
+noSides = siding 0 0 0 0 false
+
+unfoldable pub sidesOf : Node → Sides
+sidesOf Absent = noSides
+sidesOf (Start to) = noSides
+sidesOf (Set v o a b to) = noSides
+sidesOf (Test o a b y n) = noSides
+sidesOf (Read v to) = noSides
+sidesOf (Call q xs to) = noSides
+sidesOf (Wait i to) = siding i 0 0 0 false
+sidesOf (Signal i to) = siding i 0 0 0 false
+sidesOf (Send q v to) = siding 0 q 1 0 true
+sidesOf (Recv q v to) = siding 0 q 2 0 true
+sidesOf (Assert v to) = noSides
+sidesOf (Out v to) = noSides
+sidesOf Return = siding 0 0 0 1 true
+
+-- the queue after it, x being the value sent
+abbrev pub queueAfter : Entries → ℕ → ℤ → Entries
+queueAfter e how x = pick (eqb how 1) (pick (ltb (e .len) 8) (appended x e) e) (pick (eqb how 2) (shortened e) e)
+
+-- the place of the frame that goes on: f is the topmost's
+abbrev pub underOf : ℕ → ℕ → ℕ → ℕ
+underOf f back d = pick (ltb back d) (f - back) f

@@ -4,14 +4,14 @@ ghost use mathlib.Core.List.{_∷_, []};
 ghost use Prim.Native.Nat.{_<_, _≤_, _+_, _-_, _*_};
 ghost use lib.ListN.{length, getD, set};
 ghost use lib.Seq.{sets};
-ghost use lib.Dec.{ltb};
+ghost use lib.Dec.{eqb, leb, ltb};
 ghost use lib.IntN.{pos};
 ghost use Rattle.table.specs.Mask.{members, pick};
 ghost use Rattle.table.specs.Table.{arcTo};
 ghost use Rattle.machine.specs.State.{varAt, noFrame};
-ghost use Rattle.machine.specs.Step.{operandIn, valueOf, shown, entering, appended, shortened};
+ghost use Rattle.machine.specs.Step.{operandIn, valueOf, entering, appended, shortened};
 ghost use Rattle.machine.specs.Run.{word};
-ghost use Rattle.steps.specs.Cut.{Arrived, meeting, halting, tossed, goesTo, haltsAt, raised, readAt, actOf, siding, sidesOf, queueAfter, stuckOf, showing, shownOf};
+ghost use Rattle.steps.specs.Cut.{Arrived, meeting, halting, tossed, goesTo, haltsAt, logsTo, unless, readAt, triedOf, siding, sidesOf, queueAfter, underOf, showing, shownOf};
 ghost use Rattle.table.specs.Values.{holds};
 use table::Node;
 
@@ -24,7 +24,8 @@ pub struct Chosen {
     pub used: usize,
 }
 
-// A node executed: a stop's number; the variable set, 255 for none, and its value; the values used; its arc; its semaphore's count.
+// A node executed: a stop's number; the variable set, 255 for none, and its value; the values used; its arc; its semaphore's count; the
+// flag and the value's bits that it logs.
 pub struct Acted {
     pub stop: u8,
     pub var: u8,
@@ -32,6 +33,8 @@ pub struct Acted {
     pub used: usize,
     pub arc: u32,
     pub count: u8,
+    pub flag: u8,
+    pub bits: u32,
 }
 
 // A log entry's flag and the bits of its value.
@@ -40,12 +43,13 @@ pub struct Shown {
     pub bits: u32,
 }
 
-// A node's semaphore and queue, 1 if it sends and 2 if it receives, and how many frames it closes.
+// A node's semaphore and queue, 1 if it sends and 2 if it receives, how many frames it closes, and whether it does either.
 pub struct Sides {
     pub sem: usize,
     pub queue: usize,
     pub how: u8,
     pub back: u8,
+    pub few: bool,
 }
 
 // ---- variables
@@ -163,6 +167,22 @@ pub fn arrive(arc: u32, keep: u32, values: &[i32], used: usize) -> Chosen
 
 // ---- nodes
 
+fn show(flag: u8, bits: u32) -> Shown
+    ensures { λ r. ⌜ r ≡ showing flag bits ⌝ }
+{
+    Shown { flag, bits }
+}
+
+fn show_var(vars: &[i32; 16], v: u8) -> Shown
+    requires { ⌜ length (now vars) ≡ 16 ⌝ }
+    ensures { λ r. ⌜ r ≡ shownOf (valueOf (now (vars .entry)) v) ⌝ }
+{
+    if v == 255 {
+        return show(0, 0);
+    }
+    show(1, values::bits_of(var_at(vars, v)))
+}
+
 fn goes(var: u8, value: i32, used: usize, arc: u32, count: u8) -> Acted
     ensures { λ r. ⌜ r ≡ goesTo var value used arc count ⌝ }
 {
@@ -173,19 +193,39 @@ fn goes(var: u8, value: i32, used: usize, arc: u32, count: u8) -> Acted
         used,
         arc,
         count,
+        flag: 0,
+        bits: 0,
     }
 }
 
-fn lowered(c: u8) -> u8
-    ensures { λ r. ⌜ r ≡ c - 1 ⌝ }
+fn halts(stop: u8, used: usize, count: u8) -> Acted
+    ensures { λ r. ⌜ r ≡ haltsAt stop used count ⌝ }
 {
-    if c == 0 { 0 } else { c - 1 }
+    Acted {
+        stop,
+        var: 255,
+        value: 0,
+        used,
+        arc: 0,
+        count,
+        flag: 0,
+        bits: 0,
+    }
 }
 
-fn raise(c: u8) -> u8
-    ensures { λ r. ⌜ r ≡ raised c ⌝ }
+fn logs(used: usize, arc: u32, count: u8, e: Shown) -> Acted
+    ensures { λ r. ⌜ r ≡ logsTo used arc count e ⌝ }
 {
-    if c < 255 { c + 1 } else { 255 }
+    Acted {
+        stop: 0,
+        var: 255,
+        value: 0,
+        used,
+        arc,
+        count,
+        flag: e.flag,
+        bits: e.bits,
+    }
 }
 
 fn read(var: u8, to: u32, count: u8, values: &[i32], used: usize) -> Acted
@@ -193,14 +233,7 @@ fn read(var: u8, to: u32, count: u8, values: &[i32], used: usize) -> Acted
     ensures { λ r. ⌜ r ≡ readAt var to count (now (values .entry)) used ⌝ }
 {
     if values.len() <= used {
-        return Acted {
-            stop: 15,
-            var: 255,
-            value: 0,
-            used,
-            arc: 0,
-            count,
-        };
+        return halts(15, used, count);
     }
     goes(var, values[used], used + 1, to, count)
 }
@@ -211,18 +244,75 @@ fn branch(z: i32, yes: u32, no: u32) -> u32
     if z == 0 { no } else { yes }
 }
 
-// A node executed within its frame; of a return, `back` is the arc of the call that it goes back to.
+fn call(depth: u8, used: usize, count: u8) -> Acted
+    ensures { λ r. ⌜ r ≡ unless (leb 8 depth) used count (goesTo 255 (pos 0) used 0 count) ⌝ }
+{
+    if 8 <= depth {
+        return halts(13, used, count);
+    }
+    goes(255, 0, used, 0, count)
+}
+
+fn wait(to: u32, used: usize, count: u8) -> Acted
+    ensures { λ r. ⌜ r ≡ unless (eqb count 0) used count (goesTo 255 (pos 0) used to (count - 1)) ⌝ }
+{
+    if count == 0 {
+        return halts(13, used, count);
+    }
+    goes(255, 0, used, to, count - 1)
+}
+
+fn signal(to: u32, used: usize, count: u8) -> Acted
+    ensures { λ r. ⌜ r ≡ unless (leb 255 count) used count (goesTo 255 (pos 0) used to (count + 1)) ⌝ }
+{
+    if 255 <= count {
+        return halts(13, used, count);
+    }
+    goes(255, 0, used, to, count + 1)
+}
+
+fn send(x: i32, to: u32, used: usize, count: u8, len: u8, cap: u8) -> Acted
+    ensures { λ r. ⌜ r ≡ unless (leb cap len) used count (goesTo 255 x used to count) ⌝ }
+{
+    if cap <= len {
+        return halts(13, used, count);
+    }
+    goes(255, x, used, to, count)
+}
+
+fn receive(var: u8, x: i32, to: u32, used: usize, count: u8, len: u8) -> Acted
+    ensures { λ r. ⌜ r ≡ unless (eqb len 0) used count (goesTo var x used to count) ⌝ }
+{
+    if len == 0 {
+        return halts(13, used, count);
+    }
+    goes(var, x, used, to, count)
+}
+
+fn give_back(arc: u32, depth: u8, used: usize, count: u8) -> Acted
+    ensures { λ r. ⌜ r ≡ unless (leb depth 1) used count (goesTo 255 (pos 0) used arc count) ⌝ }
+{
+    if depth <= 1 {
+        return halts(13, used, count);
+    }
+    goes(255, 0, used, arc, count)
+}
+
+// A node executed within its frame, or blocked; of a return, `back` is the arc of the call that it goes back to.
 pub fn act<'a>(
     x: Node,
     back: u32,
     vars: &'a [i32; 16],
+    depth: u8,
     count: u8,
+    len: u8,
+    cap: u8,
     first: i32,
     values: &'a [i32],
     used: usize,
 ) -> Acted
     requires { ⌜ (length (now vars) ≡ 16) × (used ≤ length (now values)) ⌝ }
-    ensures { λ r. ⌜ r ≡ actOf x back (now (vars .entry)) count first (now (values .entry)) used ⌝ }
+    ensures { λ r. ⌜ r ≡ triedOf x back (now (vars .entry)) depth count len cap first (now (values .entry)) used ⌝ }
 {
     match x {
         Node::Absent => goes(255, 0, used, 0, count),
@@ -248,14 +338,14 @@ pub fn act<'a>(
             callee: _,
             args: _,
             to: _,
-        } => goes(255, 0, used, 0, count),
-        Node::Wait { sem: _, to } => goes(255, 0, used, to, lowered(count)),
-        Node::Signal { sem: _, to } => goes(255, 0, used, to, raise(count)),
-        Node::Send { queue: _, var, to } => goes(255, var_at(vars, var), used, to, count),
-        Node::Recv { queue: _, var, to } => goes(var, first, used, to, count),
-        Node::Assert { var: _, to } => goes(255, 0, used, to, count),
-        Node::Out { var: _, to } => goes(255, 0, used, to, count),
-        Node::Return => goes(255, 0, used, back, count),
+        } => call(depth, used, count),
+        Node::Wait { sem: _, to } => wait(to, used, count),
+        Node::Signal { sem: _, to } => signal(to, used, count),
+        Node::Send { queue: _, var, to } => send(var_at(vars, var), to, used, count, len, cap),
+        Node::Recv { queue: _, var, to } => receive(var, first, to, used, count, len),
+        Node::Assert { var, to } => logs(used, to, count, show_var(vars, var)),
+        Node::Out { var, to } => logs(used, to, count, show_var(vars, var)),
+        Node::Return => give_back(back, depth, used, count),
     }
 }
 
@@ -303,14 +393,15 @@ pub fn arc_to(x: Node) -> u32
     }
 }
 
-fn with(sem: u8, queue: u8, how: u8, back: u8) -> Sides
-    ensures { λ r. ⌜ r ≡ siding sem queue how back ⌝ }
+fn with(sem: u8, queue: u8, how: u8, back: u8, few: bool) -> Sides
+    ensures { λ r. ⌜ r ≡ siding sem queue how back few ⌝ }
 {
     Sides {
         sem: sem as usize,
         queue: queue as usize,
         how,
         back,
+        few,
     }
 }
 
@@ -318,167 +409,60 @@ pub fn beside(x: Node) -> Sides
     ensures { λ r. ⌜ r ≡ sidesOf x ⌝ }
 {
     match x {
-        Node::Absent => with(0, 0, 0, 0),
-        Node::Start { to: _ } => with(0, 0, 0, 0),
+        Node::Absent => with(0, 0, 0, 0, false),
+        Node::Start { to: _ } => with(0, 0, 0, 0, false),
         Node::Set {
             var: _,
             op: _,
             a: _,
             b: _,
             to: _,
-        } => with(0, 0, 0, 0),
+        } => with(0, 0, 0, 0, false),
         Node::Test {
             op: _,
             a: _,
             b: _,
             yes: _,
             no: _,
-        } => with(0, 0, 0, 0),
-        Node::Read { var: _, to: _ } => with(0, 0, 0, 0),
+        } => with(0, 0, 0, 0, false),
+        Node::Read { var: _, to: _ } => with(0, 0, 0, 0, false),
         Node::Call {
             callee: _,
             args: _,
             to: _,
-        } => with(0, 0, 0, 0),
-        Node::Wait { sem, to: _ } => with(sem, 0, 0, 0),
-        Node::Signal { sem, to: _ } => with(sem, 0, 0, 0),
+        } => with(0, 0, 0, 0, false),
+        Node::Wait { sem, to: _ } => with(sem, 0, 0, 0, false),
+        Node::Signal { sem, to: _ } => with(sem, 0, 0, 0, false),
         Node::Send {
             queue,
             var: _,
             to: _,
-        } => with(0, queue, 1, 0),
+        } => with(0, queue, 1, 0, true),
         Node::Recv {
             queue,
             var: _,
             to: _,
-        } => with(0, queue, 2, 0),
-        Node::Assert { var: _, to: _ } => with(0, 0, 0, 0),
-        Node::Out { var: _, to: _ } => with(0, 0, 0, 0),
-        Node::Return => with(0, 0, 0, 1),
-    }
-}
-
-// A task before the node is blocked.
-pub fn stuck(x: Node, depth: u8, count: u8, len: u8, cap: u8) -> bool
-    ensures { λ r. ⌜ r ≡ stuckOf x depth count len cap ⌝ }
-{
-    match x {
-        Node::Absent => false,
-        Node::Start { to: _ } => false,
-        Node::Set {
-            var: _,
-            op: _,
-            a: _,
-            b: _,
-            to: _,
-        } => false,
-        Node::Test {
-            op: _,
-            a: _,
-            b: _,
-            yes: _,
-            no: _,
-        } => false,
-        Node::Read { var: _, to: _ } => false,
-        Node::Call {
-            callee: _,
-            args: _,
-            to: _,
-        } => 8 <= depth,
-        Node::Wait { sem: _, to: _ } => count == 0,
-        Node::Signal { sem: _, to: _ } => 255 <= count,
-        Node::Send {
-            queue: _,
-            var: _,
-            to: _,
-        } => cap <= len,
-        Node::Recv {
-            queue: _,
-            var: _,
-            to: _,
-        } => len == 0,
-        Node::Assert { var: _, to: _ } => false,
-        Node::Out { var: _, to: _ } => false,
-        Node::Return => depth <= 1,
+        } => with(0, queue, 2, 0, true),
+        Node::Assert { var: _, to: _ } => with(0, 0, 0, 0, false),
+        Node::Out { var: _, to: _ } => with(0, 0, 0, 0, false),
+        Node::Return => with(0, 0, 0, 1, true),
     }
 }
 
 // ---- the log
 
-fn show(flag: u8, bits: u32) -> Shown
-    ensures { λ r. ⌜ r ≡ showing flag bits ⌝ }
-{
-    Shown { flag, bits }
-}
-
-fn show_var(vars: &[i32; 16], v: u8) -> Shown
-    requires { ⌜ length (now vars) ≡ 16 ⌝ }
-    ensures { λ r. ⌜ r ≡ shownOf (valueOf (now (vars .entry)) v) ⌝ }
-{
-    if v == 255 {
-        return show(0, 0);
-    }
-    show(1, values::bits_of(var_at(vars, v)))
-}
-
-pub fn shows(x: Node, vars: &[i32; 16]) -> Shown
-    requires { ⌜ length (now vars) ≡ 16 ⌝ }
-    ensures { λ r. ⌜ r ≡ shownOf (shown (now (vars .entry)) x) ⌝ }
-{
-    match x {
-        Node::Absent => show(0, 0),
-        Node::Start { to: _ } => show(0, 0),
-        Node::Set {
-            var: _,
-            op: _,
-            a: _,
-            b: _,
-            to: _,
-        } => show(0, 0),
-        Node::Test {
-            op: _,
-            a: _,
-            b: _,
-            yes: _,
-            no: _,
-        } => show(0, 0),
-        Node::Read { var: _, to: _ } => show(0, 0),
-        Node::Call {
-            callee: _,
-            args: _,
-            to: _,
-        } => show(0, 0),
-        Node::Wait { sem: _, to: _ } => show(0, 0),
-        Node::Signal { sem: _, to: _ } => show(0, 0),
-        Node::Send {
-            queue: _,
-            var: _,
-            to: _,
-        } => show(0, 0),
-        Node::Recv {
-            queue: _,
-            var: _,
-            to: _,
-        } => show(0, 0),
-        Node::Assert { var, to: _ } => show_var(vars, var),
-        Node::Out { var, to: _ } => show_var(vars, var),
-        Node::Return => show(0, 0),
-    }
-}
-
-pub fn put(log: &mut [u8], at: usize, task: u8, proc: u8, node: u8, e: Shown)
+pub fn put(log: &mut [u8], at: usize, task: u8, proc: u8, node: u8, flag: u8, bits: u32)
     requires { ⌜ at + 8 ≤ length (now log) ⌝ }
-    ensures { λ _. ⌜ now (log .exit) ≡ sets (now (log .entry)) at (task ∷ proc ∷ node ∷ e .flag ∷ word (e .bits)) ⌝ }
+    ensures { λ _. ⌜ now (log .exit) ≡ sets (now (log .entry)) at (task ∷ proc ∷ node ∷ flag ∷ word bits) ⌝ }
 {
-    let z = e.bits;
     log[at] = task;
     log[at + 1] = proc;
     log[at + 2] = node;
-    log[at + 3] = e.flag;
-    log[at + 4] = (z % 256) as u8;
-    log[at + 5] = (z / 256 % 256) as u8;
-    log[at + 6] = (z / 65536 % 256) as u8;
-    log[at + 7] = (z / 16777216 % 256) as u8;
+    log[at + 3] = flag;
+    log[at + 4] = (bits % 256) as u8;
+    log[at + 5] = (bits / 256 % 256) as u8;
+    log[at + 6] = (bits / 65536 % 256) as u8;
+    log[at + 7] = (bits / 16777216 % 256) as u8;
 }
 
 // ---- frames and queues
@@ -515,6 +499,12 @@ pub fn enter(vars: &[i32; 16], callee: u8, xs: table::Args) -> machine::Frame
         node: 0,
         vars: [a, b, c, d, 0, 0, 0, 0, 0, 0, 0, 0, 0, 0, 0, 0],
     }
+}
+
+fn lowered(c: u8) -> u8
+    ensures { λ r. ⌜ r ≡ c - 1 ⌝ }
+{
+    if c == 0 { 0 } else { c - 1 }
 }
 
 fn pushed(e: machine::Entries, x: i32) -> machine::Entries
@@ -569,4 +559,15 @@ pub fn top_of(i: usize, depth: u8) -> usize
     ensures { λ r. ⌜ r ≡ 8 * i + (depth - 1) ⌝ }
 {
     8 * i + ((depth - 1) as usize)
+}
+
+// The place of the frame that goes on, the topmost's being f.
+pub fn under(f: usize, back: u8, depth: u8) -> usize
+    requires { ⌜ depth ≤ f + 1 ⌝ }
+    ensures { λ r. ⌜ r ≡ underOf f back depth ⌝ }
+{
+    if back < depth {
+        return f - (back as usize);
+    }
+    f
 }

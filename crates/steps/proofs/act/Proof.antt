@@ -10,8 +10,10 @@ use mir.Val.{ofZ}
 use borrow.Author.Tests.{le-leb, lt-leb, lt-ltb, le-ltb, eq-eqb, ne-eqb}
 use Rattle.table.specs.Mask.{pick, members, membersFrom}
 use Rattle.steps.specs.Cut.{goesTo, haltsAt, actOf, sidesOf, stuckOf, shownOf, showing}
-use Rattle.steps.proofs.Leaves.{again, twice, holds-no, holds-yes, bit-here, bit-past, bit-off, bit-none, toss-spent, toss-none, toss-goes, entering-is, shift-is, put-is, queue-sends, queue-takes, queue-stays}
+use Rattle.steps.proofs.Leaves.{again, twice, holds-no, holds-yes, bit-here, bit-past, bit-off, bit-none, toss-spent, toss-none, toss-goes, entering-is, popped-is, put-is, queue-sends, queue-takes, queue-stays}
 use Rattle.table.specs.Values.{apply, holds}
+use lib.Dec.{eqb, leb}
+use Rattle.steps.specs.Cut.{logsTo, unless}
 use Rattle.steps.proofs.act.Statement.{statement}
 use Rattle.steps.proofs.act.Tie as tie
 
@@ -69,26 +71,20 @@ read-requires c κs = search needs
 enum-told-2 : tie.Need-enum-told-2
 enum-told-2 c = search needs
 
-goes-requires-5 : tie.Need-goes-requires-5
-goes-requires-5 c κs = search needs
+call-requires : tie.Need-call-requires
+call-requires c κs = search needs
 
 enum-known-x-5 : tie.Need-enum-known-x-5
 enum-known-x-5 c = search needs
 
-lowered-requires : tie.Need-lowered-requires
-lowered-requires c κs = search needs
-
-goes-requires-6 : tie.Need-goes-requires-6
-goes-requires-6 c κs = search needs
+wait-requires : tie.Need-wait-requires
+wait-requires c κs = search needs
 
 enum-known-x-6 : tie.Need-enum-known-x-6
 enum-known-x-6 c = search needs
 
-raise-requires : tie.Need-raise-requires
-raise-requires c κs = search needs
-
-goes-requires-7 : tie.Need-goes-requires-7
-goes-requires-7 c κs = search needs
+signal-requires : tie.Need-signal-requires
+signal-requires c κs = search needs
 
 enum-known-x-7 : tie.Need-enum-known-x-7
 enum-known-x-7 c = search needs
@@ -96,84 +92,90 @@ enum-known-x-7 c = search needs
 var-at-requires : tie.Need-var-at-requires
 var-at-requires c κs = search needs
 
-goes-requires-8 : tie.Need-goes-requires-8
-goes-requires-8 c κs = search needs
+send-requires : tie.Need-send-requires
+send-requires c κs = search needs
 
 enum-known-x-8 : tie.Need-enum-known-x-8
 enum-known-x-8 c = search needs
 
-goes-requires-9 : tie.Need-goes-requires-9
-goes-requires-9 c κs = search needs
+receive-requires : tie.Need-receive-requires
+receive-requires c κs = search needs
 
 enum-known-x-9 : tie.Need-enum-known-x-9
 enum-known-x-9 c = search needs
 
-goes-requires-10 : tie.Need-goes-requires-10
-goes-requires-10 c κs = search needs
+show-var-requires : tie.Need-show-var-requires
+show-var-requires c κs = search needs
+
+logs-requires : tie.Need-logs-requires
+logs-requires c κs = search needs
 
 enum-known-x-10 : tie.Need-enum-known-x-10
 enum-known-x-10 c = search needs
 
-goes-requires-11 : tie.Need-goes-requires-11
-goes-requires-11 c κs = search needs
+show-var-requires-2 : tie.Need-show-var-requires-2
+show-var-requires-2 c κs = search needs
+
+logs-requires-2 : tie.Need-logs-requires-2
+logs-requires-2 c κs = search needs
 
 enum-told-3 : tie.Need-enum-told-3
 enum-told-3 c = search needs
 
-goes-requires-12 : tie.Need-goes-requires-12
-goes-requires-12 c κs = search needs
+give-back-requires : tie.Need-give-back-requires
+give-back-requires c κs = search needs
 
 returns : tie.Need-returns
-unfolding actOf
-returns c = rw (c .before .enum-told .given .1) (c .goes .ensures)
+unfolding actOf stuckOf
+returns c = rw ((c .before .enum-told) .given .1) ((c .goes) .ensures)
 
 returns-2 : tie.Need-returns-2
-unfolding actOf
-returns-2 c = rw (c .before .before .x .given .1) (c .goes2 .ensures)
+unfolding actOf stuckOf
+returns-2 c = rw ((c .before .before .x) .given .1) ((c .goes2) .ensures)
 
 returns-3 : tie.Need-returns-3
-unfolding actOf
-returns-3 c = rw (c .before .before .before .before .before .x2 .given .1) (c .goes3 .ensures ∙ ap (λ (z : ℤ). goesTo (c .before .before .before .before .before .x2 .given .0 .0) z (c .before .before .before .before .before .before .before .args .used) (c .before .before .before .before .before .x2 .given .0 .1 .1 .1 .1 .0) (c .before .before .before .before .before .before .before .args .count)) (again (c .before .apply .result) (record { sfits = c .before .apply .ok }) ∙ c .before .apply .ensures ∙ twice (apply (c .before .before .before .before .before .x2 .given .0 .1 .0)) (c .before .before .before .operand .result) (c .before .before .operand2 .result) (record { sfits = c .before .before .before .operand .ok }) (record { sfits = c .before .before .operand2 .ok }) (c .before .before .before .operand .ensures) (c .before .before .operand2 .ensures)))
+unfolding actOf stuckOf
+returns-3 c = rw ((c .before .before .before .before .before .x2) .given .1) ((c .goes3) .ensures ∙ ap (λ (z : ℤ). goesTo ((c .before .before .before .before .before .x2) .given .0 .0) z ((c .before .before .before .before .before .before .before .args) .used) ((c .before .before .before .before .before .x2) .given .0 .1 .1 .1 .1 .0) ((c .before .before .before .before .before .before .before .args) .count)) (again ((c .before .apply) .result) (record { sfits = (c .before .apply) .ok }) ∙ (c .before .apply) .ensures ∙ twice (apply ((c .before .before .before .before .before .x2) .given .0 .1 .0)) ((c .before .before .before .operand) .result) ((c .before .before .operand2) .result) (record { sfits = (c .before .before .before .operand) .ok }) (record { sfits = (c .before .before .operand2) .ok }) ((c .before .before .before .operand) .ensures) ((c .before .before .operand2) .ensures)))
 
 returns-4 : tie.Need-returns-4
-unfolding actOf
-returns-4 c = rw (c .before .before .before .before .before .before .x3 .given .1) (c .goes4 .ensures ∙ ap (λ (a : ℕ). goesTo 255 (pos 0) (c .before .before .before .before .before .before .before .before .args .used) a (c .before .before .before .before .before .before .before .before .args .count)) (c .before .branch .ensures ∙ ap (λ (z : ℤ). pick (holds z) (c .before .before .before .before .before .before .x3 .given .0 .1 .1 .1 .0) (c .before .before .before .before .before .before .x3 .given .0 .1 .1 .1 .1 .0)) (again (c .before .before .apply2 .result) (record { sfits = c .before .before .apply2 .ok }) ∙ c .before .before .apply2 .ensures ∙ twice (apply (c .before .before .before .before .before .before .x3 .given .0 .0)) (c .before .before .before .before .operand3 .result) (c .before .before .before .operand4 .result) (record { sfits = c .before .before .before .before .operand3 .ok }) (record { sfits = c .before .before .before .operand4 .ok }) (c .before .before .before .before .operand3 .ensures) (c .before .before .before .operand4 .ensures))))
+unfolding actOf stuckOf
+returns-4 c = rw ((c .before .before .before .before .before .before .x3) .given .1) ((c .goes4) .ensures ∙ ap (λ (a : ℕ). goesTo 255 (pos 0) ((c .before .before .before .before .before .before .before .before .args) .used) a ((c .before .before .before .before .before .before .before .before .args) .count)) ((c .before .branch) .ensures ∙ ap (λ (z : ℤ). pick (holds z) ((c .before .before .before .before .before .before .x3) .given .0 .1 .1 .1 .0) ((c .before .before .before .before .before .before .x3) .given .0 .1 .1 .1 .1 .0)) (again ((c .before .before .apply2) .result) (record { sfits = (c .before .before .apply2) .ok }) ∙ (c .before .before .apply2) .ensures ∙ twice (apply ((c .before .before .before .before .before .before .x3) .given .0 .0)) ((c .before .before .before .before .operand3) .result) ((c .before .before .before .operand4) .result) (record { sfits = (c .before .before .before .before .operand3) .ok }) (record { sfits = (c .before .before .before .operand4) .ok }) ((c .before .before .before .before .operand3) .ensures) ((c .before .before .before .operand4) .ensures))))
 
 returns-5 : tie.Need-returns-5
-unfolding actOf
-returns-5 c = rw (c .before .before .x4 .given .1) (c .read .ensures)
+unfolding actOf stuckOf
+returns-5 c = rw ((c .before .before .x4) .given .1) ((c .read) .ensures)
 
 returns-6 : tie.Need-returns-6
-unfolding actOf
-returns-6 c = rw (c .before .enum-told2 .given .1) (c .goes5 .ensures)
+unfolding actOf stuckOf
+returns-6 c = rw ((c .before .enum-told2) .given .1) ((c .call) .ensures)
 
 returns-7 : tie.Need-returns-7
-unfolding actOf
-returns-7 c = rw (c .before .before .before .x5 .given .1) (c .goes6 .ensures ∙ ap (λ (n : ℕ). goesTo 255 (pos 0) (c .before .before .before .before .before .args .used) (c .before .before .before .x5 .given .0 .1 .0) n) (c .before .lowered .ensures))
+unfolding actOf stuckOf
+returns-7 c = rw ((c .before .before .x5) .given .1) ((c .wait) .ensures)
 
 returns-8 : tie.Need-returns-8
-unfolding actOf
-returns-8 c = rw (c .before .before .before .x6 .given .1) (c .goes7 .ensures ∙ ap (λ (n : ℕ). goesTo 255 (pos 0) (c .before .before .before .before .before .args .used) (c .before .before .before .x6 .given .0 .1 .0) n) (c .before .raise .ensures))
+unfolding actOf stuckOf
+returns-8 c = rw ((c .before .before .x6) .given .1) ((c .signal) .ensures)
 
 returns-9 : tie.Need-returns-9
-unfolding actOf
-returns-9 c = rw (c .before .before .before .x7 .given .1) (c .goes8 .ensures ∙ ap (λ (z : ℤ). goesTo 255 z (c .before .before .before .before .before .args .used) (c .before .before .before .x7 .given .0 .1 .1 .0) (c .before .before .before .before .before .args .count)) (again (c .before .var-at .result) (record { sfits = c .before .var-at .ok }) ∙ c .before .var-at .ensures))
+unfolding actOf stuckOf
+returns-9 c = rw ((c .before .before .before .x7) .given .1) ((c .send) .ensures ∙ ap (λ (z : ℤ). unless (leb ((c .before .before .before .before .before .args) .cap) ((c .before .before .before .before .before .args) .len)) ((c .before .before .before .before .before .args) .used) ((c .before .before .before .before .before .args) .count) (goesTo 255 z ((c .before .before .before .before .before .args) .used) ((c .before .before .before .x7) .given .0 .1 .1 .0) ((c .before .before .before .before .before .args) .count))) (again ((c .before .var-at) .result) (record { sfits = (c .before .var-at) .ok }) ∙ (c .before .var-at) .ensures))
 
 returns-10 : tie.Need-returns-10
-unfolding actOf
-returns-10 c = rw (c .before .before .x8 .given .1) (c .goes9 .ensures ∙ ap (λ (z : ℤ). goesTo (c .before .before .x8 .given .0 .1 .0) z (c .before .before .before .before .args .used) (c .before .before .x8 .given .0 .1 .1 .0) (c .before .before .before .before .args .count)) (again (c .before .before .before .before .args .first) (c .before .before .before .before .fits .first)))
+unfolding actOf stuckOf
+returns-10 c = rw ((c .before .before .x8) .given .1) ((c .receive) .ensures ∙ ap (λ (z : ℤ). unless (eqb ((c .before .before .before .before .args) .len) 0) ((c .before .before .before .before .args) .used) ((c .before .before .before .before .args) .count) (goesTo ((c .before .before .x8) .given .0 .1 .0) z ((c .before .before .before .before .args) .used) ((c .before .before .x8) .given .0 .1 .1 .0) ((c .before .before .before .before .args) .count))) (again ((c .before .before .before .before .args) .first) ((c .before .before .before .before .fits) .first)))
 
 returns-11 : tie.Need-returns-11
-unfolding actOf
-returns-11 c = rw (c .before .before .x9 .given .1) (c .goes10 .ensures)
+unfolding actOf stuckOf
+returns-11 c = rw ((c .before .before .before .x9) .given .1) ((c .logs) .ensures ∙ ap (logsTo ((c .before .before .before .before .before .args) .used) ((c .before .before .before .x9) .given .0 .1 .0) ((c .before .before .before .before .before .args) .count)) ((c .before .show-var) .ensures))
 
 returns-12 : tie.Need-returns-12
-unfolding actOf
-returns-12 c = rw (c .before .before .x10 .given .1) (c .goes11 .ensures)
+unfolding actOf stuckOf
+returns-12 c = rw ((c .before .before .before .x10) .given .1) ((c .logs2) .ensures ∙ ap (logsTo ((c .before .before .before .before .before .args) .used) ((c .before .before .before .x10) .given .0 .1 .0) ((c .before .before .before .before .before .args) .count)) ((c .before .show-var2) .ensures))
 
 returns-13 : tie.Need-returns-13
-unfolding actOf
-returns-13 c = rw (c .before .enum-told3 .given .1) (c .goes12 .ensures)
+unfolding actOf stuckOf
+returns-13 c = rw ((c .before .enum-told3) .given .1) ((c .give-back) .ensures)
 
 pub act-spec : {M : Type 1} → statement M
 act-spec =
@@ -197,24 +199,24 @@ act-spec =
     enum-known-x-4
     read-requires
     enum-told-2
-    goes-requires-5
+    call-requires
     enum-known-x-5
-    lowered-requires
-    goes-requires-6
+    wait-requires
     enum-known-x-6
-    raise-requires
-    goes-requires-7
+    signal-requires
     enum-known-x-7
     var-at-requires
-    goes-requires-8
+    send-requires
     enum-known-x-8
-    goes-requires-9
+    receive-requires
     enum-known-x-9
-    goes-requires-10
+    show-var-requires
+    logs-requires
     enum-known-x-10
-    goes-requires-11
+    show-var-requires-2
+    logs-requires-2
     enum-told-3
-    goes-requires-12
+    give-back-requires
     returns
     returns-2
     returns-3

@@ -10,7 +10,7 @@ use mir.Val.{ofZ}
 use borrow.Author.Tests.{le-leb, lt-leb, lt-ltb, le-ltb, eq-eqb, ne-eqb}
 use Rattle.table.specs.Mask.{pick, members, membersFrom}
 use Rattle.steps.specs.Cut.{goesTo, haltsAt, actOf, sidesOf, stuckOf, shownOf, showing}
-use Rattle.steps.proofs.Leaves.{again, twice, holds-no, holds-yes, bit-here, bit-past, bit-off, bit-none, toss-spent, toss-none, toss-goes, entering-is, shift-is, put-is, queue-sends, queue-takes, queue-stays}
+use Rattle.steps.proofs.Leaves.{again, twice, holds-no, holds-yes, bit-here, bit-past, bit-off, bit-none, toss-spent, toss-none, toss-goes, entering-is, popped-is, put-is, queue-sends, queue-takes, queue-stays}
 use Rattle.steps.proofs.beside.Statement.{statement}
 use Rattle.steps.proofs.beside.Tie as tie
 
@@ -94,55 +94,55 @@ with-requires-13 c κs = search needs
 
 returns : tie.Need-returns
 unfolding sidesOf
-returns c = rw (c .before .enum-told .given .1) (c .with .ensures)
+returns c = rw ((c .before .enum-told) .given .1) ((c .with) .ensures)
 
 returns-2 : tie.Need-returns-2
 unfolding sidesOf
-returns-2 c = rw (c .before .enum-told2 .given .1) (c .with2 .ensures)
+returns-2 c = rw ((c .before .enum-told2) .given .1) ((c .with2) .ensures)
 
 returns-3 : tie.Need-returns-3
 unfolding sidesOf
-returns-3 c = rw (c .before .enum-told3 .given .1) (c .with3 .ensures)
+returns-3 c = rw ((c .before .enum-told3) .given .1) ((c .with3) .ensures)
 
 returns-4 : tie.Need-returns-4
 unfolding sidesOf
-returns-4 c = rw (c .before .enum-told4 .given .1) (c .with4 .ensures)
+returns-4 c = rw ((c .before .enum-told4) .given .1) ((c .with4) .ensures)
 
 returns-5 : tie.Need-returns-5
 unfolding sidesOf
-returns-5 c = rw (c .before .enum-told5 .given .1) (c .with5 .ensures)
+returns-5 c = rw ((c .before .enum-told5) .given .1) ((c .with5) .ensures)
 
 returns-6 : tie.Need-returns-6
 unfolding sidesOf
-returns-6 c = rw (c .before .enum-told6 .given .1) (c .with6 .ensures)
+returns-6 c = rw ((c .before .enum-told6) .given .1) ((c .with6) .ensures)
 
 returns-7 : tie.Need-returns-7
 unfolding sidesOf
-returns-7 c = rw (c .before .before .x .given .1) (c .with7 .ensures)
+returns-7 c = rw ((c .before .before .x) .given .1) ((c .with7) .ensures)
 
 returns-8 : tie.Need-returns-8
 unfolding sidesOf
-returns-8 c = rw (c .before .before .x2 .given .1) (c .with8 .ensures)
+returns-8 c = rw ((c .before .before .x2) .given .1) ((c .with8) .ensures)
 
 returns-9 : tie.Need-returns-9
 unfolding sidesOf
-returns-9 c = rw (c .before .before .x3 .given .1) (c .with9 .ensures)
+returns-9 c = rw ((c .before .before .x3) .given .1) ((c .with9) .ensures)
 
 returns-10 : tie.Need-returns-10
 unfolding sidesOf
-returns-10 c = rw (c .before .before .x4 .given .1) (c .with10 .ensures)
+returns-10 c = rw ((c .before .before .x4) .given .1) ((c .with10) .ensures)
 
 returns-11 : tie.Need-returns-11
 unfolding sidesOf
-returns-11 c = rw (c .before .enum-told7 .given .1) (c .with11 .ensures)
+returns-11 c = rw ((c .before .enum-told7) .given .1) ((c .with11) .ensures)
 
 returns-12 : tie.Need-returns-12
 unfolding sidesOf
-returns-12 c = rw (c .before .enum-told8 .given .1) (c .with12 .ensures)
+returns-12 c = rw ((c .before .enum-told8) .given .1) ((c .with12) .ensures)
 
 returns-13 : tie.Need-returns-13
 unfolding sidesOf
-returns-13 c = rw (c .before .enum-told9 .given .1) (c .with13 .ensures)
+returns-13 c = rw ((c .before .enum-told9) .given .1) ((c .with13) .ensures)
 
 pub beside-spec : {M : Type 1} → statement M
 beside-spec =

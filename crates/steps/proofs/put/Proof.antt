@@ -75,7 +75,7 @@ same-length : tie.Need-same-length
 same-length c = search needs
 
 returns : tie.Need-returns
-returns c = let z = c .args .e .bits in put-is (c .args .log .now) (c .args .at) (c .args .task) (c .args .proc) (c .args .node) (c .args .e .flag) (z % 256) (z / 256 % 256) (z / 65536 % 256) (z / 16777216 % 256)
+returns c = let z = (c .args) .bits in put-is ((c .args) .log .now) ((c .args) .at) ((c .args) .task) ((c .args) .proc) ((c .args) .node) ((c .args) .flag) (z % 256) (z / 256 % 256) (z / 65536 % 256) (z / 16777216 % 256)
 
 pub put-spec : {M : Type 1} → statement M
 put-spec =

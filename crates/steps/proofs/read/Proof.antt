@@ -10,12 +10,15 @@ use mir.Val.{ofZ}
 use borrow.Author.Tests.{le-leb, lt-leb, lt-ltb, le-ltb, eq-eqb, ne-eqb}
 use Rattle.table.specs.Mask.{pick, members, membersFrom}
 use Rattle.steps.specs.Cut.{goesTo, haltsAt, actOf, sidesOf, stuckOf, shownOf, showing}
-use Rattle.steps.proofs.Leaves.{again, twice, holds-no, holds-yes, bit-here, bit-past, bit-off, bit-none, toss-spent, toss-none, toss-goes, entering-is, shift-is, put-is, queue-sends, queue-takes, queue-stays}
+use Rattle.steps.proofs.Leaves.{again, twice, holds-no, holds-yes, bit-here, bit-past, bit-off, bit-none, toss-spent, toss-none, toss-goes, entering-is, popped-is, put-is, queue-sends, queue-takes, queue-stays}
 use Rattle.steps.proofs.read.Statement.{statement}
 use Rattle.steps.proofs.read.Tie as tie
 
+halts-requires : tie.Need-halts-requires
+halts-requires c κs = search needs
+
 returns : tie.Need-returns
-returns c = rw (le-leb (length (c .before .args .values .now)) (c .before .args .used) (c .if1 .taken)) refl
+returns c = (c .halts) .ensures ∙ rw (le-leb (length ((c .before .before .args) .values .now)) ((c .before .before .args) .used) ((c .before .if1) .taken)) refl
 
 mul-goes : tie.Need-mul-goes
 mul-goes c = search needs
@@ -30,9 +33,16 @@ goes-requires : tie.Need-goes-requires
 goes-requires c κs = search needs
 
 returns-2 : tie.Need-returns-2
-returns-2 c = c .goes .ensures ∙ ap (λ (z : ℤ). goesTo (c .before .before .before .args .var) z (c .before .before .before .args .used + 1) (c .before .before .before .args .to) (c .before .before .before .args .count)) (again (getD (c .before .before .before .args .values .now) (c .before .before .before .args .used) (pos 0)) (record { sfits = c .before .goes-arg .given })) ∙ rw (lt-leb (length (c .before .before .before .args .values .now)) (c .before .before .before .args .used) (c .before .before .if1 .left)) refl
+returns-2 c = (c .goes) .ensures ∙ ap (λ (z : ℤ). goesTo ((c .before .before .before .args) .var) z ((c .before .before .before .args) .used + 1) ((c .before .before .before .args) .to) ((c .before .before .before .args) .count)) (again (getD ((c .before .before .before .args) .values .now) ((c .before .before .before .args) .used) (pos 0)) (record { sfits = (c .before .goes-arg) .given })) ∙ rw (lt-leb (length ((c .before .before .before .args) .values .now)) ((c .before .before .before .args) .used) ((c .before .before .if1) .left)) refl
 
 pub read-spec : {M : Type 1} → statement M
 read-spec =
     tie.close
-    (tie.spec returns mul-goes shared-slice-copy-out-goes add-goes goes-requires returns-2)
+    (tie.spec
+    halts-requires
+    returns
+    mul-goes
+    shared-slice-copy-out-goes
+    add-goes
+    goes-requires
+    returns-2)

@@ -1,0 +1,30 @@
+use borrow.Author.Needs.{needs}
+use native.Mathlib.Omega.{arith}
+use mathlib.Core.Path.{_≡_, refl, sym, ap, _∙_}
+use Prim.Native.Nat.{ℕ, suc, _+_, _-_, _*_, _/_, _%_, _^_, _≤_, _<_}
+use lib.ListN.{length, getD, set, length-set, List·getD-eq-default}
+use lib.Seq.{set-out}
+use lib.IntN.{ℤ, pos}
+use mir.Syntax.{w32}
+use mir.Val.{ofZ}
+use borrow.Author.Tests.{le-leb, lt-leb, lt-ltb, le-ltb, eq-eqb, ne-eqb}
+use Rattle.table.specs.Mask.{pick, members, membersFrom}
+use Rattle.steps.specs.Cut.{goesTo, haltsAt, actOf, sidesOf, stuckOf, shownOf, showing}
+use Rattle.steps.proofs.Leaves.{again, twice, holds-no, holds-yes, bit-here, bit-past, bit-off, bit-none, toss-spent, toss-none, toss-goes, entering-is, popped-is, put-is, queue-sends, queue-takes, queue-stays}
+use Rattle.steps.proofs.receive.Statement.{statement}
+use Rattle.steps.proofs.receive.Tie as tie
+
+halts-requires : tie.Need-halts-requires
+halts-requires c κs = search needs
+
+returns : tie.Need-returns
+returns c = (c .halts) .ensures ∙ rw (eq-eqb ((c .before .before .args) .len) 0 ((c .before .if1) .taken)) refl
+
+goes-requires : tie.Need-goes-requires
+goes-requires c κs = search needs
+
+returns-2 : tie.Need-returns-2
+returns-2 c = (c .goes) .ensures ∙ ap (λ (z : ℤ). goesTo ((c .before .before .args) .var) z ((c .before .before .args) .used) ((c .before .before .args) .to) ((c .before .before .args) .count)) (again ((c .before .before .args) .x) ((c .before .before .fits) .x)) ∙ rw (ne-eqb ((c .before .before .args) .len) 0 ((c .before .if1) .left)) refl
+
+pub receive-spec : {M : Type 1} → statement M
+receive-spec = tie.close (tie.spec halts-requires returns goes-requires returns-2)
