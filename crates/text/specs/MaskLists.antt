@@ -107,7 +107,7 @@ mask-same zero f g h = refl
 mask-same (suc n) f g h = rw (mask-same n f g (λ i l. h i (omega arith)), h n (omega arith))
 
 -- the first n bits of m make m, up to multiples of 2^n
-mask-bits : (n m : ℕ) → maskOf n (λ i. bit i m) ≡ m % 2 ^ n
+pub mask-bits : (n m : ℕ) → maskOf n (λ i. bit i m) ≡ m % 2 ^ n
 unfolding maskOf bit
 mask-bits zero m = omega arith
 mask-bits (suc n) m =

@@ -38,14 +38,14 @@ or-is : (a b : Bool) → (not a || b ≡ true) ↔ (a ≡ true → b ≡ true)
 or-is true b = (λ e o. e, λ f. f refl)
 or-is false b = (λ e o. no (cc), λ f. refl)
 
-below-all : (n : ℕ) (f : ℕ → Bool) → allBelow n f ≡ true → (i : ℕ) → i < n → f i ≡ true
+pub below-all : (n : ℕ) (f : ℕ → Bool) → allBelow n f ≡ true → (i : ℕ) → i < n → f i ≡ true
 unfolding allBelow
 below-all zero f e i l = absurd (omega arith)
 below-all (suc n) f e i l = cases (eqb i n)
     (λ q. rw (eqb-true i n q) (and-left (f n) (allBelow n f) e))
     (λ q. below-all n f (and-right (f n) (allBelow n f) e) i (omega (arith, eqb-false i n q)))
 
-all-below : (n : ℕ) (f : ℕ → Bool) → ((i : ℕ) → i < n → f i ≡ true) → allBelow n f ≡ true
+pub all-below : (n : ℕ) (f : ℕ → Bool) → ((i : ℕ) → i < n → f i ≡ true) → allBelow n f ≡ true
 unfolding allBelow
 all-below zero f h = refl
 all-below (suc n) f h = rw (h n (omega arith)) (all-below n f (λ i l. h i (omega arith)))
@@ -53,13 +53,13 @@ all-below (suc n) f h = rw (h n (omega arith)) (all-below n f (λ i l. h i (omeg
 pub absent-is : (x : Node) → isAbsent x ≡ true → x ≡ Absent
 absent-is x e = by-line (record { closed = false; procs = 0; sems = 0; queues = 0; vars = 0; nodes = 0 }) x (λ a b. a) (λ k w a b. no (cc))
 
-present-all : (q : Proc) (ms : List ℕ) → allPresent q ms ≡ true → (m : ℕ) → List·Memᴰ m ms → isAbsent (nodeIn q m) ≡ false
+pub present-all : (q : Proc) (ms : List ℕ) → allPresent q ms ≡ true → (m : ℕ) → List·Memᴰ m ms → isAbsent (nodeIn q m) ≡ false
 unfolding allPresent
 present-all q [] e m d = absurd (List·Memᴰ·not-nil d)
 present-all q (x ∷ xs) e m (List·Memᴰ·head p) = rw p (not-true (isAbsent (nodeIn q x)) (and-left (not (isAbsent (nodeIn q x))) (allPresent q xs) e))
 present-all q (x ∷ xs) e m (List·Memᴰ·tail d) = present-all q xs (and-right (not (isAbsent (nodeIn q x))) (allPresent q xs) e) m d
 
-all-present : (q : Proc) (ms : List ℕ) → ((m : ℕ) → List·Memᴰ m ms → isAbsent (nodeIn q m) ≡ false) → allPresent q ms ≡ true
+pub all-present : (q : Proc) (ms : List ℕ) → ((m : ℕ) → List·Memᴰ m ms → isAbsent (nodeIn q m) ≡ false) → allPresent q ms ≡ true
 unfolding allPresent
 all-present q [] f = refl
 all-present q (x ∷ xs) f = rw (f x (List·Memᴰ·head refl)) (all-present q xs (λ m d. f m (List·Memᴰ·tail d)))

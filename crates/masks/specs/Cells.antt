@@ -1,0 +1,259 @@
+-- A list of masks that only grows, and sweeps over it until nothing is new.
+use Prim.Native.Nat.{ℕ, zero, suc, _+_, _-_, _*_, _<_, _≤_, _^_}
+use native.Mathlib.Omega.{arith}
+use native.Mathlib.Numerals.{add-one}
+use mathlib.Core.Path.{_≡_, refl, sym, _∙_, ap, ap₂, subst}
+use mathlib.Core.Bool.{Bool, true, false, not, _||_, false≢true, true≢false}
+use mathlib.Core.Logic.{_⊎_, inl, inr, _≢_}
+use mathlib.Core.List.{List, [], _∷_}
+use lib.ListN.{length, getD, set, replicate, length-set, List·getD-eq-default}
+use lib.Seq.{getD-set-same, getD-set-other, set-out, set-getD}
+use lib.Bits.{bitOr, or-lt}
+use lib.Pow.{pow-pos}
+use lib.Dec.{eqb, ltb}
+use borrow.Author.Tests.{eqb-true, eqb-false, ltb-true, ltb-false, not-true, not-false}
+use Rattle.table.specs.Mask.{bit}
+use Rattle.masks.specs.Bits.{bit-zero, le-or, bit-or-out, bit-or-l, bit-or-r}
+
+abbrev pub cell : List ℕ → ℕ → ℕ
+cell l a = getD l a 0
+
+unfoldable pub sum : List ℕ → ℕ
+sum [] = 0
+sum (x ∷ l) = x + sum l
+
+-- the cell a with the mask m added
+unfoldable pub grown : List ℕ → ℕ → ℕ → List ℕ
+grown l a m = set l a (bitOr (cell l a) m)
+
+sum-set : (l : List ℕ) (a v : ℕ) → a < length l → sum (set l a v) + cell l a ≡ sum l + v
+unfolding sum
+sum-set [] a v h = absurd (omega arith)
+sum-set (x ∷ l) zero v h = omega arith
+sum-set (x ∷ l) (suc a) v h = omega (arith, sum-set l a v (omega arith))
+
+pub sum-bound : (n : ℕ) (l : List ℕ) → ((a : ℕ) → cell l a < n) → sum l ≤ length l * n
+unfolding sum
+sum-bound n [] h = omega arith
+sum-bound n (x ∷ l) h = rw native.Mathlib.Nat.suc-mul (omega (arith, h 0, sum-bound n l (λ a. h (suc a))))
+
+-- l′ has at least l's masks; the sum of the numbers tells whether it has more
+pub record Grows (l l′ : List ℕ) : Type 0 where
+  pub same-size : length l′ ≡ length l
+  pub up : sum l ≤ sum l′
+  pub stays : sum l′ ≡ sum l → l′ ≡ l
+
+pub grows-refl : (l : List ℕ) → Grows l l
+grows-refl l = record { same-size = refl; up = omega arith; stays = λ e. refl }
+
+pub grows-trans : {l m n : List ℕ} → Grows l m → Grows m n → Grows l n
+grows-trans {l} {m} {n} f g = record {
+  same-size = g .same-size ∙ f .same-size;
+  up = omega (arith, f .up, g .up);
+  stays = λ e. g .stays (omega (arith, f .up, g .up)) ∙ f .stays (omega (arith, f .up, g .up));
+}
+
+pub grown-grows : (l : List ℕ) (a m : ℕ) → Grows l (grown l a m)
+unfolding grown
+grown-grows l a m = go (ltb a (length l)) refl
+  where
+    go : (b : Bool) → ltb a (length l) ≡ b → Grows l (set l a (bitOr (cell l a) m))
+    go true e =
+        let h = sum-set l a (bitOr (cell l a) m) (ltb-true _ _ e) in
+        record {
+          same-size = length-set l a _;
+          up = omega (arith, h, le-or (cell l a) m);
+          stays = λ s. let z : bitOr (cell l a) m ≡ cell l a = omega (arith, h) in ap (set l a) z ∙ set-getD l a 0;
+        }
+    go false e = rw (set-out l a (bitOr (cell l a) m) (ltb-false _ _ e)) (grows-refl l)
+
+-- a flag that says whether something was new
+pub record Flag (l l′ : List ℕ) (new : Bool) : Type 0 where
+  pub grows : Grows l l′
+  pub more : new ≡ true → sum l < sum l′
+  pub same : new ≡ false → l′ ≡ l
+
+pub flag-refl : (l : List ℕ) → Flag l l false
+flag-refl l = record { grows = grows-refl l; more = λ e. absurd (false≢true e); same = λ e. refl }
+
+-- the flag as code computes it
+pub grown-flag : (l : List ℕ) (a m : ℕ) → a < length l → Flag l (grown l a m) (not (eqb (bitOr (cell l a) m) (cell l a)))
+unfolding grown
+grown-flag l a m i = record { grows = grown-grows l a m; more = more; same = same }
+  where
+    old : ℕ
+    old = cell l a
+
+    new : ℕ
+    new = bitOr (cell l a) m
+
+    more : not (eqb new old) ≡ true → sum l < sum (set l a new)
+    more e = omega (arith, sum-set l a new i, le-or old m, eqb-false new old (not-true _ e))
+
+    same : not (eqb new old) ≡ false → set l a new ≡ l
+    same e = ap (set l a) (eqb-true new old (not-false _ e)) ∙ set-getD l a 0
+
+-- two steps, one after the other: the flag is set, or stays
+pub flag-set : {l m n : List ℕ} {f r g : Bool} → Flag l m f → Flag m n r → r ≡ true → g ≡ true → Flag l n g
+flag-set {l} {m} {n} p q e d = record { grows = grows-trans (p .grows) (q .grows); more = λ z. omega (arith, p .grows .up, q .more e); same = λ z. absurd (true≢false (sym d ∙ z)) }
+
+pub flag-keep : {l m n : List ℕ} {f r g : Bool} → Flag l m f → Flag m n r → r ≡ false → g ≡ f → Flag l n g
+flag-keep {l} {m} {n} p q e d = record { grows = grows-trans (p .grows) (q .grows); more = λ z. omega (arith, p .more (sym d ∙ z), q .grows .up); same = λ z. q .same e ∙ p .same (sym d ∙ z) }
+
+pub flag-or : {l m n : List ℕ} (f g : Bool) → Flag l m f → Flag m n g → Flag l n (f || g)
+flag-or {l} {m} {n} true true p q = flag-set p q refl refl
+flag-or {l} {m} {n} true false p q = flag-keep p q refl refl
+flag-or {l} {m} {n} false true p q = flag-set p q refl refl
+flag-or {l} {m} {n} false false p q = flag-keep p q refl refl
+
+-- what every mask of the list has
+unfoldable pub Sound : (ℕ → ℕ → Type 0) → List ℕ → Type 0
+Sound D l = (a k : ℕ) → bit k (cell l a) ≡ true → D a k
+
+pub grown-sound : (D : ℕ → ℕ → Type 0) (l : List ℕ) (a m : ℕ) → Sound D l → ((k : ℕ) → bit k m ≡ true → D a k) → Sound D (grown l a m)
+unfolding Sound grown
+grown-sound D l a m s f b k h = go (eqb b a) refl (ltb a (length l)) refl
+  where
+    pickOr : (bit k (cell l a) ≡ true) ⊎ (bit k m ≡ true) → D a k
+    pickOr (inl x) = s a k x
+    pickOr (inr x) = f k x
+
+    go : (e : Bool) → eqb b a ≡ e → (i : Bool) → ltb a (length l) ≡ i → D b k
+    go true e true i =
+        let z : b ≡ a = eqb-true b a e in
+        rw z (pickOr (bit-or-out k (cell l a) m (rw (z, getD-set-same l a (bitOr (cell l a) m) 0 (ltb-true _ _ i)) at h)))
+    go true e false i = s b k (rw (set-out l a (bitOr (cell l a) m) (ltb-false _ _ i)) at h)
+    go false e i j = s b k (rw (getD-set-other l a b (bitOr (cell l a) m) 0 (eqb-false b a e)) at h)
+
+pub grown-has : (l : List ℕ) (a m b k : ℕ) → bit k (cell l b) ≡ true → bit k (cell (grown l a m) b) ≡ true
+unfolding grown
+grown-has l a m b k h = go (eqb b a) refl (ltb a (length l)) refl
+  where
+    go : (e : Bool) → eqb b a ≡ e → (i : Bool) → ltb a (length l) ≡ i → bit k (cell (set l a (bitOr (cell l a) m)) b) ≡ true
+    go true e true i =
+        let z : b ≡ a = eqb-true b a e in
+        rw (z, getD-set-same l a (bitOr (cell l a) m) 0 (ltb-true _ _ i)) (bit-or-l k (cell l a) m (rw z at h))
+    go true e false i = rw (set-out l a (bitOr (cell l a) m) (ltb-false _ _ i)) h
+    go false e i j = rw (getD-set-other l a b (bitOr (cell l a) m) 0 (eqb-false b a e)) h
+
+pub grown-adds : (l : List ℕ) (a m k : ℕ) → a < length l → bit k m ≡ true → bit k (cell (grown l a m) a) ≡ true
+unfolding grown
+grown-adds l a m k i h = rw (getD-set-same l a (bitOr (cell l a) m) 0 i) (bit-or-r k (cell l a) m h)
+
+-- nothing new: the cell has the whole mask
+pub grown-same : (l : List ℕ) (a m k : ℕ) → a < length l → grown l a m ≡ l → bit k m ≡ true → bit k (cell l a) ≡ true
+unfolding grown
+grown-same l a m k i e h =
+    let z : bitOr (cell l a) m ≡ cell l a = sym (getD-set-same l a (bitOr (cell l a) m) 0 i) ∙ ap (λ (x : List ℕ). getD x a 0) e in
+    rw z at (bit-or-r k (cell l a) m h)
+
+-- n masks below 2 ^ w
+pub record Masks (n w : ℕ) (l : List ℕ) : Type 0 where
+  pub size : length l ≡ n
+  pub below : (a : ℕ) → cell l a < 2 ^ w
+
+-- the first n elements are f's
+abbrev pub Filled : (ℕ → ℕ) → ℕ → List ℕ → Type 0
+Filled f n l = (a : ℕ) → a < n → getD l a 0 ≡ f a
+
+pub filled-more : (f : ℕ → ℕ) (n v : ℕ) (l : List ℕ) → n < length l → v ≡ f n → Filled f n l → Filled f (n + 1) (set l n v)
+filled-more f n v l i e h a b = go (eqb a n) refl
+  where
+    go : (x : Bool) → eqb a n ≡ x → getD (set l n v) a 0 ≡ f a
+    go true q = let z : a ≡ n = eqb-true a n q in rw (z, getD-set-same l n v 0 i) e
+    go false q = getD-set-other l n a v 0 (eqb-false a n q) ∙ h a (omega (arith, eqb-false a n q))
+
+pub filled-masks : (f : ℕ → ℕ) (n w : ℕ) (l : List ℕ) → length l ≡ n → Filled f n l → ((a : ℕ) → a < n → f a < 2 ^ w) → Masks n w l
+filled-masks f n w l e h b = record { size = e; below = λ a. go a (ltb a n) refl }
+  where
+    go : (a : ℕ) (x : Bool) → ltb a n ≡ x → getD l a 0 < 2 ^ w
+    go a true q = rw (h a (ltb-true a n q)) (b a (ltb-true a n q))
+    go a false q = rw (List·getD-eq-default l 0 {n = a} (omega (arith, e, ltb-false a n q))) (pow-pos w)
+
+pub grown-masks : {n w : ℕ} {l : List ℕ} (a m : ℕ) → Masks n w l → m < 2 ^ w → Masks n w (grown l a m)
+unfolding grown
+grown-masks {n} {w} {l} a m h i = record { size = length-set l a _ ∙ h .size; below = low }
+  where
+    go : (b : ℕ) (e : Bool) → eqb b a ≡ e → (f : Bool) → ltb a (length l) ≡ f → cell (set l a (bitOr (cell l a) m)) b < 2 ^ w
+    go b true e true f = let z : b ≡ a = eqb-true b a e in rw (z, getD-set-same l a (bitOr (cell l a) m) 0 (ltb-true _ _ f)) (or-lt w (cell l a) m (h .below a) i)
+    go b true e false f = rw (set-out l a (bitOr (cell l a) m) (ltb-false _ _ f)) (h .below b)
+    go b false e f g = rw (getD-set-other l a b (bitOr (cell l a) m) 0 (eqb-false b a e)) (h .below b)
+
+    low : (b : ℕ) → cell (set l a (bitOr (cell l a) m)) b < 2 ^ w
+    low b = go b (eqb b a) refl (ltb a (length l)) refl
+
+pub masks-sum : {n w : ℕ} {l : List ℕ} → Masks n w l → sum l ≤ n * 2 ^ w
+masks-sum {n} {w} {l} h = subst (λ (x : ℕ). sum l ≤ x * 2 ^ w) (h .size) (sum-bound (2 ^ w) l (h .below))
+
+-- a sweep: the step at each index in turn
+module _ (step : List ℕ → ℕ → List ℕ) where
+  unfoldable pub sweep : ℕ → List ℕ → List ℕ
+  sweep zero l = l
+  sweep (suc n) l = step (sweep n l) n
+
+  pub sweep-more : {l l′ : List ℕ} (l₀ : List ℕ) (i : ℕ) → l ≡ sweep i l₀ → l′ ≡ step l i → l′ ≡ sweep (i + 1) l₀
+  unfolding sweep
+  sweep-more l₀ i p q = rw add-one (q ∙ ap (λ (x : List ℕ). step x i) p)
+
+  pub sweep-sound : (P : List ℕ → Type 0) → ((l : List ℕ) (i : ℕ) → P l → P (step l i)) → (n : ℕ) (l : List ℕ) → P l → P (sweep n l)
+  unfolding sweep
+  sweep-sound P f zero l p = p
+  sweep-sound P f (suc n) l p = f (sweep n l) n (sweep-sound P f n l p)
+
+  pub sweep-below : (P : List ℕ → Type 0) (b : ℕ) → ((l : List ℕ) (i : ℕ) → i < b → P l → P (step l i)) → (n : ℕ) → n ≤ b → (l : List ℕ) → P l → P (sweep n l)
+  unfolding sweep
+  sweep-below P b f zero h l p = p
+  sweep-below P b f (suc n) h l p = f (sweep n l) n (omega arith) (sweep-below P b f n (omega arith) l p)
+
+  module _ (grows : (l : List ℕ) (i : ℕ) → Grows l (step l i)) where
+    pub sweep-grows : (n : ℕ) (l : List ℕ) → Grows l (sweep n l)
+    unfolding sweep
+    sweep-grows zero l = grows-refl l
+    sweep-grows (suc n) l = grows-trans (sweep-grows n l) (grows (sweep n l) n)
+
+    -- a sweep that finds nothing new finds nothing new at any index
+    pub sweep-fixed : (n : ℕ) (l : List ℕ) → sweep n l ≡ l → (i : ℕ) → i < n → step l i ≡ l
+    unfolding sweep
+    sweep-fixed zero l e i h = absurd (omega arith)
+    sweep-fixed (suc n) l e i h =
+        let g = sweep-grows n l in
+        let s = ap sum e in
+        let k = grows (sweep n l) n in
+        let z : sweep n l ≡ l = g .stays (omega (arith, g .up, k .up, s)) in
+        go z (eqb i n) refl (sweep-fixed n l z i)
+      where
+        go : sweep n l ≡ l → (b : Bool) → eqb i n ≡ b → (i < n → step l i ≡ l) → step l i ≡ l
+        go z true q f = let w : i ≡ n = eqb-true i n q in rw w (ap (λ (x : List ℕ). step x n) (sym z) ∙ e)
+        go z false q f = f (omega (arith, eqb-false i n q))
+
+pub cell-zeros : (n a : ℕ) → cell (replicate n 0) a ≡ 0
+cell-zeros zero a = refl
+cell-zeros (suc n) zero = refl
+cell-zeros (suc n) (suc a) = cell-zeros n a
+
+-- the list of f's values
+module _ {A : Type 0} where
+  unfoldable pub tabulate : ℕ → (ℕ → A) → List A
+  tabulate zero f = []
+  tabulate (suc n) f = f 0 ∷ tabulate n (λ k. f (suc k))
+
+  pub tabulated : (d : A) (f : ℕ → A) (n : ℕ) (l : List A) → length l ≡ n → ((a : ℕ) → a < n → getD l a d ≡ f a) → l ≡ tabulate n f
+  unfolding tabulate
+  tabulated d f zero [] e h = refl
+  tabulated d f zero (x ∷ l) e h = absurd (omega arith)
+  tabulated d f (suc n) [] e h = absurd (omega arith)
+  tabulated d f (suc n) (x ∷ l) e h = ap₂ (λ (y : A) (m : List A). y ∷ m) (h 0 (omega arith)) (tabulated d (λ k. f (suc k)) n l (omega arith) (λ a b. h (suc a) (omega arith)))
+
+  pub set-more : (d : A) (f : ℕ → A) (n : ℕ) (v : A) (l : List A) → n < length l → v ≡ f n → ((a : ℕ) → a < n → getD l a d ≡ f a) → (a : ℕ) → a < n + 1 → getD (set l n v) a d ≡ f a
+  set-more d f n v l i e h a b = go (eqb a n) refl
+    where
+      go : (x : Bool) → eqb a n ≡ x → getD (set l n v) a d ≡ f a
+      go true q = let z : a ≡ n = eqb-true a n q in rw (z, getD-set-same l n v d i) e
+      go false q = getD-set-other l n a v d (eqb-false a n q) ∙ h a (omega (arith, eqb-false a n q))
+
+  pub set-each : (d : A) (P : ℕ → A → Type 0) (n : ℕ) (v : A) (l : List A) → n < length l → P n v → ((a : ℕ) → a < n → P a (getD l a d)) → (a : ℕ) → a < n + 1 → P a (getD (set l n v) a d)
+  set-each d P n v l i e h a b = go (eqb a n) refl
+    where
+      go : (x : Bool) → eqb a n ≡ x → P a (getD (set l n v) a d)
+      go true q = let z : a ≡ n = eqb-true a n q in rw (z, getD-set-same l n v d i) e
+      go false q = rw (getD-set-other l n a v d (eqb-false a n q)) (h a (omega (arith, eqb-false a n q)))
