@@ -7,6 +7,8 @@ use mathlib.Core.Bool.{Bool, true, false, not, _||_}
 use lib.Dec.{eqb, ltb}
 use lib.Count.{ones}
 use native.Mathlib.Omega.{arith}
+use native.Mathlib.Nat.{lt-of-lt-of-le}
+use lib.Pow.{pow-mono}
 use lib.IntN.{ℤ, pos, negsuc}
 use borrow.Author.Tests.{lt-ltb, le-ltb, le-leb, lt-leb, eq-eqb, ne-eqb, not-true, not-false}
 use mir.Syntax.{w32}
@@ -15,6 +17,7 @@ use Rattle.table.specs.Mask.{members}
 use Rattle.table.specs.Table.{removed}
 use Rattle.table.specs.declared.Operand.the-variants.{Var, Const}
 use Rattle.text.specs.Fault.{number}
+use Rattle.text.specs.NumberLaws.{byOrder}
 use Rattle.text.specs.Value.{check, from, oneOf, operand, variable, ascending, arguments, within, isOne, noneRemoved, allDeclared}
 use Rattle.text.specs.Format.{nameOf}
 use Rattle.text.specs.MaskLists.{members-ascends}
@@ -34,6 +37,12 @@ range-in lo v hi l u = rw (le-leb lo v l, lt-ltb v (hi + 1) (omega arith))
 pub range-above : (lo v hi : ℕ) → lo ≤ v → hi < v → 3 ≡ numbered (check (from lo hi) v)
 unfolding check number
 range-above lo v hi l u = rw (le-leb lo v l, le-ltb v (hi + 1) (omega arith))
+
+pub range-out : (lo v hi : ℕ) → numbered (check (from lo hi) v) ≡ 0 → (lo ≤ v) × (v ≤ hi)
+range-out lo v hi e = (
+  byOrder v lo (λ l. absurd (omega (arith, range-below lo v hi l))) (λ l. l),
+  byOrder hi v (λ u. byOrder v lo (λ l. absurd (omega (arith, range-below lo v hi l))) (λ l. absurd (omega (arith, range-above lo v hi l u)))) (λ u. u),
+)
 
 -- ---- a reference to one of n
 
@@ -100,6 +109,9 @@ dropped-in n m h l = list-in false 0 n m true true refl refl (sym (within-is 0 n
 
 pub dropped-out : (n m : ℕ) → m < 256 → 2 ^ n ≤ m → 5 ≡ numbered (check (ascending false 0 n) (members m))
 dropped-out n m h l = list-out false 0 n m true false refl refl (sym (within-is 0 n m (omega arith) (omega arith) ∙ rw (eq-eqb (m % 2 ^ 0) 0 (omega arith)) (le-ltb m (2 ^ n) l))) refl
+
+pub dropped-all : (n m : ℕ) → m < 256 → 8 ≤ n → 0 ≡ numbered (check (ascending false 0 n) (members m))
+dropped-all n m h l = dropped-in n m h (lt-of-lt-of-le h (pow-mono l))
 
 -- ---- arguments
 

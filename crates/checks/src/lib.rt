@@ -8,6 +8,7 @@ ghost use mathlib.Core.Path.{_≡_};
 ghost use mathlib.Core.Bool.{true, false, not, _&&_, _||_};
 ghost use Prim.Native.Nat.{ℕ, _≤_, _<_, _+_};
 ghost use Rattle.table.specs.Mask.{members};
+ghost use Rattle.table.specs.Table.{isAbsent};
 ghost use Rattle.text.specs.Value.{check, from, oneOf, operation, operand as operandOf, variable as variableOf, ascending, arguments as argumentsOf, within, isOne, noneRemoved, allDeclared};
 ghost use Rattle.text.specs.Format.{nameOf, argNames};
 ghost use Rattle.text.specs.Structure.{numbered};
@@ -145,9 +146,11 @@ pub fn targets(closed: bool, nodes: u8, m: u32) -> u8
 
 // The parameters that are dropped, of so many.
 pub fn dropped(params: u8, m: u8) -> u8
-    requires { ⌜ params ≤ 4 ⌝ }
     ensures { λ r. ⌜ r ≡ numbered (check (ascending false 0 params) (members m)) ⌝ }
 {
+    if 8 <= params {
+        return 0;
+    }
     if (m as u32) < (1u32 << (params as u32)) {
         0
     } else {
@@ -373,5 +376,49 @@ pub fn node(x: Node, j: usize, c: Limits) -> u8
         Node::Assert { var, to } => var_line(j, var, to, c),
         Node::Out { var, to } => var_line(j, var, to, c),
         Node::Return => behind(j),
+    }
+}
+
+pub fn absent(x: Node) -> bool
+    ensures { λ r. ⌜ r ≡ isAbsent x ⌝ }
+{
+    match x {
+        Node::Absent => true,
+        Node::Start { to: _ } => false,
+        Node::Set {
+            var: _,
+            op: _,
+            a: _,
+            b: _,
+            to: _,
+        } => false,
+        Node::Test {
+            op: _,
+            a: _,
+            b: _,
+            yes: _,
+            no: _,
+        } => false,
+        Node::Read { var: _, to: _ } => false,
+        Node::Call {
+            callee: _,
+            args: _,
+            to: _,
+        } => false,
+        Node::Wait { sem: _, to: _ } => false,
+        Node::Signal { sem: _, to: _ } => false,
+        Node::Send {
+            queue: _,
+            var: _,
+            to: _,
+        } => false,
+        Node::Recv {
+            queue: _,
+            var: _,
+            to: _,
+        } => false,
+        Node::Assert { var: _, to: _ } => false,
+        Node::Out { var: _, to: _ } => false,
+        Node::Return => false,
     }
 }
