@@ -177,7 +177,7 @@ fn both(a: bool, b: bool) -> bool
 }
 
 // Place k of a call with so many arguments is used and removed.
-fn removed_at(len: u8, k: u8, v: u8) -> bool
+pub fn removed_at(len: u8, k: u8, v: u8) -> bool
     ensures { λ r. ⌜ r ≡ removedAt len k v ⌝ }
 {
     if k < len {
