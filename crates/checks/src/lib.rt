@@ -167,7 +167,7 @@ fn either(a: bool, b: bool) -> bool
     b
 }
 
-fn both(a: bool, b: bool) -> bool
+pub fn both(a: bool, b: bool) -> bool
     ensures { λ r. ⌜ r ≡ (a && b) ⌝ }
 {
     if a {
