@@ -101,13 +101,13 @@ members-set lo xs a w = from-list 32 32 0 (setOf xs) refl xs (rising-down 32 lo 
 
 -- ---- the mask of a mask's members
 
-mask-same : (n : ℕ) (f g : ℕ → Bool) → ((i : ℕ) → i < n → f i ≡ g i) → maskOf n f ≡ maskOf n g
+pub mask-same : (n : ℕ) (f g : ℕ → Bool) → ((i : ℕ) → i < n → f i ≡ g i) → maskOf n f ≡ maskOf n g
 unfolding maskOf
 mask-same zero f g h = refl
 mask-same (suc n) f g h = rw (mask-same n f g (λ i l. h i (omega arith)), h n (omega arith))
 
 -- the first n bits of m make m, up to multiples of 2^n
-mask-bits : (n m : ℕ) → maskOf n (λ i. bit i m) ≡ m % 2 ^ n
+pub mask-bits : (n m : ℕ) → maskOf n (λ i. bit i m) ≡ m % 2 ^ n
 unfolding maskOf bit
 mask-bits zero m = omega arith
 mask-bits (suc n) m =

@@ -92,13 +92,13 @@ variable-is c n (some v) = below-is v n _
 range-is : (lo v n : ℕ) → (leb lo v && ltb v n ≡ true) ↔ ((lo ≤ v) × (v < n))
 range-is lo v n = (λ e. (leb-true lo v (and-left (leb lo v) (ltb v n) e), ltb-true v n (and-right (leb lo v) (ltb v n) e)), λ h. rw (le-leb lo v (h .0)) (lt-ltb v n (h .1)))
 
-within-all : (lo n : ℕ) (xs : List ℕ) → within lo n xs ≡ true → Within lo n xs
+pub within-all : (lo n : ℕ) (xs : List ℕ) → within lo n xs ≡ true → Within lo n xs
 unfolding within
 within-all lo n [] e m d = absurd (List·Memᴰ·not-nil d)
 within-all lo n (x ∷ xs) e m (List·Memᴰ·head p) = rw p (range-is lo x n .0 (and-left (leb lo x && ltb x n) (within lo n xs) e))
 within-all lo n (x ∷ xs) e m (List·Memᴰ·tail d) = within-all lo n xs (and-right (leb lo x && ltb x n) (within lo n xs) e) m d
 
-all-within : (lo n : ℕ) (xs : List ℕ) → Within lo n xs → within lo n xs ≡ true
+pub all-within : (lo n : ℕ) (xs : List ℕ) → Within lo n xs → within lo n xs ≡ true
 unfolding within
 all-within lo n [] f = refl
 all-within lo n (x ∷ xs) f = rw (range-is lo x n .1 (f x (List·Memᴰ·head refl)), all-within lo n xs (λ m d. f m (List·Memᴰ·tail d)))

@@ -193,7 +193,7 @@ module _ (t r : Table) (s : Same t r) (v : Lined t) where
 -- ---- the fault
 
 -- the first late fault, or an unused place
-late-fault : (t r : Table) (l : ℕ) (fs : List (Option Fault)) → faultIn t (firstLate r l fs) ≡ numbered (orElse (firstIn fs) (unless (tidy t) Unused))
+pub late-fault : (t r : Table) (l : ℕ) (fs : List (Option Fault)) → faultIn t (firstLate r l fs) ≡ numbered (orElse (firstIn fs) (unless (tidy t) Unused))
 unfolding firstLate firstIn
 late-fault t r l [] = go (tidy t)
   where

@@ -53,13 +53,13 @@ all-below (suc n) f h = rw (h n (omega arith)) (all-below n f (λ i l. h i (omeg
 pub absent-is : (x : Node) → isAbsent x ≡ true → x ≡ Absent
 absent-is x e = by-line (record { closed = false; procs = 0; sems = 0; queues = 0; vars = 0; nodes = 0 }) x (λ a b. a) (λ k w a b. no (cc))
 
-present-all : (q : Proc) (ms : List ℕ) → allPresent q ms ≡ true → (m : ℕ) → List·Memᴰ m ms → isAbsent (nodeIn q m) ≡ false
+pub present-all : (q : Proc) (ms : List ℕ) → allPresent q ms ≡ true → (m : ℕ) → List·Memᴰ m ms → isAbsent (nodeIn q m) ≡ false
 unfolding allPresent
 present-all q [] e m d = absurd (List·Memᴰ·not-nil d)
 present-all q (x ∷ xs) e m (List·Memᴰ·head p) = rw p (not-true (isAbsent (nodeIn q x)) (and-left (not (isAbsent (nodeIn q x))) (allPresent q xs) e))
 present-all q (x ∷ xs) e m (List·Memᴰ·tail d) = present-all q xs (and-right (not (isAbsent (nodeIn q x))) (allPresent q xs) e) m d
 
-all-present : (q : Proc) (ms : List ℕ) → ((m : ℕ) → List·Memᴰ m ms → isAbsent (nodeIn q m) ≡ false) → allPresent q ms ≡ true
+pub all-present : (q : Proc) (ms : List ℕ) → ((m : ℕ) → List·Memᴰ m ms → isAbsent (nodeIn q m) ≡ false) → allPresent q ms ≡ true
 unfolding allPresent
 all-present q [] f = refl
 all-present q (x ∷ xs) f = rw (f x (List·Memᴰ·head refl)) (all-present q xs (λ m d. f m (List·Memᴰ·tail d)))

@@ -1,0 +1,14 @@
+use Rattle.checks.specs.ValueChecks.{listed-open}
+use native.Mathlib.Omega.{arith}
+use borrow.Author.Needs.{needs}
+use Rattle.checks.proofs.listed.Statement.{statement}
+use Rattle.checks.proofs.listed.Tie as tie
+
+returns : tie.Need-returns
+returns c = search needs
+
+returns-2 : tie.Need-returns-2
+returns-2 c = search (needs, listed-open)
+
+pub listed-spec : {M : Type 1} → statement M
+listed-spec = tie.close (tie.spec returns returns-2)

@@ -1,0 +1,45 @@
+use native.Mathlib.Omega.{arith}
+use borrow.Author.Needs.{needs}
+use Rattle.checks.proofs.set_line.Statement.{statement}
+use Rattle.checks.proofs.set_line.Tie as tie
+
+reference-requires : tie.Need-reference-requires
+reference-requires c κs = search needs
+
+operand-requires : tie.Need-operand-requires
+operand-requires c κs = search needs
+
+operand-requires-2 : tie.Need-operand-requires-2
+operand-requires-2 c κs = search needs
+
+leads-requires : tie.Need-leads-requires
+leads-requires c κs = search needs
+
+behind-requires : tie.Need-behind-requires
+behind-requires c κs = search needs
+
+first-requires : tie.Need-first-requires
+first-requires c κs = search needs
+
+first-requires-2 : tie.Need-first-requires-2
+first-requires-2 c κs = search needs
+
+first-requires-3 : tie.Need-first-requires-3
+first-requires-3 c κs = search needs
+
+returns : tie.Need-returns
+returns c = cc
+
+pub set-line-spec : {M : Type 1} → statement M
+set-line-spec =
+    tie.close
+    (tie.spec
+    reference-requires
+    operand-requires
+    operand-requires-2
+    leads-requires
+    behind-requires
+    first-requires
+    first-requires-2
+    first-requires-3
+    returns)

@@ -1,0 +1,23 @@
+use native.Mathlib.Omega.{arith}
+use borrow.Author.Needs.{needs}
+use Rattle.checks.proofs.var_line.Statement.{statement}
+use Rattle.checks.proofs.var_line.Tie as tie
+
+variable-requires : tie.Need-variable-requires
+variable-requires c κs = search needs
+
+leads-requires : tie.Need-leads-requires
+leads-requires c κs = search needs
+
+behind-requires : tie.Need-behind-requires
+behind-requires c κs = search needs
+
+first-requires : tie.Need-first-requires
+first-requires c κs = search needs
+
+returns : tie.Need-returns
+returns c = cc
+
+pub var-line-spec : {M : Type 1} → statement M
+var-line-spec =
+    tie.close (tie.spec variable-requires leads-requires behind-requires first-requires returns)

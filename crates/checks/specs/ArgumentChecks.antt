@@ -1,0 +1,131 @@
+-- A call's arguments by their places: the first four, and behind them variable 0.
+use Prim.Native.Nat.{ℕ, zero, suc, _-_, _≤_, _<_}
+use mathlib.Core.Path.{_≡_, refl, sym, _∙_, ap}
+use mathlib.Core.List.{List, [], _∷_, _++_, map}
+use mathlib.Core.Option.{Option, none, some}
+use mathlib.Core.Bool.{Bool, true, false, not, _&&_, _||_}
+use native.Mathlib.Omega.{arith}
+use lib.Dec.{ltb, eqb}
+use lib.ListN.{take, replicate}
+use borrow.Author.Tests.{lt-ltb, le-ltb, eq-eqb, ne-eqb}
+use Rattle.table.specs.Table.{removed}
+use Rattle.table.specs.declared.Args.{Args}
+use Rattle.text.specs.NumberLaws.{cases, byOrder}
+use Rattle.text.specs.Value.{noneRemoved, allDeclared}
+use Rattle.text.specs.Format.{nameOf, argNames}
+
+abbrev pub removedAt : ℕ → ℕ → ℕ → Bool
+removedAt len k v = ltb k len && eqb v removed
+
+abbrev pub declaredAt : ℕ → ℕ → ℕ → ℕ → Bool
+declaredAt n len k v = not (ltb k len) || (eqb v removed || ltb v n)
+
+-- ---- one argument and those behind it
+
+removed-first : (v : ℕ) (xs : List (Option ℕ)) → noneRemoved (nameOf v ∷ xs) ≡ not (eqb v removed) && noneRemoved xs
+unfolding noneRemoved
+removed-first v xs = cases (eqb v removed) (λ e. rw e) (λ e. rw e)
+
+declared-first : (n v : ℕ) (xs : List (Option ℕ)) → allDeclared n (nameOf v ∷ xs) ≡ (eqb v removed || ltb v n) && allDeclared n xs
+unfolding allDeclared
+declared-first n v xs = cases (eqb v removed) (λ e. rw e) (λ e. rw e)
+
+-- the places behind the fourth
+abbrev rest : ℕ → List (Option ℕ)
+rest l = map nameOf (take l (replicate l 0))
+
+rest-removed : (l : ℕ) → noneRemoved (rest l) ≡ true
+unfolding noneRemoved
+rest-removed zero = refl
+rest-removed (suc l) = rest-removed l
+
+rest-declared : (n l : ℕ) → allDeclared n (rest l) ≡ not (ltb 0 l) || ltb 0 n
+unfolding allDeclared
+rest-declared n zero = refl
+rest-declared n (suc l) = rw (lt-ltb 0 (suc l) (omega arith), rest-declared n l) (go (ltb 0 l) (ltb 0 n))
+  where
+    go : (a b : Bool) → b && (not a || b) ≡ b
+    go true true = refl
+    go true false = refl
+    go false true = refl
+    go false false = refl
+
+-- ---- all arguments
+
+abbrev names : ℕ → ℕ → ℕ → ℕ → ℕ → List (Option ℕ)
+names l a b c d = argNames (record { len = l; a0 = a; a1 = b; a2 = c; a3 = d })
+
+abbrev four : ℕ → ℕ → ℕ → ℕ → List (Option ℕ) → List (Option ℕ)
+four a b c d xs = nameOf a ∷ nameOf b ∷ nameOf c ∷ nameOf d ∷ xs
+
+names-four : (l a b c d : ℕ) → names (suc (suc (suc (suc l)))) a b c d ≡ four a b c d (rest l)
+names-four l a b c d = let e : suc (suc (suc (suc l))) - 4 ≡ l = omega arith in ap (λ (k : ℕ). four a b c d (map nameOf (take l (replicate k 0)))) e
+
+not-or : (a b : Bool) → not a && not b ≡ not (a || b)
+not-or true b = refl
+not-or false b = refl
+
+not-false : (a : Bool) → not a && true ≡ not (a || false)
+not-false true = refl
+not-false false = refl
+
+or-false : (a : Bool) → a || false ≡ a
+or-false true = refl
+or-false false = refl
+
+and-true : (a : Bool) → a && true ≡ a
+and-true true = refl
+and-true false = refl
+
+some-removed : (l a b c d : ℕ) → noneRemoved (names l a b c d) ≡ not (removedAt l 0 a || (removedAt l 1 b || (removedAt l 2 c || removedAt l 3 d)))
+unfolding noneRemoved
+some-removed zero a b c d = refl
+some-removed (suc zero) a b c d = simp (removed-first, and-true, or-false)
+some-removed (suc (suc zero)) a b c d = simp (removed-first, and-true, or-false, not-or)
+some-removed (suc (suc (suc zero))) a b c d = simp (removed-first, and-true, or-false, not-or)
+some-removed (suc (suc (suc (suc l)))) a b c d =
+    let n = suc (suc (suc (suc l))) in
+    rw (names-four l a b c d, lt-ltb 0 n (omega arith), lt-ltb 1 n (omega arith), lt-ltb 2 n (omega arith), lt-ltb 3 n (omega arith))
+    (simp (removed-first, rest-removed, and-true, not-or))
+
+pub removed-is : (xs : Args) → not (noneRemoved (argNames xs)) ≡ removedAt (xs .len) 0 (xs .a0) || (removedAt (xs .len) 1 (xs .a1) || (removedAt (xs .len) 2 (xs .a2) || removedAt (xs .len) 3 (xs .a3)))
+removed-is xs = ap not (some-removed (xs .len) (xs .a0) (xs .a1) (xs .a2) (xs .a3)) ∙ twice _
+  where
+    twice : (a : Bool) → not (not a) ≡ a
+    twice true = refl
+    twice false = refl
+
+declared-in : (n l a b c d : ℕ) → allDeclared n (names l a b c d) ≡ declaredAt n l 0 a && (declaredAt n l 1 b && (declaredAt n l 2 c && (declaredAt n l 3 d && declaredAt n l 4 0)))
+unfolding allDeclared
+declared-in n zero a b c d = refl
+declared-in n (suc zero) a b c d = simp (declared-first)
+declared-in n (suc (suc zero)) a b c d = simp (declared-first)
+declared-in n (suc (suc (suc zero))) a b c d = simp (declared-first)
+declared-in n (suc (suc (suc (suc l)))) a b c d =
+    let m = suc (suc (suc (suc l))) in
+    rw (names-four l a b c d, lt-ltb 0 m (omega arith), lt-ltb 1 m (omega arith), lt-ltb 2 m (omega arith), lt-ltb 3 m (omega arith))
+    (simp (declared-first, rest-declared, ltb-four))
+  where
+    ltb-four : ltb 4 (suc (suc (suc (suc l)))) ≡ ltb 0 l
+    ltb-four = byOrder 0 l (λ h. rw (lt-ltb 0 l h, lt-ltb 4 (suc (suc (suc (suc l)))) (omega arith))) (λ h. rw (le-ltb 0 l h, le-ltb 4 (suc (suc (suc (suc l)))) (omega arith)))
+
+pub declared-is : (n : ℕ) (xs : Args)
+    → allDeclared n (argNames xs) ≡ declaredAt n (xs .len) 0 (xs .a0) && (declaredAt n (xs .len) 1 (xs .a1) && (declaredAt n (xs .len) 2 (xs .a2) && (declaredAt n (xs .len) 3 (xs .a3) && declaredAt n (xs .len) 4 0)))
+declared-is n xs = declared-in n (xs .len) (xs .a0) (xs .a1) (xs .a2) (xs .a3)
+
+-- ---- as code finds them
+
+pub removed-used : (len k v : ℕ) → k < len → eqb v 255 ≡ removedAt len k v
+removed-used len k v l = rw (lt-ltb k len l)
+
+pub removed-unused : (len k v : ℕ) → len ≤ k → false ≡ removedAt len k v
+removed-unused len k v l = rw (le-ltb k len l)
+
+pub declared-removed : (n len k v : ℕ) → k < len → v ≡ 255 → true ≡ declaredAt n len k v
+declared-removed n len k v l e = rw (lt-ltb k len l, eq-eqb v removed e)
+
+pub declared-used : (n len k v : ℕ) → k < len → (v ≡ 255 → ⊥) → ltb v n ≡ declaredAt n len k v
+declared-used n len k v l e = rw (lt-ltb k len l, ne-eqb v removed e)
+
+pub declared-unused : (n len k v : ℕ) → len ≤ k → true ≡ declaredAt n len k v
+declared-unused n len k v l = rw (le-ltb k len l)

@@ -1,0 +1,5 @@
+pub mod Numbers
+pub mod MaskTests
+pub mod ArgumentChecks
+pub mod ValueChecks
+pub mod NodeChecks

@@ -1,0 +1,20 @@
+use Rattle.late.specs.Walks.{proc-step}
+use native.Mathlib.Omega.{arith}
+use borrow.Author.Needs.{needs}
+use Rattle.late.proofs.proc_at.Statement.{statement}
+use Rattle.late.proofs.proc_at.Tie as tie
+
+present-requires : tie.Need-present-requires
+present-requires c κs = search needs
+
+add-nodes : tie.Need-add-nodes
+add-nodes c = search needs
+
+nodes-requires : tie.Need-nodes-requires
+nodes-requires c κs = search needs
+
+returns : tie.Need-returns
+returns c = (λ t p s e. proc-step t p _ e (c .nodes .ensures .0 t s), omega (arith, c .nodes .ensures .1))
+
+pub proc-at-spec : {M : Type 1} → statement M
+proc-at-spec = tie.close (tie.spec present-requires add-nodes nodes-requires returns)

@@ -1,0 +1,5 @@
+pub mod Late
+pub mod MaskLaws
+pub mod NodeLaws
+pub mod Walks
+pub mod Steps
