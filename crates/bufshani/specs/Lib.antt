@@ -1,2 +1,3 @@
 pub mod CloseLaws
 pub mod RunLaws
+pub mod WriteLaws

@@ -12,9 +12,10 @@ use table::Sem;
 use table::Slot;
 use table::Table;
 use table::Task;
+use text::Writing;
 ghost use mathlib.Core.Path.{_≡_};
 ghost use Rattle.table.specs.Table.{noTable};
-ghost use Rattle.text.specs.Writer.{fault};
+ghost use Rattle.text.specs.Writer.{fault, writeTo};
 ghost use Rattle.machine.specs.State.{noState};
 ghost use Rattle.machine.specs.Run.{run};
 ghost use Rattle.bufshani.specs.RunLaws.{Keeps};
@@ -132,4 +133,53 @@ fn run_checked(
     }
     let keep = kept(t);
     runner::run_ready(t, keep, schedule, values, most, log)
+}
+
+// The writer's answer for a table whose fault is n.
+fn write_checked(t: Table, n: u8, out: &mut [u8]) -> Writing
+    requires { ⌜ n ≡ fault t ⌝ }
+    ensures answer { λ r. ⌜ r ≡ writeTo t (now (out .entry)) .answer ⌝ }
+    ensures buffer { λ _. ⌜ now (out .exit) ≡ writeTo t (now (out .entry)) .buffer ⌝ }
+{
+    if n != 0 {
+        return Writing {
+            number: n,
+            line: 0,
+            len: 0,
+        };
+    }
+    writer::write_ready(t, out)
+}
+
+// The fault of a hand-made table, 0 if it has none.
+pub fn check(t: Table) -> u8
+    ensures { λ r. ⌜ r ≡ fault t ⌝ }
+{
+    faults::fault(t)
+}
+
+// Writes a table's text into a lent buffer.
+pub fn write(t: Table, out: &mut [u8]) -> Writing
+    ensures answer { λ r. ⌜ r ≡ writeTo t (now (out .entry)) .answer ⌝ }
+    ensures buffer { λ _. ⌜ now (out .exit) ≡ writeTo t (now (out .entry)) .buffer ⌝ }
+{
+    let n = faults::fault(t);
+    write_checked(t, n, out)
+}
+
+// The closed table of an open one.
+pub fn close(t: Table) -> Closing
+    ensures { λ r. ⌜ r ≡ close t ⌝ }
+{
+    let n = faults::fault(t);
+    close_checked(t, n)
+}
+
+// Runs a schedule of task numbers, with a value list, the most dropped nodes per step and a log buffer.
+pub fn run(t: Table, schedule: &[u8], values: &[i32], most: usize, log: &mut [u8]) -> Running
+    ensures answer { λ r. ⌜ r ≡ run t (now (schedule .entry)) (now (values .entry)) most (now (log .entry)) .answer ⌝ }
+    ensures log { λ _. ⌜ now (log .exit) ≡ run t (now (schedule .entry)) (now (values .entry)) most (now (log .entry)) .log ⌝ }
+{
+    let n = faults::fault(t);
+    run_checked(t, n, schedule, values, most, log)
 }
