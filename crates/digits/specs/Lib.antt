@@ -1,0 +1,4 @@
+pub mod Read
+pub mod ReadLaws
+pub mod LessLaws
+pub mod NumeralLaws

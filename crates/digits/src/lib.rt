@@ -1,0 +1,86 @@
+// Decimal numbers of any length, read off bytes.
+ghost use mathlib.Core.Path.{_≡_};
+ghost use mathlib.Core.Bool.{true};
+ghost use lib.Dec.{ltb};
+ghost use Prim.Native.Nat.{_+_, _-_, _*_, _≤_};
+ghost use Rattle.text.specs.Number.{spelt, value};
+ghost use Rattle.digits.specs.Read.{digitsOf, numberOf, capped};
+
+// The number, or 2^32 for any that is larger; or none is spelt.
+pub enum Num {
+    Good(u64),
+    Bad,
+}
+
+// One digit more, at most 2^32.
+fn push(v: u64, b: u8) -> u64
+    requires { ⌜ (v ≤ 4294967296) × (48 ≤ b) × (b ≤ 57) ⌝ }
+    ensures { λ r. ⌜ r ≡ capped (v * 10 + (b - 48)) ⌝ }
+{
+    let w = v * 10 + ((b - 48) as u64);
+    if 4294967296 < w { 4294967296 } else { w }
+}
+
+// The number that digits say, at most 2^32.
+pub fn digit_run(t: &[u8]) -> Num
+    ensures { λ r. ⌜ r ≡ digitsOf (now (t .entry)) ⌝ }
+{
+    let mut v: u64 = 0;
+    let mut i = 0;
+    while i < t.len() {
+        let b = t[i];
+        if b < 48 {
+            return Num::Bad;
+        }
+        if 57 < b {
+            return Num::Bad;
+        }
+        v = push(v, b);
+        i += 1;
+    }
+    Num::Good(v)
+}
+
+// The number that bytes spell.
+pub fn number(t: &[u8]) -> Num
+    ensures { λ r. ⌜ r ≡ numberOf (now (t .entry)) ⌝ }
+{
+    let n = t.len();
+    if n == 0 {
+        return Num::Bad;
+    }
+    if n == 1 {
+        return digit_run(t);
+    }
+    let b = t[0];
+    if b == 48 {
+        return Num::Bad;
+    }
+    digit_run(t)
+}
+
+// Whether one number is below another, by their digits, however many those are.
+pub fn less(a: &[u8], b: &[u8]) -> bool
+    requires { ⌜ (spelt (now a) ≡ true) × (spelt (now b) ≡ true) ⌝ }
+    ensures { λ r. ⌜ r ≡ ltb (value (now (a .entry))) (value (now (b .entry))) ⌝ }
+{
+    if a.len() < b.len() {
+        return true;
+    }
+    if b.len() < a.len() {
+        return false;
+    }
+    let mut i = 0;
+    while i < a.len() {
+        let x = a[i];
+        let y = b[i];
+        if x < y {
+            return true;
+        }
+        if y < x {
+            return false;
+        }
+        i += 1;
+    }
+    false
+}

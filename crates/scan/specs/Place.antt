@@ -1,0 +1,73 @@
+-- What the readers of keys and places answer: at a place, the text is what is left of it there.
+use Prim.Native.Nat.{ℕ, suc, _+_, _-_, _≤_, _<_}
+use mathlib.Core.Path.{_≡_}
+use mathlib.Core.List.{List}
+use lib.ListN.{length, take, drop}
+use Rattle.text.specs.declared.Fault.{Fault}
+use Rattle.text.specs.declared.Fault.the-variants.{Form, Ended}
+use Rattle.text.specs.Value.{Kind, Of, said}
+use Rattle.text.specs.Line.{Outcome, took, refused, After, at as stands, differs, broken, after, run as count, judged, valueOf, fieldOf, feed as endOf}
+use Rattle.scan.specs.declared.Found.{Found}
+use Rattle.scan.specs.declared.Found.the-variants.{At, Differs, Broken}
+use Rattle.scan.specs.declared.Token.{Token}
+use Rattle.scan.specs.declared.Token.the-variants.{At as Between, Not}
+use Rattle.scan.specs.declared.Ended.{Ended as LineEnd}
+use Rattle.scan.specs.declared.Ended.the-variants.{Is as Fed, Not as Unfed}
+
+-- ---- a key
+
+abbrev pub foundIn : List ℕ → Found → After
+foundIn s (At b) = stands (drop b s)
+foundIn s Differs = differs
+foundIn s Broken = broken
+
+abbrev pub foundWithin : List ℕ → Found → Type 0
+foundWithin s (At b) = b ≤ length s
+foundWithin s Differs = Unit {0}
+foundWithin s Broken = Unit {0}
+
+pub record AfterKey (key s : List ℕ) (at : ℕ) (r : Found) : Type 0 where
+  pub same : foundIn s r ≡ after key (drop at s)
+  pub within : foundWithin s r
+
+-- ---- a value's bytes
+
+pub record RunEnd (s : List ℕ) (at r : ℕ) : Type 0 where
+  pub same : r ≡ at + count (drop at s)
+  pub from : at ≤ r
+  pub within : r ≤ length s
+
+-- the outcome for a value of any kind that begins and ends so
+abbrev pub tokenIn : (k : Kind) → ℕ → List ℕ → Token → Outcome (Of k)
+tokenIn k l s (Between b e) = judged k (said k (take (e - b) (drop b s))) l (drop e s)
+tokenIn k l s (Not f) = refused f l
+
+abbrev pub tokenWithin : List ℕ → Token → Type 0
+tokenWithin s (Between b e) = (b ≤ e) × (e < length s)
+tokenWithin s (Not f) = Unit {0}
+
+pub record ValueAt (s : List ℕ) (at : ℕ) (r : Token) : Type 0 where
+  pub same : (k : Kind) (l : ℕ) → tokenIn k l s r ≡ valueOf k l (drop at s)
+  pub within : tokenWithin s r
+
+pub record TokenAt (key s : List ℕ) (at : ℕ) (r : Token) : Type 0 where
+  pub same : (k : Kind) (l : ℕ) → tokenIn k l s r ≡ fieldOf key k l (drop at s)
+  pub within : tokenWithin s r
+
+abbrev pub refusalOf : Token → Fault
+refusalOf (Between b e) = Form
+refusalOf (Not f) = f
+
+-- ---- the end of a line
+
+abbrev pub feedIn : ℕ → List ℕ → LineEnd → Outcome (Unit {0})
+feedIn l s (Fed e) = took tt (suc l) (drop e s)
+feedIn l s (Unfed f) = refused f l
+
+abbrev pub feedWithin : List ℕ → LineEnd → Type 0
+feedWithin s (Fed e) = e ≤ length s
+feedWithin s (Unfed f) = Unit {0}
+
+pub record FeedAt (s : List ℕ) (at : ℕ) (r : LineEnd) : Type 0 where
+  pub same : (l : ℕ) → feedIn l s r ≡ endOf l (drop at s)
+  pub within : feedWithin s r

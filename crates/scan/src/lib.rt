@@ -1,0 +1,512 @@
+// The values of a text, each read at a place.
+ghost use Prim.Native.Nat.{_-_, _≤_, _<_};
+ghost use mathlib.Core.Path.{_≡_};
+ghost use lib.ListN.{length};
+ghost use Rattle.scan.specs.Place.{AfterKey, RunEnd, ValueAt, TokenAt, refusalOf, FeedAt};
+ghost use mathlib.Core.Bool.{true};
+ghost use lib.IntN.{pos, negsuc};
+ghost use Rattle.text.specs.Value.{same, sorts, ops, numeral, asVar, asConst, asNegative, saidOperand};
+ghost use Rattle.scan.specs.Answer.{NumberSaid, NumberAt, ChoiceSaid, ChoiceAt, sortOf, SortJudged, plain, Later, SortSaid, middleSorts, lateSorts, SortAt, calculates, OpJudged, OpSaid, lateOps, OpAt, OperandJudged, OperandAt, VariableSaid, VariableAt};
+
+// Where the text goes on after a key; or something else stands there, or the text ends first.
+pub enum Found {
+    At(usize),
+    Differs,
+    Broken,
+}
+
+// Where a value begins and ends, or the fault.
+pub enum Token {
+    At(usize, usize),
+    Not(text::Fault),
+}
+
+// The place after LF, or the fault.
+pub enum Ended {
+    Is(usize),
+    Not(text::Fault),
+}
+
+// A number, or a variable, and the place after it, or the fault.
+pub enum Number {
+    Is(u8, usize),
+    Not(text::Fault),
+}
+
+// One of two words and the place after it, or the fault.
+pub enum Choice {
+    Is(bool, usize),
+    Not(text::Fault),
+}
+
+// The kinds of nodes, by their words.
+pub enum Sort {
+    Start,
+    Set,
+    Test,
+    Read,
+    Call,
+    Wait,
+    Signal,
+    Send,
+    Recv,
+    Assert,
+    Out,
+    Return,
+}
+
+// A node's kind and the place after it, or the fault.
+pub enum Kind {
+    Is(Sort, usize),
+    Not(text::Fault),
+}
+
+// An operation and the place after it, or the fault.
+pub enum Operation {
+    Is(table::Op, usize),
+    Not(text::Fault),
+}
+
+// An operand and the place after it, or the fault.
+pub enum Operand {
+    Is(table::Operand, usize),
+    Not(text::Fault),
+}
+
+// ---- keys and places
+
+pub fn after(s: &[u8], at: usize, key: &[u8]) -> Found
+    requires { ⌜ at ≤ length (now s) ⌝ }
+    ensures { λ r. ⌜ AfterKey (now (key .entry)) (now (s .entry)) at r ⌝ }
+{
+    let mut j = 0;
+    while j < key.len() {
+        let i = at + j;
+        if s.len() <= i {
+            return Found::Broken;
+        }
+        if key[j] != s[i] {
+            return Found::Differs;
+        }
+        j += 1;
+    }
+    Found::At(at + j)
+}
+
+// "A value runs to the next space or LF": its end.
+pub fn run(s: &[u8], at: usize) -> usize
+    requires { ⌜ at ≤ length (now s) ⌝ }
+    ensures { λ r. ⌜ RunEnd (now (s .entry)) at r ⌝ }
+{
+    let mut i = at;
+    while i < s.len() {
+        let b = s[i];
+        if b == 32 {
+            return i;
+        }
+        if b == 10 {
+            return i;
+        }
+        i += 1;
+    }
+    i
+}
+
+// The value at a place: where it begins and ends. One that the text's end breaks off is an early end.
+fn value_at(s: &[u8], at: usize) -> Token
+    requires { ⌜ at ≤ length (now s) ⌝ }
+    ensures { λ r. ⌜ ValueAt (now (s .entry)) at r ⌝ }
+{
+    let e = run(s, at);
+    if e < s.len() {
+        return Token::At(at, e);
+    }
+    Token::Not(text::Fault::Ended)
+}
+
+// The value behind a key.
+pub fn token_at(s: &[u8], at: usize, key: &[u8]) -> Token
+    requires { ⌜ at ≤ length (now s) ⌝ }
+    ensures { λ r. ⌜ TokenAt (now (key .entry)) (now (s .entry)) at r ⌝ }
+{
+    match after(s, at, key) {
+        Found::At(b) => value_at(s, b),
+        Found::Differs => Token::Not(text::Fault::Form),
+        Found::Broken => Token::Not(text::Fault::Ended),
+    }
+}
+
+pub fn refusal(token: Token) -> text::Fault
+    ensures { λ r. ⌜ r ≡ refusalOf token ⌝ }
+{
+    match token {
+        Token::At(_, _) => text::Fault::Form,
+        Token::Not(f) => f,
+    }
+}
+
+// The end of a line.
+pub fn feed(s: &[u8], at: usize) -> Ended
+    requires { ⌜ at ≤ length (now s) ⌝ }
+    ensures { λ r. ⌜ FeedAt (now (s .entry)) at r ⌝ }
+{
+    match after(s, at, b"\n") {
+        Found::At(e) => Ended::Is(e),
+        Found::Differs => Ended::Not(text::Fault::Form),
+        Found::Broken => Ended::Not(text::Fault::Ended),
+    }
+}
+
+// ---- numbers
+
+fn number_value(t: &[u8], e: usize, lo: u64, below: u64, fault: text::Fault) -> Number
+    requires { ⌜ below ≤ 256 ⌝ }
+    ensures { λ r. ⌜ NumberSaid lo below fault (now (t .entry)) e r ⌝ }
+{
+    let digits::Num::Good(v) = digits::number(t) else {
+        return Number::Not(text::Fault::Misspelt);
+    };
+    if v < lo {
+        return Number::Not(fault);
+    }
+    if v < below {
+        return Number::Is(v as u8, e);
+    }
+    Number::Not(fault)
+}
+
+// A number at least lo and below the next; outside, the fault.
+pub fn number_field(s: &[u8], at: usize, key: &[u8], lo: u64, below: u64, fault: text::Fault) -> Number
+    requires { ⌜ (at ≤ length (now s)) × (below ≤ 256) ⌝ }
+    ensures { λ r. ⌜ NumberAt lo below fault (now (key .entry)) (now (s .entry)) at r ⌝ }
+{
+    let found = token_at(s, at, key);
+    let Token::At(b, e) = found else {
+        return Number::Not(refusal(found));
+    };
+    number_value(&s[b..e], e, lo, below, fault)
+}
+
+// ---- words
+
+fn is_word(t: &[u8], word: &[u8]) -> bool
+    ensures { λ r. ⌜ r ≡ same (now (word .entry)) (now (t .entry)) ⌝ }
+{
+    if t.len() != word.len() {
+        return false;
+    }
+    let mut i = 0;
+    while i < word.len() {
+        if word[i] != t[i] {
+            return false;
+        }
+        i += 1;
+    }
+    true
+}
+
+fn choice_value(t: &[u8], e: usize, a: &[u8], b: &[u8]) -> Choice
+    ensures { λ r. ⌜ ChoiceSaid (now (a .entry)) (now (b .entry)) (now (t .entry)) e r ⌝ }
+{
+    if is_word(t, a) {
+        return Choice::Is(false, e);
+    }
+    if is_word(t, b) {
+        return Choice::Is(true, e);
+    }
+    Choice::Not(text::Fault::Form)
+}
+
+// One of two words: the first for false, the second for true.
+pub fn choice_field(s: &[u8], at: usize, key: &[u8], a: &[u8], b: &[u8]) -> Choice
+    requires { ⌜ at ≤ length (now s) ⌝ }
+    ensures { λ r. ⌜ ChoiceAt (now (a .entry)) (now (b .entry)) (now (key .entry)) (now (s .entry)) at r ⌝ }
+{
+    let found = token_at(s, at, key);
+    let Token::At(from, e) = found else {
+        return Choice::Not(refusal(found));
+    };
+    choice_value(&s[from..e], e, a, b)
+}
+
+// ---- the kinds of nodes
+
+// Node 0 is the only `start`.
+fn start_at(e: usize, j: u8) -> Kind
+    ensures { λ r. ⌜ Later (sortOf Sort.Start) j e r ⌝ }
+{
+    if j == 0 {
+        return Kind::Is(Sort::Start, e);
+    }
+    Kind::Not(text::Fault::Index)
+}
+
+fn later(k: Sort, e: usize, j: u8) -> Kind
+    requires { ⌜ plain k ≡ true ⌝ }
+    ensures { λ r. ⌜ Later (sortOf k) j e r ⌝ }
+{
+    if j == 0 {
+        return Kind::Not(text::Fault::Index);
+    }
+    Kind::Is(k, e)
+}
+
+// A closed table has no `read`.
+fn read_at(e: usize, closed: bool, j: u8) -> Kind
+    ensures { λ r. ⌜ SortJudged closed j (sortOf Sort.Read) e r ⌝ }
+{
+    if closed {
+        return Kind::Not(text::Fault::Form);
+    }
+    if j == 0 {
+        return Kind::Not(text::Fault::Index);
+    }
+    Kind::Is(Sort::Read, e)
+}
+
+fn late_sort(t: &[u8], e: usize, closed: bool, j: u8) -> Kind
+    ensures { λ r. ⌜ SortSaid closed j lateSorts (now (t .entry)) e r ⌝ }
+{
+    if is_word(t, b"recv") {
+        return later(Sort::Recv, e, j);
+    }
+    if is_word(t, b"assert") {
+        return later(Sort::Assert, e, j);
+    }
+    if is_word(t, b"out") {
+        return later(Sort::Out, e, j);
+    }
+    if is_word(t, b"return") {
+        return later(Sort::Return, e, j);
+    }
+    Kind::Not(text::Fault::Form)
+}
+
+fn middle_sort(t: &[u8], e: usize, closed: bool, j: u8) -> Kind
+    ensures { λ r. ⌜ SortSaid closed j middleSorts (now (t .entry)) e r ⌝ }
+{
+    if is_word(t, b"call") {
+        return later(Sort::Call, e, j);
+    }
+    if is_word(t, b"wait") {
+        return later(Sort::Wait, e, j);
+    }
+    if is_word(t, b"signal") {
+        return later(Sort::Signal, e, j);
+    }
+    if is_word(t, b"send") {
+        return later(Sort::Send, e, j);
+    }
+    late_sort(t, e, closed, j)
+}
+
+fn sort_value(t: &[u8], e: usize, closed: bool, j: u8) -> Kind
+    ensures { λ r. ⌜ SortSaid closed j sorts (now (t .entry)) e r ⌝ }
+{
+    if is_word(t, b"start") {
+        return start_at(e, j);
+    }
+    if is_word(t, b"set") {
+        return later(Sort::Set, e, j);
+    }
+    if is_word(t, b"test") {
+        return later(Sort::Test, e, j);
+    }
+    if is_word(t, b"read") {
+        return read_at(e, closed, j);
+    }
+    middle_sort(t, e, closed, j)
+}
+
+// The kind of node j.
+pub fn sort_field(s: &[u8], at: usize, closed: bool, j: u8) -> Kind
+    requires { ⌜ at ≤ length (now s) ⌝ }
+    ensures { λ r. ⌜ SortAt closed j (now (s .entry)) at r ⌝ }
+{
+    let found = token_at(s, at, b" kind=");
+    let Token::At(from, e) = found else {
+        return Kind::Not(refusal(found));
+    };
+    sort_value(&s[from..e], e, closed, j)
+}
+
+// ---- operations
+
+// "A test has lt or eq".
+fn calculation(o: table::Op, e: usize, test: bool) -> Operation
+    requires { ⌜ calculates o ≡ true ⌝ }
+    ensures { λ r. ⌜ OpJudged test o e r ⌝ }
+{
+    if test {
+        return Operation::Not(text::Fault::Form);
+    }
+    Operation::Is(o, e)
+}
+
+fn late_operation(t: &[u8], e: usize, test: bool) -> Operation
+    ensures { λ r. ⌜ OpSaid test lateOps (now (t .entry)) e r ⌝ }
+{
+    if is_word(t, b"xor") {
+        return calculation(table::Op::Xor, e, test);
+    }
+    if is_word(t, b"shr") {
+        return calculation(table::Op::Shr, e, test);
+    }
+    if is_word(t, b"lt") {
+        return Operation::Is(table::Op::Lt, e);
+    }
+    if is_word(t, b"eq") {
+        return Operation::Is(table::Op::Eq, e);
+    }
+    Operation::Not(text::Fault::Form)
+}
+
+fn operation_value(t: &[u8], e: usize, test: bool) -> Operation
+    ensures { λ r. ⌜ OpSaid test ops (now (t .entry)) e r ⌝ }
+{
+    if is_word(t, b"add") {
+        return calculation(table::Op::Add, e, test);
+    }
+    if is_word(t, b"sub") {
+        return calculation(table::Op::Sub, e, test);
+    }
+    if is_word(t, b"and") {
+        return calculation(table::Op::And, e, test);
+    }
+    if is_word(t, b"or") {
+        return calculation(table::Op::Or, e, test);
+    }
+    late_operation(t, e, test)
+}
+
+// An operation; in a test or not.
+pub fn operation_field(s: &[u8], at: usize, test: bool) -> Operation
+    requires { ⌜ at ≤ length (now s) ⌝ }
+    ensures { λ r. ⌜ OpAt test (now (s .entry)) at r ⌝ }
+{
+    let found = token_at(s, at, b" op=");
+    let Token::At(from, e) = found else {
+        return Operation::Not(refusal(found));
+    };
+    operation_value(&s[from..e], e, test)
+}
+
+// ---- operands
+
+fn negative(x: u64) -> i32
+    requires { ⌜ (0 < x) × (x ≤ 2147483648) ⌝ }
+    ensures { λ r. ⌜ r ≡ negsuc (x - 1) ⌝ }
+{
+    -1 - ((x - 1) as i32)
+}
+
+fn positive(x: u64) -> i32
+    requires { ⌜ x ≤ 2147483647 ⌝ }
+    ensures { λ r. ⌜ r ≡ pos x ⌝ }
+{
+    x as i32
+}
+
+// The digits behind `v`.
+fn named_operand(t: &[u8], e: usize, vars: u64) -> Operand
+    requires { ⌜ vars ≤ 256 ⌝ }
+    ensures { λ r. ⌜ OperandJudged vars (asVar (numeral (now (t .entry)))) e r ⌝ }
+{
+    let digits::Num::Good(x) = digits::number(t) else {
+        return Operand::Not(text::Fault::Misspelt);
+    };
+    if x < vars {
+        return Operand::Is(table::Operand::Var(x as u8), e);
+    }
+    Operand::Not(text::Fault::Reference)
+}
+
+fn constant_operand(t: &[u8], e: usize, vars: u64) -> Operand
+    ensures { λ r. ⌜ OperandJudged vars (asConst (numeral (now (t .entry)))) e r ⌝ }
+{
+    let digits::Num::Good(x) = digits::number(t) else {
+        return Operand::Not(text::Fault::Misspelt);
+    };
+    if x <= 2147483647 {
+        return Operand::Is(table::Operand::Const(positive(x)), e);
+    }
+    Operand::Not(text::Fault::Range)
+}
+
+// The digits behind `-`.
+fn negative_operand(t: &[u8], e: usize, vars: u64) -> Operand
+    ensures { λ r. ⌜ OperandJudged vars (asNegative (numeral (now (t .entry)))) e r ⌝ }
+{
+    let digits::Num::Good(x) = digits::number(t) else {
+        return Operand::Not(text::Fault::Misspelt);
+    };
+    if x == 0 {
+        return Operand::Not(text::Fault::Misspelt);
+    }
+    if x <= 2147483648 {
+        return Operand::Is(table::Operand::Const(negative(x)), e);
+    }
+    Operand::Not(text::Fault::Range)
+}
+
+fn operand_value(t: &[u8], e: usize, vars: u64) -> Operand
+    requires { ⌜ vars ≤ 256 ⌝ }
+    ensures { λ r. ⌜ OperandJudged vars (saidOperand (now (t .entry))) e r ⌝ }
+{
+    if t.len() == 0 {
+        return Operand::Not(text::Fault::Misspelt);
+    }
+    let b = t[0];
+    if b == 118 {
+        return named_operand(&t[1..], e, vars);
+    }
+    if b == 45 {
+        return negative_operand(&t[1..], e, vars);
+    }
+    constant_operand(t, e, vars)
+}
+
+// A variable or a constant, with so many variables declared.
+pub fn operand_field(s: &[u8], at: usize, key: &[u8], vars: u64) -> Operand
+    requires { ⌜ (at ≤ length (now s)) × (vars ≤ 256) ⌝ }
+    ensures { λ r. ⌜ OperandAt vars (now (key .entry)) (now (s .entry)) at r ⌝ }
+{
+    let found = token_at(s, at, key);
+    let Token::At(b, e) = found else {
+        return Operand::Not(refusal(found));
+    };
+    operand_value(&s[b..e], e, vars)
+}
+
+// ---- variables
+
+fn variable_value(t: &[u8], e: usize, closed: bool, vars: u64) -> Number
+    requires { ⌜ vars ≤ 256 ⌝ }
+    ensures { λ r. ⌜ VariableSaid closed vars (now (t .entry)) e r ⌝ }
+{
+    if is_word(t, b"-") {
+        if closed {
+            return Number::Is(table::REMOVED, e);
+        }
+        return Number::Not(text::Fault::Misspelt);
+    }
+    let digits::Num::Good(v) = digits::number(t) else {
+        return Number::Not(text::Fault::Misspelt);
+    };
+    if v < vars {
+        return Number::Is(v as u8, e);
+    }
+    Number::Not(text::Fault::Reference)
+}
+
+// A variable, with so many declared; in closed form it may be `-`.
+pub fn variable_field(s: &[u8], at: usize, closed: bool, vars: u64) -> Number
+    requires { ⌜ (at ≤ length (now s)) × (vars ≤ 256) ⌝ }
+    ensures { λ r. ⌜ VariableAt closed vars (now (s .entry)) at r ⌝ }
+{
+    let found = token_at(s, at, b" var=");
+    let Token::At(b, e) = found else {
+        return Number::Not(refusal(found));
+    };
+    variable_value(&s[b..e], e, closed, vars)
+}
