@@ -189,7 +189,7 @@ pub fn number_field(s: &[u8], at: usize, key: &[u8], lo: u64, below: u64, fault:
 
 // ---- words
 
-fn is_word(t: &[u8], word: &[u8]) -> bool
+pub fn is_word(t: &[u8], word: &[u8]) -> bool
     ensures { λ r. ⌜ r ≡ same (now (word .entry)) (now (t .entry)) ⌝ }
 {
     if t.len() != word.len() {

@@ -1,0 +1,131 @@
+-- Laws of whole lists of numbers: each says what a step of the code shows.
+use Prim.Native.Nat.{ℕ, zero, suc, _+_, _-_, _^_, _≤_, _<_}
+use mathlib.Core.Path.{_≡_, refl, sym, _∙_, ap}
+use mathlib.Core.Bool.{Bool, true, false, _&&_, not, false≢true}
+use mathlib.Core.List.{List, [], _∷_}
+use mathlib.Core.Option.{Option, none, some}
+use native.Mathlib.Omega.{arith}
+use native.Mathlib.Nat.{add-zero}
+use lib.Dec.{ltb, leb, eqb}
+use lib.ListN.{length, take, drop}
+use lib.Seq.{take-all, take-length}
+use borrow.Author.Tests.{lt-ltb, le-ltb, ltb-false, ne-eqb, eq-eqb}
+use Rattle.table.specs.Mask.{pick}
+use Rattle.text.specs.declared.Fault.{Fault}
+use Rattle.text.specs.declared.Fault.the-variants.{Misspelt, Reference}
+use Rattle.text.specs.Number.{bytes, isDigit, allDigits, spelt, value}
+use Rattle.text.specs.NumberLaws.{and-left, and-right, cases, all-head, all-tail, spelt-all}
+use Rattle.text.specs.Value.{ascending, same, numeral, split, followed, each, saidList, ascends, isOne, within, said, unsaid, check}
+use Rattle.text.specs.Line.{took, refused, judged}
+use Rattle.text.specs.Format.{elem, setOf}
+use Rattle.digits.specs.declared.Num.{Num}
+use Rattle.digits.specs.declared.Num.the-variants.{Good, Bad}
+use Rattle.digits.specs.Read.{numberOf, capped}
+use Rattle.digits.specs.NumeralLaws.{spelt-bad, spelt-good, numeral-bad}
+use Rattle.scan.specs.declared.Token.{Token}
+use Rattle.scan.specs.declared.Token.the-variants.{At as Between, Not as Refused}
+use Rattle.scan.specs.Place.{TokenAt, refusalOf}
+use Rattle.scan.specs.PlaceLaws.{token-within}
+use Rattle.scan.specs.Answer.{mapped}
+use Rattle.lists.specs.declared.Set.{Set}
+use Rattle.lists.specs.declared.Set.the-variants.{Is, Not}
+use Rattle.lists.specs.Items.{upTo, more, inside, bitOf}
+use Rattle.lists.specs.ItemLaws.{split-first, bit-capped}
+use Rattle.lists.specs.Sets.{setIn, setEnds, setWithin, SetJudged, SetSaid, SetAt}
+use Rattle.lists.specs.TotalLaws.{total, total-is, mask-none}
+use Rattle.lists.specs.SetLaws.{bit-inside}
+
+-- ---- one number is one item, and no `none`
+digits-up : (t : List ℕ) → allDigits t ≡ true → upTo t ≡ length t
+unfolding upTo
+digits-up [] a = refl
+digits-up (b ∷ t) a = let d = all-head b t a in rw (ne-eqb b 44 (λ q. omega arith), digits-up t (all-tail b t a))
+
+split-spelt : (t : List ℕ) → spelt t ≡ true → split t ≡ t ∷ []
+split-spelt t h = split-first t ∙ rw (digits-up t (spelt-all t h), take-length t, le-ltb (length t) (length t) (omega arith))
+
+spelt-some : (t : List ℕ) → spelt t ≡ true → same (bytes "none") t ≡ false
+unfolding same spelt
+spelt-some [] h = refl
+spelt-some (b ∷ t) h = let d = all-head b t (spelt-all (b ∷ t) h) in rw (ne-eqb 110 b (λ q. omega arith))
+
+one-said : (t : List ℕ) → spelt t ≡ true → saidList numeral t ≡ some (value t ∷ [])
+unfolding each
+one-said t h = rw (spelt-some t h, split-spelt t h, h)
+
+-- two items or more are not one
+two-refused : (lo n : ℕ) (a b : Option ℕ) (o : Option (List ℕ)) (l : ℕ) (s : List ℕ)
+    → judged (ascending true lo n) (followed a (followed b o)) l s ≡ refused Misspelt l
+unfolding unsaid check
+two-refused lo n none b o l s = refl
+two-refused lo n (some x) none o l s = refl
+two-refused lo n (some x) (some y) none l s = refl
+two-refused lo n (some x) (some y) (some zs) l s = rw (and-none (ascends (x ∷ y ∷ zs)))
+  where
+    and-none : (a : Bool) → a && false ≡ false
+    and-none true = refl
+    and-none false = refl
+
+-- what is not a number is not a list of one
+one-refused : (lo n : ℕ) (t : List ℕ) (l : ℕ) (s : List ℕ) → spelt t ≡ false → judged (ascending true lo n) (saidList numeral t) l s ≡ refused Misspelt l
+unfolding unsaid check each ascends
+one-refused lo n t l s h =
+    cases (same (bytes "none") t)
+    (λ e. rw e)
+    (λ e. rw (e, split-first t) (cases (ltb (upTo t) (length t))
+    (λ k.
+    let r = drop (suc (upTo t)) t in
+    rw (k, split-first r) (two-refused lo n (numeral (take (upTo t) t)) (numeral (take (upTo r) r)) (each numeral (more r (upTo r))) l s))
+    (λ k. rw (k, take-all (upTo t) t (ltb-false (upTo t) (length t) k), h))))
+
+-- ---- a list of one number
+module _ (t : List ℕ) (e lo n : ℕ) {w : Num} (d : w ≡ numberOf t) where
+  pub single-bad : w ≡ Bad → SetSaid true lo n t e (Not Misspelt)
+  unfolding said
+  single-bad h = record { judged = record { same = λ l s. rw (one-refused lo n t l (drop e s) (spelt-bad t d h)); ends = tt } }
+
+  module _ {v b : ℕ} (h : w ≡ Good v) (u : n ≤ 32) (k : b ≡ bitOf lo n v) where
+    bit-said : b ≡ bitOf lo n (value t)
+    bit-said = k ∙ bit-capped lo n (value t) v (spelt-good t d h .1) u
+
+    pub single-outside : b ≡ 0 → SetSaid true lo n t e (Not Reference)
+    unfolding said check ascends within
+    single-outside z =
+        let i : inside lo n (value t) ≡ false = sym (bit-inside lo n (value t) b bit-said) ∙ rw z in
+        record { judged = record { same = λ l s. rw (one-said t (spelt-good t d h .0), i); ends = tt } }
+
+    pub single-is : (b ≡ 0 → ⊥) → SetSaid true lo n t e (Is b e)
+    unfolding said check ascends within total
+    single-is z =
+        let i : inside lo n (value t) ≡ true = sym (bit-inside lo n (value t) b bit-said) ∙ rw (ne-eqb b 0 z) in
+        let m : b ≡ 2 ^ value t = bit-said ∙ rw i in
+        let j : within lo n (value t ∷ []) ≡ true = rw i in
+        let f : setOf (value t ∷ []) ≡ b = total-is lo n (value t ∷ []) u refl j ∙ add-zero (2 ^ value t) ∙ sym m in
+        record { judged = record { same = λ l s. rw (one-said t (spelt-good t d h .0), i, f); ends = refl } }
+
+-- ---- a list
+pub list-single : {one : Bool} {lo n : ℕ} {t : List ℕ} {e : ℕ} {r : Set} → one ≡ true → SetSaid true lo n t e r → SetSaid one lo n t e r
+list-single h a = rw h a
+
+pub list-none : {one : Bool} (lo n : ℕ) (t : List ℕ) (e : ℕ) {x : Bool} → one ≡ false → x ≡ same (bytes "none") t → x ≡ true → SetSaid one lo n t e (Is 0 e)
+unfolding said check ascends within elem
+list-none lo n t e h p k =
+    let f : setOf [] ≡ 0 = mask-none 32 in
+    rw h (record { judged = record { same = λ l s. rw (← p, k, f); ends = refl } })
+
+pub list-rising : {one : Bool} {lo n : ℕ} {t : List ℕ} {e : ℕ} {r : Set} {x : Bool} → one ≡ false → x ≡ same (bytes "none") t → x ≡ false
+    → SetJudged false lo n (each numeral (split t)) e r → SetSaid one lo n t e r
+unfolding said
+list-rising h p k a = rw h (record { judged = rw (← p, k) a })
+
+module _ {key s : List ℕ} {at : ℕ} {r : Token} (m : TokenAt key s at r) where
+  pub set-stop : (one : Bool) (lo n : ℕ) {x y : Fault} → r ≡ Refused y → x ≡ refusalOf r → SetAt one lo n key s at (Not x)
+  set-stop one lo n q z = record { same = λ l. rw (z, q) (ap (mapped setOf) (rw q at (m .same (ascending one lo n) l))); within = tt }
+
+  pub set-step : {one : Bool} {lo n b e : ℕ} {v : Set} → r ≡ Between b e → SetSaid one lo n (take (e - b) (drop b s)) e v → SetAt one lo n key s at v
+  set-step {one} {lo} {n} {b} {e} {v} q d =
+      record { same = λ l. d .judged .same l s ∙ ap (mapped setOf) (rw q at (m .same (ascending one lo n) l)); within = reach v (d .judged .ends) }
+    where
+      reach : (v : Set) → setEnds e v → setWithin s v
+      reach (Is k p) h = rw h (token-within m q .1)
+      reach (Not f) h = tt
