@@ -9,8 +9,8 @@ use Rattle.table.specs.declared.Queue.{Queue}
 use Rattle.text.specs.Number.{bytes}
 use Rattle.text.specs.Value.{from}
 use Rattle.text.specs.Line.{Line, end, field, Vals, line}
-use Rattle.text.specs.Format.{headLine, countsLine, taskLine, semLine, blankField, procLine, dropField, setOf}
-use Rattle.text.specs.Reader.{droppedBy}
+use Rattle.text.specs.Format.{headLine, countsLine, taskLine, semLine, queueLine, blankField, procLine, dropField, setOf}
+use Rattle.text.specs.Reader.{queueOf, droppedBy}
 use Rattle.lines.specs.declared.Counts.{Counts}
 use Rattle.lines.specs.declared.HeadLine.{HeadLine}
 use Rattle.lines.specs.declared.HeadLine.the-variants.{Is as IsHead, Refused as NotHead}
@@ -80,6 +80,9 @@ semIn (NotSem f) = not f
 abbrev pub queueIn : QueueLine → Answer Queue
 queueIn (IsQueue t e) = got t e
 queueIn (NotQueue f) = not f
+
+pub record QueueAt (closed : Bool) (i : ℕ) (s : List ℕ) (at : ℕ) (r : QueueLine) : Type 0 where
+  pub is : LineAt (queueLine closed i) (queueOf closed i) s at (queueIn r)
 
 -- what is left of a queue line behind its capacity
 abbrev pub capped : (closed : Bool) → ℕ → Vals (blankField closed) → Queue

@@ -18,7 +18,7 @@ use Rattle.text.specs.NumberLaws.{cases}
 use Rattle.text.specs.Value.{Kind, Of, said, check, ascending, within}
 use Rattle.text.specs.ValueLaws.{no}
 use Rattle.text.specs.Line.{took, After, at as stands, differs, broken, after, run, verdict, judged, valueOf, afterKey, fieldOf}
-use Rattle.text.specs.Format.{elem, setOf, queueLine}
+use Rattle.text.specs.Format.{elem, setOf}
 use Rattle.text.specs.NodeLaws.{list-fact}
 use Rattle.scan.specs.declared.Number.{Number}
 use Rattle.scan.specs.declared.Number.the-variants.{Is as IsNumber}
@@ -26,13 +26,11 @@ use Rattle.scan.specs.Answer.{NumberAt}
 use Rattle.lists.specs.declared.Set.{Set}
 use Rattle.lists.specs.declared.Set.the-variants.{Is as IsSet}
 use Rattle.lists.specs.Sets.{SetAt}
+use Rattle.lines.specs.declared.QueueLine.{QueueLine}
 use Rattle.lines.specs.declared.ProcLine.{ProcLine}
 use Rattle.lines.specs.declared.ProcHead.{ProcHead}
-use Rattle.lines.specs.Answer.{SizesAt, ProcAt, headOf}
-use Rattle.fields.specs.Answer.{Answer, LineAt}
+use Rattle.lines.specs.Answer.{QueueAt, SizesAt, ProcAt, headOf}
 use Rattle.fields.specs.FieldLaws.{mapped-took, number-next}
-use Rattle.table.specs.declared.Queue.{Queue}
-use Rattle.text.specs.Reader.{queueOf}
 
 -- ---- a value that was read has no fault
 
@@ -83,12 +81,8 @@ set-small {n} {key} {s} {at} m {v} {e} q h =
     rw (← t .2) (small n (t .0) (omega arith) (list-fact false 0 n (t .0) (field-check key (ascending false 0 n) 0 (drop at s) (t .1)) .1))
 
 -- ---- the two forms
-module _ {closed : Bool} {i : ℕ} {s : List ℕ} {at : ℕ} {o : Answer Queue} where
-  pub queue-closed : closed ≡ true → LineAt (queueLine true i) (queueOf true i) s at o → LineAt (queueLine closed i) (queueOf closed i) s at o
-  queue-closed q u = rw q u
-
-  pub queue-open : closed ≡ false → LineAt (queueLine false i) (queueOf false i) s at o → LineAt (queueLine closed i) (queueOf closed i) s at o
-  queue-open q u = rw q u
+pub queue-form : {closed b : Bool} {i : ℕ} {s : List ℕ} {at : ℕ} {r : QueueLine} → closed ≡ b → QueueAt b i s at r → QueueAt closed i s at r
+queue-form q u = rw q u
 
 pub head-drop : {k m n : ℕ} {x y : ℕ} → x ≡ y → _≡_ {A = ProcHead} (record { params = k; vars = m; nodes = n; drop = y }) (record { params = k; vars = m; nodes = n; drop = x })
 head-drop p = rw p

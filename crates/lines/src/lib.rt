@@ -2,10 +2,9 @@
 ghost use Prim.Native.Nat.{_≤_, _<_};
 ghost use lib.ListN.{length};
 ghost use mathlib.Core.Bool.{true, false};
-ghost use Rattle.text.specs.Format.{headLine, countsLine, taskLine, semLine, queueLine, blankField};
-ghost use Rattle.text.specs.Reader.{queueOf};
+ghost use Rattle.text.specs.Format.{headLine, countsLine, taskLine, semLine, blankField};
 ghost use Rattle.fields.specs.Answer.{LineAt};
-ghost use Rattle.lines.specs.Answer.{headIn, lastCounts, counted, CountsAt, taskOf, taskIn, semOf, semIn, queueIn, capped, Sized, DropAt, SizesAt, ProcAt};
+ghost use Rattle.lines.specs.Answer.{headIn, lastCounts, counted, CountsAt, taskOf, taskIn, semOf, semIn, queueIn, QueueAt, capped, Sized, DropAt, SizesAt, ProcAt};
 
 // The counts of a table's tasks, procedures, semaphores and queues.
 pub struct Counts {
@@ -188,7 +187,7 @@ fn closed_queue(s: &[u8], at: usize, cap: u8) -> QueueLine
 // `queue=i cap=c`
 pub fn queue_line(s: &[u8], at: usize, closed: bool, i: u64) -> QueueLine
     requires { ⌜ (at ≤ length (now s)) × (i < 8) ⌝ }
-    ensures { λ r. ⌜ LineAt (queueLine closed i) (queueOf closed i) (now (s .entry)) at (queueIn r) ⌝ }
+    ensures { λ r. ⌜ QueueAt closed i (now (s .entry)) at r ⌝ }
 {
     let index = scan::number_field(s, at, b"queue=", i, i + 1, text::Fault::Index);
     let scan::Number::Is(_, a) = index else {

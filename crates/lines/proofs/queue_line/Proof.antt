@@ -1,5 +1,5 @@
 use Rattle.fields.specs.FieldLaws.{choice-within, number-next, number-stop, number-within}
-use Rattle.lines.specs.LineLaws.{queue-closed, queue-open}
+use Rattle.lines.specs.LineLaws.{queue-form}
 use borrow.Author.Needs.{needs}
 use Rattle.lines.proofs.queue_line.Statement.{statement}
 use Rattle.lines.proofs.queue_line.Tie as tie
@@ -68,7 +68,7 @@ closed-queue-requires c κs = search (needs, number-within, choice-within)
 
 -- src/lib.rt:212:9
 returns-3 : tie.Need-returns-3
-returns-3 c = search (needs, queue-closed, number-next)
+returns-3 c = search (needs, queue-form, number-next)
 
 -- src/lib.rt:214:5
 open-queue-requires : tie.Need-open-queue-requires
@@ -76,7 +76,7 @@ open-queue-requires c κs = search (needs, number-within, choice-within)
 
 -- src/lib.rt:199:1
 returns-4 : tie.Need-returns-4
-returns-4 c = search (needs, queue-open, number-next)
+returns-4 c = search (needs, queue-form, number-next)
 
 pub queue-line-spec : {M : Type 1} → statement M
 queue-line-spec =
