@@ -30,6 +30,15 @@ numbered-none (some f) e = absurd (omega (arith, pos f))
     pos : (f : Fault) → 0 < number f
     pos f = elim f [ Long ↦ omega arith | Form ↦ omega arith | Misspelt ↦ omega arith | Ended ↦ omega arith | Range ↦ omega arith | Index ↦ omega arith | Reference ↦ omega arith | Arguments ↦ omega arith | Closing ↦ omega arith | Unused ↦ omega arith | Short ↦ omega arith ]
 
+abbrev pub lateNumber : Late → ℕ
+lateNumber Good = 0
+lateNumber (Bad f l) = number f
+
+first-late : (t : Table) (l : Late) → firstNumber (lateNumber l) (faultIn t (good t)) ≡ faultIn t (lateIn t l)
+unfolding number
+first-late t Good = refl
+first-late t (Bad f l) = elim f [ Long ↦ refl | Form ↦ refl | Misspelt ↦ refl | Ended ↦ refl | Range ↦ refl | Index ↦ refl | Reference ↦ refl | Arguments ↦ refl | Closing ↦ refl | Unused ↦ refl | Short ↦ refl ]
+
 -- the lines have a fault
 pub fault-lines : (t : Table) {r : ℕ} → r ≡ linesNumber t → (r ≡ 0 → ⊥) → r ≡ fault t
 unfolding tableFault
@@ -55,11 +64,8 @@ module _ (t : Table) {r : ℕ} (e : r ≡ linesNumber t) (z : r ≡ 0) where
       let m : faultIn t (lateIn t l) ≡ numbered (orElse (firstIn (late t)) (unless (tidy t) Unused)) = rw h (late-fault t t 1 (late t)) in
       m ∙ sym (fault-is t ∙ rw lines-none)
 
-  pub fault-late : (l : Late) (f : Fault) (k : ℕ) {y : ℕ} → lateIn t l ≡ firstLate t 1 (late t) → l ≡ Bad f k → y ≡ number f → y ≡ fault t
-  fault-late l f k h b n = n ∙ (rw b at (rest l h))
-
-  pub fault-unused : (l : Late) {y : ℕ} → lateIn t l ≡ firstLate t 1 (late t) → l ≡ Good → y ≡ faultIn t (good t) → y ≡ fault t
-  fault-unused l h b n = n ∙ (rw b at (rest l h))
+  pub fault-rest : (l : Late) {n u y : ℕ} → lateIn t l ≡ firstLate t 1 (late t) → n ≡ lateNumber l → u ≡ faultIn t (good t) → y ≡ firstNumber n u → y ≡ fault t
+  fault-rest l {n} {u} h p q k = k ∙ rw (p, q) (first-late t l) ∙ rest l h
 
 pub tidy-all : (t : Table) (b : Bool) → b ≡ tidy t → b ≡ true → 0 ≡ faultIn t (good t)
 tidy-all t b e z = ap (λ (x : Bool). elim x as (λ y. ℕ) [ true ↦ 0 | false ↦ number Unused ]) (sym z ∙ e)

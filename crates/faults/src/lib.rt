@@ -23,6 +23,7 @@ ghost use Rattle.checks.specs.NodeChecks.{scopeIn};
 ghost use Rattle.faults.specs.Lines.{headNumber, tasksNumber, semsNumber, queuesNumber, dropNumber, procLineNumber, settled as settledNumber, nodesNumber, procNumber, procsNumber, linesNumber};
 ghost use Rattle.faults.specs.Unused.{taskFits, semFits, queueFits, slotFits, procFits, tasksTidy, semsTidy, queuesTidy, slotsTidy, procsTidy, headTidy, Ranged};
 ghost use Rattle.faults.specs.UnusedLaws.{spare as spareAt};
+ghost use Rattle.faults.specs.FaultLaws.{lateNumber};
 
 const ENDED: u8 = 2;
 
@@ -477,7 +478,16 @@ pub fn number(f: Fault) -> u8
     }
 }
 
-// The number of a table's first fault, faulty or not; 0 where there is none.
+fn late_number(l: Late) -> u8
+    ensures { λ r. ⌜ r ≡ lateNumber l ⌝ }
+{
+    match l {
+        Late::Good => 0,
+        Late::Bad(f, _) => number(f),
+    }
+}
+
+// The number of the first fault of any table, 0 where there is none: of its lines, after all lines, or of a place that is not used.
 pub fn fault(t: Table) -> u8
     ensures { λ r. ⌜ r ≡ tableFault t ⌝ }
 {
@@ -485,9 +495,7 @@ pub fn fault(t: Table) -> u8
     if r != 0 {
         return r;
     }
-    let l = late::find(t);
-    match l {
-        Late::Good => unused(t),
-        Late::Bad(f, _) => number(f),
-    }
+    let l = late_number(late::find(t));
+    let u = unused(t);
+    checks::first(l, u)
 }
