@@ -66,6 +66,10 @@ pub onto-not : {A B C : Type 0} (o : Outcome A) (h : A → B) (g : A → C) {f :
 onto-not (took a l s) h g e = no (cc)
 onto-not (refused f l) h g e = cc
 
+pub onto-stop : {A B : Type 0} (o : Outcome A) (h : A → B) {f : Fault} {l : ℕ} → onto o (λ w k r. took (h w) k r) ≡ refused f l → o ≡ refused f l
+onto-stop (took a l s) h e = no (cc)
+onto-stop (refused f l) h e = cc
+
 pub onto-got : {A B : Type 0} (o : Outcome A) (h : A → B) {b : B} {l : ℕ} {s : List ℕ} → onto o (λ w k r. took (h w) k r) ≡ took b l s → (a : A) × (o ≡ took a l s) × (h a ≡ b)
 onto-got (took a l s) h e = (a, cc, cc)
 onto-got (refused f l) h e = no (cc)
