@@ -46,7 +46,7 @@ FieldIs key k s at v e = (l : ℕ) → fieldOf key k l (drop at s) ≡ took v l 
 abbrev FieldNot : List ℕ → Kind → List ℕ → ℕ → Fault → Type 0
 FieldNot key k s at f = (l : ℕ) → fieldOf key k l (drop at s) ≡ refused f l
 
-onto-onto : {A B C : Type 0} (o : Outcome A) (f : A → ℕ → List ℕ → Outcome B) (g : B → ℕ → List ℕ → Outcome C)
+pub onto-onto : {A B C : Type 0} (o : Outcome A) (f : A → ℕ → List ℕ → Outcome B) (g : B → ℕ → List ℕ → Outcome C)
     → onto (onto o f) g ≡ onto o (λ v l r. onto (f v l r) g)
 onto-onto (took v l r) f g = refl
 onto-onto (refused f l) g h = refl

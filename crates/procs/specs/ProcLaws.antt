@@ -25,19 +25,13 @@ use Rattle.records.specs.declared.ProcLine.{ProcLine}
 use Rattle.records.specs.declared.ProcLine.the-variants.{Is as IsProc, Refused as NotProc}
 use Rattle.records.specs.Answer.{Counted, headOf, ProcAt, Sized}
 use Rattle.nodes.specs.Answer.{Fits}
-use Rattle.rows.specs.declared.End.{End}
 use Rattle.rows.specs.declared.End.the-variants.{At, Refused}
-use Rattle.rows.specs.Rows.{endIn, RowsAt}
-use Rattle.rows.specs.RowLaws.{Step, Stop, Rowing, rows-start, rows-turn, rows-stop, rows-end}
+use Rattle.rows.specs.Rows.{RowsAt}
+use Rattle.rows.specs.RowLaws.{end-mapped, Step, Stop, Rowing, rows-start, rows-turn, rows-stop, rows-end}
 use Rattle.procs.specs.declared.Slots.{Slots}
 use Rattle.procs.specs.declared.ProcRow.{ProcRow}
 use Rattle.procs.specs.declared.Procs.{Procs}
 use Rattle.procs.specs.Answer.{SlotsAt, procFault, procOf, rowOf, rowIn, ProcRowAt, ProcsAt}
-
--- the outcome with a procedure made of what was read
-end-mapped : (e : End) (s : List ℕ) (l : ℕ) (a : List Slot) (f : List Slot → Proc) → endIn s l (f a) e ≡ onto (endIn s l a e) (λ x k r. took (f x) k r)
-end-mapped (At p) s l a f = refl
-end-mapped (Refused x) s l a f = refl
 
 abbrev scopeFor : Bool → Counts → ProcHead → Judged
 scopeFor closed x h = record { closed = closed; procs = x .procs; sems = x .sems; queues = x .queues; vars = h .vars; nodes = h .nodes }

@@ -10,7 +10,7 @@ use Rattle.table.specs.declared.Task.{Task}
 use Rattle.table.specs.declared.Sem.{Sem}
 use Rattle.table.specs.declared.Queue.{Queue}
 use Rattle.text.specs.declared.Fault.{Fault}
-use Rattle.text.specs.Line.{took, refused, Parser}
+use Rattle.text.specs.Line.{took, refused, Parser, onto}
 use Rattle.text.specs.Format.{taskLine, semLine}
 use Rattle.text.specs.Reader.{rows, taskRow, semRow, queueRow}
 use Rattle.fields.specs.Answer.{LineAt}
@@ -23,7 +23,12 @@ use Rattle.records.specs.declared.QueueLine.the-variants.{Is as IsQueue, Refuse
 use Rattle.records.specs.Answer.{taskOf, taskIn, semOf, semIn, QueueAt}
 use Rattle.rows.specs.declared.End.{End}
 use Rattle.rows.specs.declared.End.the-variants.{At, Refused}
-use Rattle.rows.specs.Rows.{RowsAt, taskFault, semFault, queueFault}
+use Rattle.rows.specs.Rows.{endIn, RowsAt, taskFault, semFault, queueFault}
+
+-- the outcome with something made of what was read
+pub end-mapped : {A B : Type 0} (e : End) (s : List ℕ) (l : ℕ) (a : A) (f : A → B) → endIn s l (f a) e ≡ onto (endIn s l a e) (λ x k r. took (f x) k r)
+end-mapped (At p) s l a f = refl
+end-mapped (Refused x) s l a f = refl
 
 -- row i, read at p on line l: what it holds, with the place and the line behind it; or its fault, with its line
 pub record Step {A : Type 0} (f : ℕ → Parser A) (i : ℕ) (s : List ℕ) (p l : ℕ) (a : A) (e l′ : ℕ) : Type 0 where
