@@ -120,4 +120,4 @@ node-scope c j Return = refl
 
 -- where there is no node nothing is written
 pub node-none : {l : List ℕ} {at : ℕ} (j : ℕ) → Put 240 l at (nodeBytes j Absent) l at
-node-none j = rw (node-absent j) (record { few = omega arith; bytes = λ u. refl; same = refl; next = omega arith })
+node-none j = rw (node-absent j) (record { few = omega arith; bytes = refl; same = refl; next = omega arith })

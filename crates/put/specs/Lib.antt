@@ -1,4 +1,5 @@
 pub mod Put
 pub mod PutLaws
+pub mod RowLaws
 pub mod Lists
 pub mod ListLaws

@@ -84,7 +84,7 @@ listing-start {l} {at} m h = record {
   places = refl;
   small = h;
   all = sym (members-above m);
-  put = record { few = omega arith; bytes = λ u. refl; same = refl; next = omega arith };
+  put = record { few = omega arith; bytes = refl; same = refl; next = omega arith };
 }
 
 module _ {l o : List ℕ} {at m p k rest : ℕ} (a : Listing l at m o p k rest) where
@@ -95,7 +95,7 @@ module _ {l o : List ℕ} {at m p k rest : ℕ} (a : Listing l at m o p k rest) 
       go zero e s = absurd (omega arith)
       go (suc n) e s = omega arith
 
-  pub listing-place : at ≤ 1000600 → k ≤ 32 → p + 1 ≤ 1000800
+  pub listing-place : at ≤ 1000000600 → k ≤ 32 → p + 1 ≤ 1000000800
   listing-place h u = omega (arith, a .put .few, a .put .next)
 
   pub listing-same : length o ≡ length l
@@ -146,7 +146,7 @@ module _ {l o : List ℕ} {at m p k rest : ℕ} (a : Listing l at m o p k rest) 
 -- ---- an item
 
 pub item-out : {l : List ℕ} {at b : ℕ} (from k : ℕ) → b ≡ 0 → Put (itemSize k) l at (itemText from at k b) l at
-item-out {l} {at} {b} from k h = rw (eq-eqb b 0 h) (record { few = omega arith; bytes = λ u. refl; same = refl; next = omega arith })
+item-out {l} {at} {b} from k h = rw (eq-eqb b 0 h) (record { few = omega arith; bytes = refl; same = refl; next = omega arith })
 
 item-digits : {l m : List ℕ} {at r : ℕ} (k : ℕ) → k < 32 → Put 3 l at (digits k) m r → Put (1 + min (k / 10) 1) l at (digits k) m r
 item-digits k u a = record { few = digits-two k (omega arith); bytes = a .bytes; same = a .same; next = a .next }

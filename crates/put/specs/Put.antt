@@ -5,11 +5,10 @@ use mathlib.Core.List.{List, _++_}
 use lib.ListN.{length}
 use lib.Seq.{sets}
 
--- The bytes t, at most k of them, stand at the place where the buffer reaches so far, and every other byte is as before; r is the place
--- after them. A buffer that does not reach so far keeps its length.
+-- The bytes t, at most k of them, stand at the place as far as the buffer reaches, and every other byte is as before; r is the place after them.
 pub record Put (k : ℕ) (before : List ℕ) (at : ℕ) (t after : List ℕ) (r : ℕ) : Type 0 where
   pub few : length t ≤ k
-  pub bytes : at + length t ≤ length before → after ≡ sets before at t
+  pub bytes : after ≡ sets before at t
   pub same : length after ≡ length before
   pub next : r ≡ at + length t
 
@@ -20,22 +19,22 @@ pub record PutField (k : ℕ) (before : List ℕ) (at : ℕ) (key value after : 
 -- Places so far down that what is written from there ends at a small number: a byte's, a number's, a value's, a field's, a line's, some lines'
 -- and a table's.
 abbrev pub ByteAt : ℕ → Type 0
-ByteAt at = at ≤ 2000000
+ByteAt at = at ≤ 2000000000
 
 abbrev pub DigitsAt : ℕ → Type 0
-DigitsAt at = at ≤ 1000800
+DigitsAt at = at ≤ 1000000800
 
 abbrev pub ValueAt : ℕ → Type 0
-ValueAt at = at ≤ 1000600
+ValueAt at = at ≤ 1000000600
 
 abbrev pub FieldAt : ℕ → Type 0
-FieldAt at = at ≤ 1000400
+FieldAt at = at ≤ 1000000400
 
 abbrev pub LineAt : ℕ → Type 0
-LineAt at = at ≤ 1000000
+LineAt at = at ≤ 1000000000
 
 abbrev pub LinesAt : ℕ → Type 0
-LinesAt at = at ≤ 900000
+LinesAt at = at ≤ 900000000
 
 abbrev pub TableAt : ℕ → Type 0
-TableAt at = at ≤ 500000
+TableAt at = at ≤ 500000000

@@ -1,12 +1,12 @@
 -- Laws of writing: one piece after another, a field, a line.
-use Prim.Native.Nat.{ℕ, suc, _+_, _-_, _/_, _%_, _≤_, _<_}
+use Prim.Native.Nat.{ℕ, zero, suc, _+_, _-_, _/_, _%_, _^_, _≤_, _<_}
 use mathlib.Core.Path.{_≡_, refl, sym, _∙_, ap}
 use mathlib.Core.List.{List, [], _∷_, _++_, append-assoc}
 use native.Mathlib.Omega.{arith}
-use native.Mathlib.Nat.{add-zero, add-suc, suc-add}
+use native.Mathlib.Nat.{add-zero, add-suc, suc-add, pow-suc}
 use native.Mathlib.Numerals.{add-one}
-use lib.ListN.{length, set, getD, take, length-append}
-use lib.Seq.{sets, length-sets, take-suc, take-all, length-take-le}
+use lib.ListN.{length, set, getD, take, drop, length-append, take-append-drop}
+use lib.Seq.{sets, length-sets, set-out, take-suc, take-all, length-take-le}
 use Rattle.text.specs.Number.{digits}
 use Rattle.text.specs.NumberLaws.{digits-small, digits-large}
 use lib.IntN.{ℤ, pos, negsuc}
@@ -26,10 +26,7 @@ sets-append (b ∷ t) u l at = sets-append t u _ (suc at) ∙ rw (suc-add, ← a
 pub put-after : {k j : ℕ} {l m n t u : List ℕ} {at p q : ℕ} → Put k l at t m p → Put j m p u n q → Put (k + j) l at (t ++ u) n q
 put-after {k} {j} {l} {m} {n} {t} {u} {at} {p} {q} a b = record {
   few = omega (arith, a .few, b .few, length-append t u);
-  bytes = λ h.
-      let e = length-append t u in
-      let c : m ≡ sets l at t = a .bytes (omega arith) in
-      b .bytes (omega (arith, a .next, a .same)) ∙ ap (λ (x : List ℕ). sets x p u) c ∙ ap (λ (i : ℕ). sets (sets l at t) i u) (a .next) ∙ sym (sets-append t u l at);
+  bytes = b .bytes ∙ ap (λ (x : List ℕ). sets x p u) (a .bytes) ∙ ap (λ (i : ℕ). sets (sets l at t) i u) (a .next) ∙ sym (sets-append t u l at);
   same = b .same ∙ a .same;
   next = b .next ∙ omega (arith, a .next, length-append t u);
 }
@@ -39,10 +36,22 @@ put-more h a = record { few = omega (arith, a .few); bytes = a .bytes; same = a 
 
 -- a byte past the end
 pub put-past : {l : List ℕ} {at b : ℕ} → length l ≤ at → Put 1 l at (b ∷ []) l (at + 1)
-put-past h = record { few = omega arith; bytes = λ k. absurd (omega arith); same = refl; next = refl }
+put-past {l} {at} {b} h = record { few = omega arith; bytes = sym (set-out l at b h); same = refl; next = refl }
 
-pub put-skip : {l t : List ℕ} {at : ℕ} → length l < at + length t → Put (length t) l at t l (at + length t)
-put-skip h = record { few = omega arith; bytes = λ k. absurd (omega arith); same = refl; next = refl }
+sets-out : (t l : List ℕ) (at : ℕ) → length l ≤ at → sets l at t ≡ l
+sets-out [] l at h = refl
+sets-out (b ∷ t) l at h = rw (set-out l at b h) (sets-out t l (suc at) (omega arith))
+
+-- a text past the end, and one that the end cuts
+pub put-skip : {l t : List ℕ} {at : ℕ} → length l ≤ at → Put (length t) l at t l (at + length t)
+put-skip {l} {t} {at} h = record { few = omega arith; bytes = sym (sets-out t l at h); same = refl; next = refl }
+
+pub put-cut : {l m t : List ℕ} {at k r : ℕ} → at ≤ length l → length l < at + length t → Put k l at (take (length l - at) t) m r → Put (length t) l at t m (at + length t)
+put-cut {l} {m} {t} {at} {k} {r} h g a =
+    let n = length l - at in
+    let e : at + length (take n t) ≡ length l = omega (arith, length-take-le n t (omega arith)) in
+    let b : sets l at t ≡ sets l at (take n t) = ap (sets l at) (sym (take-append-drop n t)) ∙ sets-append (take n t) (drop n t) l at ∙ sets-out (drop n t) (sets l at (take n t)) (at + length (take n t)) (omega (arith, length-sets l at (take n t))) in
+    record { few = omega arith; bytes = a .bytes ∙ sym b; same = a .same; next = refl }
 
 -- ---- a text, byte by byte
 pub record Copying (l : List ℕ) (at : ℕ) (t m : List ℕ) (i : ℕ) : Type 0 where
@@ -63,7 +72,7 @@ copying-turn {l} {t} {m} {at} {i} a h = record {
 
 pub copying-end : {l t m : List ℕ} {at i : ℕ} → Copying l at t m i → length t ≤ i → Put (length t) l at t m (at + length t)
 copying-end {l} {t} {m} {at} {i} a h = record
-    { few = omega arith; bytes = λ k. a .so-far ∙ ap (sets l at) (take-all i t h); same = copying-same a; next = refl }
+    { few = omega arith; bytes = a .so-far ∙ ap (sets l at) (take-all i t h); same = copying-same a; next = refl }
 
 -- ---- numbers
 
@@ -91,13 +100,13 @@ number-small n h a = rw (digits-small n h) a
 pub number-large : {l k m : List ℕ} {at p r : ℕ} (n : ℕ) → 10 ≤ n → Put (length (digits (n / 10))) l at (digits (n / 10)) k p → Put 1 k p ((48 + n % 10) ∷ []) m r → Put (length (digits n)) l at (digits n) m r
 number-large n h a b = put-more {k = length (digits (n / 10)) + 1} (omega (arith, large-length n h)) (rw (digits-large n h) (put-after a b))
 
-pub small-room : (at n : ℕ) → at + length (digits n) ≤ 2000000 → at ≤ 2000000
+pub small-room : (at n : ℕ) → at + length (digits n) ≤ 2000000000 → at ≤ 2000000000
 small-room at n h = omega arith
 
-pub large-room : (at n : ℕ) → 10 ≤ n → at + length (digits n) ≤ 2000000 → at + length (digits (n / 10)) ≤ 2000000
+pub large-room : (at n : ℕ) → 10 ≤ n → at + length (digits n) ≤ 2000000000 → at + length (digits (n / 10)) ≤ 2000000000
 large-room at n g h = omega (arith, large-length n g)
 
-pub last-room : {l k : List ℕ} {at p : ℕ} (n : ℕ) → 10 ≤ n → at + length (digits n) ≤ 2000000 → Put (length (digits (n / 10))) l at (digits (n / 10)) k p → p ≤ 2000000
+pub last-room : {l k : List ℕ} {at p : ℕ} (n : ℕ) → 10 ≤ n → at + length (digits n) ≤ 2000000000 → Put (length (digits (n / 10))) l at (digits (n / 10)) k p → p ≤ 2000000000
 last-room n g h a = omega (arith, large-length n g, a .next)
 
 pub put-same : {j : ℕ} {l m t : List ℕ} {at r : ℕ} → Put j l at t m r → length m ≡ length l
@@ -106,15 +115,16 @@ put-same a = a .same
 pub put-same-2 : {i j : ℕ} {l m n t u : List ℕ} {at p q r : ℕ} → Put i l at t m p → Put j m q u n r → length n ≡ length l
 put-same-2 a b = b .same ∙ a .same
 
--- ten digits stand below 10 ^ 10
+-- the count of a number's digits
+pub digits-few : (k n : ℕ) → n < 10 ^ suc k → length (digits n) ≤ suc k
+digits-few zero n h = omega (arith, small-length n h)
+digits-few (suc k) n h = byOrder n 10 (λ s. omega (arith, small-length n s)) (λ g. omega (arith, large-length n g, digits-few k (n / 10) (let e = pow-suc 10 (suc k) in omega arith)))
+
 pub digits-ten : (n : ℕ) → n < 10000000000 → length (digits n) ≤ 10
-digits-ten n h = step n 10 (omega arith) (λ a. step (n / 10) 9 (omega arith) (λ b. step (n / 10 / 10) 8 (omega arith) (λ c. step (n / 10 / 10 / 10) 7 (omega arith) (λ d.
-    step (n / 10 / 10 / 10 / 10) 6 (omega arith) (λ e. step (n / 10 / 10 / 10 / 10 / 10) 5 (omega arith) (λ f. step (n / 10 / 10 / 10 / 10 / 10 / 10) 4 (omega arith) (λ g.
-    step (n / 10 / 10 / 10 / 10 / 10 / 10 / 10) 3 (omega arith) (λ i. step (n / 10 / 10 / 10 / 10 / 10 / 10 / 10 / 10) 2 (omega arith) (λ j.
-    omega (arith, small-length (n / 10 / 10 / 10 / 10 / 10 / 10 / 10 / 10 / 10) (omega arith)))))))))))
-  where
-    step : (m k : ℕ) → 1 ≤ k - 1 → (10 ≤ m → length (digits (m / 10)) ≤ k - 1) → length (digits m) ≤ k
-    step m k o f = byOrder m 10 (λ s. omega (arith, small-length m s)) (λ g. omega (arith, large-length m g, f g))
+digits-ten n h = digits-few 9 n h
+
+pub digits-twenty : (n : ℕ) → n < 100000000000000000000 → length (digits n) ≤ 20
+digits-twenty n h = digits-few 19 n h
 
 -- ---- operands
 
@@ -144,9 +154,12 @@ put-negative {b = b} c f e h u a o =
     let g = e ∙ bits-back c f in
     rw (constant-below c f (rw g at h), ← g) (put-more (omega (arith, digits-ten (4294967295 - b + 1) (omega arith))) (put-after a o))
 
--- a number of 32 bits stands below 2000000, begun low
-pub number-room : (at n : ℕ) → at ≤ 1000700 → n < 10000000000 → at + length (digits n) ≤ 2000000
-number-room at n h k = omega (arith, digits-ten n k)
+-- a number of 64 bits stands below 2000000000, begun low
+pub number-room : (at n : ℕ) → at ≤ 1000000700 → n < 100000000000000000000 → at + length (digits n) ≤ 2000000000
+number-room at n h k = omega (arith, digits-twenty n k)
+
+pub put-twenty : {l m : List ℕ} {at r : ℕ} (n : ℕ) → n < 100000000000000000000 → Put (length (digits n)) l at (digits n) m r → Put 20 l at (digits n) m r
+put-twenty n h a = put-more (digits-twenty n h) a
 
 pub put-variable-operand : {l m n : List ℕ} {at p r : ℕ} (v : ℕ) → Put 1 l at (118 ∷ []) m p → Put 3 m p (digits v) n r → Put 11 l at (spellOperand (Var v)) n r
 put-variable-operand v a b = put-more (omega arith) (put-after a b)

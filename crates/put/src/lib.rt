@@ -46,6 +46,11 @@ pub fn put_text(out: &mut [u8], at: usize, t: &[u8]) -> usize
         copy_in(out, at, t);
         return end;
     }
+    if out.len() <= at {
+        return end;
+    }
+    let n = out.len() - at;
+    copy_in(out, at, &t[..n]);
     end
 }
 
@@ -67,8 +72,8 @@ pub fn put_small(out: &mut [u8], at: usize, n: u8) -> usize
 }
 
 // The decimal digits of any number.
-pub fn put_number(out: &mut [u8], at: usize, n: u32) -> usize
-    requires { ⌜ at + length (digits n) ≤ 2000000 ⌝ }
+pub fn put_number(out: &mut [u8], at: usize, n: u64) -> usize
+    requires { ⌜ at + length (digits n) ≤ 2000000000 ⌝ }
     ensures { λ r. ⌜ Put (length (digits n)) (now (out .entry)) at (digits n) (now (out .exit)) r ⌝ }
 {
     if n < 10 {
@@ -85,10 +90,10 @@ pub fn put_constant(out: &mut [u8], at: usize, c: i32) -> usize
 {
     let b = values::bits_of(c);
     if b < 2147483648 {
-        return put_number(out, at, b);
+        return put_number(out, at, b as u64);
     }
     let a = put_byte(out, at, 45);
-    put_number(out, a, 4294967295 - b + 1)
+    put_number(out, a, (4294967295 - b + 1) as u64)
 }
 
 pub fn put_operand_value(out: &mut [u8], at: usize, o: Operand) -> usize
@@ -211,6 +216,14 @@ pub fn put_count(out: &mut [u8], at: usize, key: &[u8], v: u8) -> usize
 {
     let a = put_text(out, at, key);
     put_small(out, a, v)
+}
+
+pub fn put_size(out: &mut [u8], at: usize, key: &[u8], n: usize) -> usize
+    requires { ⌜ (FieldAt at) × (length (now key) ≤ 64) ⌝ }
+    ensures { λ r. ⌜ PutField (length (now (key .entry)) + 20) (now (out .entry)) at (now (key .entry)) (digits n) (now (out .exit)) r ⌝ }
+{
+    let a = put_text(out, at, key);
+    put_number(out, a, n as u64)
 }
 
 pub fn put_variable(out: &mut [u8], at: usize, key: &[u8], v: u8) -> usize

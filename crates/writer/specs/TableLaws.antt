@@ -1,10 +1,8 @@
 -- Laws of a table's lines, one after another.
 use Prim.Native.Nat.{ℕ, zero, suc, _+_, _*_, _≤_, _<_}
 use mathlib.Core.Path.{_≡_, refl, sym, _∙_, ap}
-use mathlib.Core.List.{List, [], _∷_, _++_, append-nil, append-assoc}
+use mathlib.Core.List.{List, [], _∷_, _++_, append-assoc}
 use native.Mathlib.Omega.{arith}
-use native.Mathlib.Nat.{add-zero}
-use native.Mathlib.Numerals.{add-one}
 use lib.ListN.{length, drop}
 use lib.Seq.{sets-eq}
 use borrow.Author.Tests.{lt-ltb, le-ltb}
@@ -17,39 +15,10 @@ use Rattle.text.specs.Writer.{text, procText, scope, nodeText, queueVals, fitte
 use Rattle.text.specs.Fault.{number}
 use Rattle.put.specs.Put.{Put}
 use Rattle.put.specs.PutLaws.{put-after, put-more}
+use Rattle.put.specs.RowLaws.{concat-same}
 use Rattle.lines.specs.Lines.{headText, countsText}
 use Rattle.lines.specs.LineLaws.{head-text, counts-text, task-text, sem-text, queue-text, proc-text, node-scope}
 use Rattle.writer.specs.Table.{taskBytes, semBytes, queueBytes, slotBytes, procsBytes, WrittenAs}
-
--- ---- rows
-
-concat-last : (f : ℕ → List ℕ) (n i : ℕ) → concat f (suc n) i ≡ concat f n i ++ f (i + n)
-unfolding concat
-concat-last f zero i = append-nil (f i) ∙ ap f (sym (add-zero i))
-concat-last f (suc n) i =
-    let e : suc i + n ≡ i + suc n = omega arith in
-    ap (λ (x : List ℕ). f i ++ x) (concat-last f n (suc i)) ∙ sym (append-assoc (f i) (concat f n (suc i)) (f (suc i + n))) ∙ ap (λ (k : ℕ). (f i ++ concat f n (suc i)) ++ f k) e
-
-concat-same : (f g : ℕ → List ℕ) → ((i : ℕ) → f i ≡ g i) → (n i : ℕ) → concat f n i ≡ concat g n i
-unfolding concat
-concat-same f g h zero i = refl
-concat-same f g h (suc n) i = rw (h i, concat-same f g h n (suc i))
-
--- i rows of at most k bytes stand there
-pub record PutRows (k : ℕ) (f : ℕ → List ℕ) (before : List ℕ) (at : ℕ) (after : List ℕ) (p i : ℕ) : Type 0 where
-  pub put : Put (k * i) before at (concat f i 0) after p
-
-pub rows-start : {k : ℕ} {f : ℕ → List ℕ} {l : List ℕ} {at : ℕ} → PutRows k f l at l at 0
-unfolding concat
-rows-start {k} = record { put = record { few = omega arith; bytes = λ u. refl; same = refl; next = omega arith } }
-
-pub rows-turn : {k i p q at : ℕ} {f : ℕ → List ℕ} {l m n : List ℕ} → PutRows k f l at m p i → Put k m p (f i) n q → PutRows k f l at n q (i + 1)
-rows-turn {k} {i} {f = f} a b =
-    let z : 0 + i ≡ i = omega arith in
-    record { put = rw (add-one i, concat-last f i 0, z) (put-more (omega arith) (put-after (a .put) b)) }
-
-pub rows-end : {k i n p at : ℕ} {f : ℕ → List ℕ} {l m : List ℕ} → PutRows k f l at m p i → i ≤ n → n ≤ i → Put (k * n) l at (concat f n 0) m p
-rows-end {k} {i} {n} {p} {at} {f} {l} {m} a h g = let e : i ≡ n = omega arith in rw (← e) (a .put)
 
 -- ---- the whole text
 
@@ -103,7 +72,7 @@ whole-as : (s l k : List ℕ) (q : ℕ) → length s ≤ length l → Put 65536 
 whole-as s l k q h a =
     let e : q ≡ length s = omega (arith, a .next) in
     let z : 0 + length s ≡ length s = omega arith in
-    let b : k ≡ s ++ drop (length s) l = a .bytes (omega arith) ∙ sets-eq s l 0 (omega arith) ∙ ap (λ (i : ℕ). s ++ drop i l) z in
+    let b : k ≡ s ++ drop (length s) l = a .bytes ∙ sets-eq s l 0 (omega arith) ∙ ap (λ (i : ℕ). s ++ drop i l) z in
     record { answer = rw (le-ltb (length l) (length s) h, fitted, e); buffer = rw (le-ltb (length l) (length s) h, fitted) b }
 
 pub ready-large : {s l k : List ℕ} {q : ℕ} → 65536 ≤ length l → Put 65536 l 0 s k q → WrittenAs s l k (record { number = 0; line = 0; len = q })

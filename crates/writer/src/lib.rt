@@ -41,7 +41,7 @@ fn put_nodes(out: &mut [u8], at: usize, slots: [Slot; 32], n: u8) -> usize
 
 // A procedure's line and its node lines.
 fn put_proc(out: &mut [u8], at: usize, closed: bool, i: u8, q: Proc) -> usize
-    requires { ⌜ (at ≤ 800000) × (ProcIn q) ⌝ }
+    requires { ⌜ (at ≤ 800000000) × (ProcIn q) ⌝ }
     ensures { λ r. ⌜ Put 7820 (now (out .entry)) at (procBytes closed i q) (now (out .exit)) r ⌝ }
 {
     let a = put_proc_line(out, at, closed, i, q.params, q.vars, q.nodes, q.drop);

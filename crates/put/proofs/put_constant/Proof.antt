@@ -7,6 +7,9 @@ use Rattle.put.proofs.put_constant.Tie as tie
 bits-of-requires : tie.Need-bits-of-requires
 bits-of-requires c κs = search needs
 
+cast-put-number : tie.Need-cast-put-number
+cast-put-number c = search needs
+
 put-number-requires : tie.Need-put-number-requires
 put-number-requires c κs = number-room _ _ (omega arith) (omega arith)
 
@@ -25,6 +28,9 @@ sub-put-number c = search needs
 add-put-number : tie.Need-add-put-number
 add-put-number c = search needs
 
+cast-put-number-2 : tie.Need-cast-put-number-2
+cast-put-number-2 c = search needs
+
 put-number-requires-2 : tie.Need-put-number-requires-2
 put-number-requires-2 c κs = number-room _ _ (omega arith) (omega arith)
 
@@ -39,12 +45,14 @@ put-constant-spec =
     tie.close
     (tie.spec
     bits-of-requires
+    cast-put-number
     put-number-requires
     same-length
     returns
     put-byte-requires
     sub-put-number
     add-put-number
+    cast-put-number-2
     put-number-requires-2
     same-length-2
     returns-2)

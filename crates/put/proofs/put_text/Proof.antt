@@ -1,4 +1,9 @@
-use Rattle.put.specs.PutLaws.{put-skip}
+use Prim.Native.Nat.{_-_}
+use mathlib.Core.Path.{sym}
+use lib.ListN.{length}
+use lib.Seq.{length-take-le}
+use Rattle.put.specs.PutLaws.{put-skip, put-cut}
+use native.Mathlib.Omega.{arith}
 use borrow.Author.Needs.{needs}
 use Rattle.put.proofs.put_text.Statement.{statement}
 use Rattle.put.proofs.put_text.Tie as tie
@@ -18,5 +23,32 @@ returns c = search needs
 returns-2 : tie.Need-returns-2
 returns-2 c = search (needs, put-skip)
 
+sub-n : tie.Need-sub-n
+sub-n c = search needs
+
+slice-aggregate-copy-in : tie.Need-slice-aggregate-copy-in
+slice-aggregate-copy-in c = sym (length-take-le _ _ (omega arith))
+
+copy-in-requires-2 : tie.Need-copy-in-requires-2
+copy-in-requires-2 c κs = omega (arith, length-take-le (length (c .before .before .before .before .before .before .args .out .now) - c .before .before .before .before .before .before .args .at) (c .before .before .before .before .before .before .args .t .now) (omega arith))
+
+same-length-2 : tie.Need-same-length-2
+same-length-2 c = search needs
+
+returns-3 : tie.Need-returns-3
+returns-3 c = put-cut (omega arith) (omega arith) (c .before .before .copy-in2 .ensures)
+
 pub put-text-spec : {M : Type 1} → statement M
-put-text-spec = tie.close (tie.spec add-end copy-in-requires same-length returns returns-2)
+put-text-spec =
+    tie.close
+    (tie.spec
+    add-end
+    copy-in-requires
+    same-length
+    returns
+    returns-2
+    sub-n
+    slice-aggregate-copy-in
+    copy-in-requires-2
+    same-length-2
+    returns-3)

@@ -1,5 +1,5 @@
 use Rattle.writer.specs.Table.{slotBytes}
-use Rattle.writer.specs.TableLaws.{PutRows, rows-start, rows-turn, rows-end}
+use Rattle.put.specs.RowLaws.{PutRows, rows-start, rows-turn, rows-end}
 use Prim.Native.Nat.{_-_, _≤_}
 use borrow.Author.Needs.{needs}
 use native.Mathlib.Omega.{arith}

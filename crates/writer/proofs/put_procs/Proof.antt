@@ -1,4 +1,4 @@
-use Rattle.writer.specs.TableLaws.{PutRows, rows-start, rows-turn, rows-end}
+use Rattle.put.specs.RowLaws.{PutRows, rows-start, rows-turn, rows-end}
 use Prim.Native.Nat.{_-_, _≤_}
 use Rattle.writer.specs.Table.{procsBytes}
 use borrow.Author.Needs.{needs}

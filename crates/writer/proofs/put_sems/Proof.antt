@@ -1,6 +1,6 @@
 use Rattle.table.specs.Table.{noSem}
 use Rattle.writer.specs.Table.{semBytes}
-use Rattle.writer.specs.TableLaws.{PutRows, rows-start, rows-turn, rows-end}
+use Rattle.put.specs.RowLaws.{PutRows, rows-start, rows-turn, rows-end}
 use Prim.Native.Nat.{_-_, _≤_}
 use lib.ListN.{getD}
 use borrow.Author.Needs.{needs}
