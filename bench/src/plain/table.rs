@@ -168,7 +168,7 @@ impl Operand {
 impl Proc {
     /// The nodes in use, absent ones among them.
     pub fn used(&self) -> &[Node] {
-        &self.nodes[..self.count as usize]
+        &self.nodes[..NODES.min(self.count as usize)]
     }
 
     /// The targets that an arc may have: 1 to n-1.

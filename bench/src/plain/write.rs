@@ -114,17 +114,17 @@ fn table(t: &Table, s: &mut impl Sink) {
     pair(s, b" sems=", t.sem_count);
     pair(s, b" queues=", t.queue_count);
     s.put(b"\n");
-    for (i, &top) in t.tops[..t.task_count as usize].iter().enumerate() {
+    for (i, &top) in first(&t.tops, t.task_count).iter().enumerate() {
         pair(s, b"task=", i as u8);
         pair(s, b" top=", top);
         s.put(b"\n");
     }
-    for (i, &count) in t.sems[..t.sem_count as usize].iter().enumerate() {
+    for (i, &count) in first(&t.sems, t.sem_count).iter().enumerate() {
         pair(s, b"sem=", i as u8);
         pair(s, b" count=", count);
         s.put(b"\n");
     }
-    for (i, queue) in t.queues[..t.queue_count as usize].iter().enumerate() {
+    for (i, queue) in first(&t.queues, t.queue_count).iter().enumerate() {
         pair(s, b"queue=", i as u8);
         pair(s, b" cap=", queue.cap);
         if t.closed {
@@ -135,9 +135,14 @@ fn table(t: &Table, s: &mut impl Sink) {
         }
         s.put(b"\n");
     }
-    for (i, p) in t.procs[..t.proc_count as usize].iter().enumerate() {
+    for (i, p) in first(&t.procs, t.proc_count).iter().enumerate() {
         procedure(i as u8, p, t.closed, s);
     }
+}
+
+/// The places in use, no more than there are.
+fn first<T>(places: &[T], count: u8) -> &[T] {
+    &places[..places.len().min(count as usize)]
 }
 
 fn procedure(i: u8, p: &Proc, closed: bool, s: &mut impl Sink) {
@@ -164,7 +169,7 @@ fn node(n: &Node, s: &mut impl Sink) {
         Node::Absent => {}
         Node::Start { to } => list(s, b" kind=start to=", to),
         Node::Set { var, op, a, b, to } => {
-            pair(s, b" kind=set var=", var);
+            variable(s, b" kind=set var=", var);
             op_name(s, op);
             operand(s, b" a=", a);
             operand(s, b" b=", b);
@@ -179,7 +184,7 @@ fn node(n: &Node, s: &mut impl Sink) {
             list(s, b" no=", no);
         }
         Node::Read { var, to } => {
-            pair(s, b" kind=read var=", var);
+            variable(s, b" kind=read var=", var);
             list(s, b" to=", to);
         }
         Node::Call {
@@ -294,7 +299,7 @@ fn arguments(s: &mut impl Sink, count: u8, args: &[u8; PARAMS]) {
         return;
     }
     variable(s, b" args=", args[0]);
-    for &arg in &args[1..(count as usize).min(PARAMS)] {
-        variable(s, b",", arg);
+    for i in 1..count as usize {
+        variable(s, b",", args.get(i).copied().unwrap_or(0));
     }
 }
