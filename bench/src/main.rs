@@ -16,7 +16,8 @@ const USAGE: &str = "usage: bench vectors DIR
        bench compare [CASES] [SEED]
        bench show SEED
        bench handmade [CASES SEED]
-       bench speed";
+       bench speed
+       bench once proved|plain";
 
 fn main() -> ExitCode {
     let words: Vec<String> = std::env::args().skip(1).collect();
@@ -42,6 +43,10 @@ fn command(words: &[String]) -> Result<bool, String> {
         ["handmade", cases, seed] => Ok(handmade::handmade(number(cases)?, number(seed)?)),
         ["show", seed] => {
             compare::show(number(seed)?);
+            Ok(true)
+        }
+        ["once", side @ ("proved" | "plain")] => {
+            speed::once(side == "proved");
             Ok(true)
         }
         ["speed"] => {

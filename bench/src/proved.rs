@@ -142,15 +142,10 @@ pub use stand_in::*;
 #[cfg(not(proved))]
 mod stand_in {
     use crate::plain::programs;
-    use crate::plain::read;
-    use crate::plain::table::Table;
-    use crate::plain::Refusal;
 
-    pub use programs::{close_text as close, run_text as run, write_text as write};
-
-    pub fn read(text: &[u8]) -> Result<(), Refusal> {
-        read::read(text, &mut Table::default())
-    }
+    pub use programs::{
+        close_text as close, read_text as read, run_text as run, write_text as write,
+    };
 
     pub fn steps(
         text: &[u8],

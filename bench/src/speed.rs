@@ -2,9 +2,7 @@
 
 use crate::generate::extremes::{self, LongRun, MOST};
 use crate::generate::lines_of;
-use crate::plain::programs::{close_text, steps_text, write_text};
-use crate::plain::read::read;
-use crate::plain::table::Table;
+use crate::plain::programs::{close_text, read_text, steps_text, write_text};
 use crate::proved;
 use std::hint::black_box;
 use std::time::{Duration, Instant};
@@ -42,13 +40,43 @@ pub fn speed() {
     }
 }
 
+/// Does each thing that is measured once, by one side, to count its instructions.
+pub fn once(by_proved: bool) {
+    let mut out = vec![0; 1 << 16];
+    for table in [extremes::longest_open(), extremes::longest_closed()] {
+        let text = lines_of(&table);
+        match by_proved {
+            true => _ = black_box((proved::read(&text), proved::write(&text, &mut out))),
+            false => {
+                let done = (read_text(&text), write_text(&text, &mut out));
+                _ = black_box(done);
+            }
+        }
+    }
+    for (_, table) in extremes::hard() {
+        let text = lines_of(&table);
+        match by_proved {
+            true => _ = black_box(proved::close(&text, &mut out)),
+            false => _ = black_box(close_text(&text, &mut out)),
+        }
+    }
+    let mut log = vec![0; STEPS * 8];
+    for run in extremes::long_runs(STEPS) {
+        let text = lines_of(&run.table);
+        let (schedule, values) = (&run.schedule, &run.values);
+        match by_proved {
+            true => _ = black_box(proved::steps(&text, schedule, values, MOST, &mut log)),
+            false => _ = black_box(steps_text(&text, schedule, values, MOST, &mut log)),
+        }
+    }
+}
+
 /// Reading, and reading and writing, of a text.
 fn texts(name: &str, text: &[u8]) {
     let megabytes = text.len() as f64 / 1e6;
-    let mut table = Table::default();
     let best = measure(
         || _ = black_box(proved::read(black_box(text))),
-        || _ = black_box(read(black_box(text), &mut table)),
+        || _ = black_box(read_text(black_box(text))),
     );
     row(
         &format!("read {name}, {} bytes", text.len()),

@@ -16,6 +16,11 @@ pub fn close_text(text: &[u8], out: &mut [u8]) -> usize {
     done.unwrap_or_else(|refusal| print_refusal(refusal, out))
 }
 
+/// Reads a text.
+pub fn read_text(text: &[u8]) -> Result<(), Refusal> {
+    read(text, &mut Table::default())
+}
+
 /// Reads a text and writes its table.
 pub fn write_text(text: &[u8], out: &mut [u8]) -> Result<usize, Refusal> {
     let mut table = Table::default();

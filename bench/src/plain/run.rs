@@ -118,19 +118,6 @@ pub struct Machine<'a, const CLOSED: bool> {
     pub used: usize,
 }
 
-/// What a step does outside the frame in which it goes on.
-enum Effect {
-    None,
-    Wait(u8),
-    Signal(u8),
-    Send(u8, i32),
-    Recv(u8),
-    Return,
-}
-
-/// Where a step leaves its task: before a node, or lost.
-type Landing = Option<u8>;
-
 impl<'a, const CLOSED: bool> Machine<'a, CLOSED> {
     pub fn new(table: &'a Table, values: &'a [i32], most: u32) -> Self {
         Machine {
@@ -190,7 +177,7 @@ impl<'a, const CLOSED: bool> Machine<'a, CLOSED> {
     }
 
     /// One step of a task, logged at a place; a stopped step changes nothing.
-    #[inline]
+    #[inline(always)]
     pub fn step(
         &mut self,
         state: &mut State,
@@ -200,71 +187,71 @@ impl<'a, const CLOSED: bool> Machine<'a, CLOSED> {
         if number >= self.table.task_count {
             return Err(10);
         }
-        let Some(place) = place else {
-            return Err(11);
-        };
+        let place = place.ok_or(11u8)?;
         let State {
             tasks,
             sems,
             queues,
         } = state;
-        let task = &mut tasks[number as usize];
-        if task.lost {
+        let Task {
+            depth,
+            lost,
+            frames,
+        } = &mut tasks[number as usize % TASKS];
+        if *lost {
             return Err(12);
         }
-        let top = task.depth as usize - 1;
-        let (below, rest) = task.frames.split_at_mut(top);
+        let (below, rest) = frames.split_at_mut(*depth as usize - 1);
         let (frame, above) = rest.split_first_mut().ok_or(13u8)?;
         let (proc, node) = (frame.proc, frame.node);
         let mut shown = None;
-        let mut write = None;
-        let mut effect = Effect::None;
-        let arc = match self.table.procs[proc as usize % PROCS].nodes[node as usize % NODES] {
-            Node::Start { to } => to,
+        match self.table.procs[proc as usize % PROCS].nodes[node as usize % NODES] {
+            Node::Start { to } => self.go_on(frame, lost, to, None)?,
             Node::Set { var, op, a, b, to } => {
-                write = Some((var, op.apply(a.value(&frame.vars), b.value(&frame.vars))));
-                to
+                let value = op.apply(a.value(&frame.vars), b.value(&frame.vars));
+                self.go_on(frame, lost, to, Some((var, value)))?;
             }
             Node::Test { op, a, b, yes, no } => {
-                match op.apply(a.value(&frame.vars), b.value(&frame.vars)) {
-                    0 => no,
-                    _ => yes,
-                }
+                let holds = op.apply(a.value(&frame.vars), b.value(&frame.vars)) != 0;
+                self.go_on(frame, lost, if holds { yes } else { no }, None)?;
             }
             Node::Wait { sem, to } => {
-                if sems[sem as usize] == 0 {
+                let count = &mut sems[sem as usize % SEMS];
+                if *count == 0 {
                     return Err(13);
                 }
-                effect = Effect::Wait(sem);
-                to
+                self.go_on(frame, lost, to, None)?;
+                *count -= 1;
             }
             Node::Signal { sem, to } => {
-                if sems[sem as usize] == 255 {
+                let count = &mut sems[sem as usize % SEMS];
+                if *count == u8::MAX {
                     return Err(13);
                 }
-                effect = Effect::Signal(sem);
-                to
+                self.go_on(frame, lost, to, None)?;
+                *count += 1;
             }
             Node::Send { queue, var, to } => {
-                if queues[queue as usize].len >= self.table.queues[queue as usize].cap {
+                let entries = &mut queues[queue as usize % QUEUES];
+                if entries.len >= self.table.queues[queue as usize % QUEUES].cap {
                     return Err(13);
                 }
-                effect = Effect::Send(queue, value_of(frame, var).unwrap_or(0));
-                to
+                let value = value_of(frame, var).unwrap_or(0);
+                self.go_on(frame, lost, to, None)?;
+                entries.append(value);
             }
             Node::Recv { queue, var, to } => {
-                if queues[queue as usize].len == 0 {
+                let entries = &mut queues[queue as usize % QUEUES];
+                if entries.len == 0 {
                     return Err(13);
                 }
-                effect = Effect::Recv(queue);
-                if var != GONE {
-                    write = Some((var, queues[queue as usize].oldest()));
-                }
-                to
+                let write = (var != GONE).then(|| (var, entries.oldest()));
+                self.go_on(frame, lost, to, write)?;
+                entries.remove();
             }
             Node::Assert { var, to } | Node::Out { var, to } => {
                 shown = value_of(frame, var);
-                to
+                self.go_on(frame, lost, to, None)?;
             }
             Node::Call {
                 proc: callee,
@@ -274,82 +261,65 @@ impl<'a, const CLOSED: bool> Machine<'a, CLOSED> {
             } => {
                 let new = above.first_mut().ok_or(13u8)?;
                 enter(new, callee, &args[..count as usize], frame);
-                task.depth += 1;
-                log_entry(place, [number, proc, node], None);
-                return Ok(());
+                *depth += 1;
             }
             Node::Return => {
-                let caller = below.last().ok_or(13u8)?;
-                effect = Effect::Return;
-                self.call_arc(caller)
+                let caller = below.last_mut().ok_or(13u8)?;
+                let to = self.call_arc(caller);
+                self.go_on(caller, lost, to, None)?;
+                *depth -= 1;
             }
             Node::Read { .. } | Node::Absent => return Err(13),
-        };
-        let frame = match effect {
-            Effect::Return => below.last_mut().ok_or(13u8)?,
-            _ => frame,
-        };
-        let landing = self.go_on(frame, arc, write)?;
-        match landing {
-            Some(node) => frame.node = node,
-            None => {
-                frame.node = 0;
-                task.lost = true;
-            }
-        }
-        match effect {
-            Effect::None => {}
-            Effect::Wait(sem) => sems[sem as usize] -= 1,
-            Effect::Signal(sem) => sems[sem as usize] += 1,
-            Effect::Send(queue, value) => queues[queue as usize].append(value),
-            Effect::Recv(queue) => queues[queue as usize].remove(),
-            Effect::Return => task.depth -= 1,
         }
         log_entry(place, [number, proc, node], shown);
         Ok(())
     }
 
     /// The arc of the call at which a frame stands.
+    #[inline]
     fn call_arc(&self, caller: &Frame) -> Arc {
-        match self.table.procs[caller.proc as usize].nodes[caller.node as usize] {
+        match self.table.procs[caller.proc as usize % PROCS].nodes[caller.node as usize % NODES] {
             Node::Call { to, .. } => to,
             _ => 0,
         }
     }
 
     /// Takes an arc of a frame after an own setting; a stop leaves the frame as it was.
-    #[inline]
+    #[inline(always)]
     fn go_on(
         &mut self,
         frame: &mut Frame,
+        lost: &mut bool,
         arc: Arc,
         write: Option<(u8, i32)>,
-    ) -> Result<Landing, Stop> {
-        let landing = if CLOSED {
+    ) -> Result<(), Stop> {
+        let target = if CLOSED {
             self.toss(arc)?
         } else {
             let target = arc.trailing_zeros();
-            if self.kept[frame.proc as usize] >> target & 1 == 0 {
-                return self.through_dropped(frame, target, write).map(Some);
+            if self.kept[frame.proc as usize % PROCS] >> (target % 32) & 1 == 0 {
+                return self.through_dropped(frame, target, write);
             }
-            Some(target as u8)
+            target
         };
         if let Some((var, value)) = write {
-            frame.vars[var as usize] = value;
+            frame.vars[var as usize % VARS] = value;
         }
-        Ok(landing)
+        if target < NODES as u32 {
+            frame.node = target as u8;
+        } else {
+            frame.node = 0;
+            *lost = true;
+        }
+        Ok(())
     }
 
-    /// The target of a closed arc.
+    /// The target of a closed arc; 32 where it has none.
     #[inline]
-    fn toss(&mut self, mut arc: Arc) -> Result<Landing, Stop> {
-        let count = arc.count_ones();
-        if count == 0 {
-            return Ok(None);
-        }
-        if count > 1 {
+    fn toss(&mut self, mut arc: Arc) -> Result<u32, Stop> {
+        if arc & arc.wrapping_sub(1) != 0 {
             let value = *self.values.get(self.used).ok_or(15u8)?;
-            if value < 0 || value as u32 >= count {
+            if value < 0 || value as u32 >= arc.count_ones() {
                 return Err(16);
             }
             for _ in 0..value {
@@ -357,7 +327,7 @@ impl<'a, const CLOSED: bool> Machine<'a, CLOSED> {
             }
             self.used += 1;
         }
-        Ok(Some(arc.trailing_zeros() as u8))
+        Ok(arc.trailing_zeros())
     }
 
     /// Executes dropped nodes of a frame until a kept one is met.
@@ -366,7 +336,7 @@ impl<'a, const CLOSED: bool> Machine<'a, CLOSED> {
         frame: &mut Frame,
         target: u32,
         write: Option<(u8, i32)>,
-    ) -> Result<u8, Stop> {
+    ) -> Result<(), Stop> {
         let p = &self.table.procs[frame.proc as usize];
         let kept = self.kept[frame.proc as usize];
         let mut vars = frame.vars;
@@ -396,8 +366,9 @@ impl<'a, const CLOSED: bool> Machine<'a, CLOSED> {
             at = to.trailing_zeros();
             if kept >> at & 1 == 1 {
                 frame.vars = vars;
+                frame.node = at as u8;
                 self.used = used;
-                return Ok(at as u8);
+                return Ok(());
             }
         }
         Err(14)
@@ -421,10 +392,12 @@ fn value_of(frame: &Frame, var: u8) -> Option<i32> {
     frame.vars.get(var as usize).copied()
 }
 
+/// Writes the 8 bytes of a step: task, procedure, node, flag, value.
 #[inline]
 fn log_entry(place: &mut [u8], head: [u8; 3], shown: Option<i32>) {
-    let value = shown.unwrap_or(0).to_le_bytes();
-    place[..3].copy_from_slice(&head);
-    place[3] = shown.is_some() as u8;
-    place[4..].copy_from_slice(&value);
+    let [task, proc, node] = head;
+    let first = u32::from_le_bytes([task, proc, node, shown.is_some() as u8]);
+    let value = shown.unwrap_or(0) as u32;
+    let entry = first as u64 | (value as u64) << 32;
+    place.copy_from_slice(&entry.to_le_bytes());
 }
