@@ -326,22 +326,26 @@ impl<'a> Lines<'a> {
             return Ok(0);
         }
         let (mut mask, mut stray) = (0u32, false);
-        let mut before: Option<(u32, &[u8])> = None;
+        let (mut least, mut before) = (0, self.rest);
+        let mut start = self.rest;
         loop {
-            let start = self.rest;
-            let item = self.digits()?;
-            let spelt = &start[..start.len() - self.rest.len()];
-            if before.is_some_and(|(b, s)| b > item || b == item && !follows(item, s, spelt)) {
+            let (item, rest) = digits(start)?;
+            if item < least && !(item == LARGE && larger(start, before)) {
                 return Err(2);
             }
-            before = Some((item, spelt));
+            (least, before) = (item + 1, start);
             if item < 32 {
                 mask |= 1 << item;
             } else {
                 stray = true;
             }
-            if !self.comma()? {
-                break;
+            match rest {
+                [b',', rest @ ..] => start = rest,
+                [b' ' | b'\n', ..] => {
+                    self.rest = rest;
+                    break;
+                }
+                _ => return Err(2),
             }
         }
         if stray || mask & !allowed != 0 {
@@ -431,13 +435,18 @@ impl<'a> Lines<'a> {
     /// A whole value of digits, exact up to 32 bits.
     #[inline]
     fn size(&mut self) -> Result<u64, Fault> {
-        let mut n = self.digit()? as u64;
+        let [first @ b'0'..=b'9', rest @ ..] = self.rest else {
+            return Err(2);
+        };
+        let mut rest = rest;
+        let mut n = (first - b'0') as u64;
         if n != 0 {
-            while let [d @ b'0'..=b'9', rest @ ..] = self.rest {
+            while let [d @ b'0'..=b'9', after @ ..] = rest {
                 n = (n * 10 + (d - b'0') as u64).min(1 << 40);
-                self.rest = rest;
+                rest = after;
             }
         }
+        self.rest = rest;
         self.ended()?;
         Ok(n)
     }
@@ -517,32 +526,11 @@ impl<'a> Lines<'a> {
         Ok(n)
     }
 
-    /// Digits with no needless leading zero, exact below `LARGE`.
-    #[inline]
+    #[inline(always)]
     fn digits(&mut self) -> Result<u32, Fault> {
-        let mut n = self.digit()?;
-        if n == 0 {
-            return match self.rest {
-                [b'0'..=b'9', ..] => Err(2),
-                _ => Ok(0),
-            };
-        }
-        while let [d @ b'0'..=b'9', rest @ ..] = self.rest {
-            n = (n * 10 + (d - b'0') as u32).min(LARGE);
-            self.rest = rest;
-        }
+        let (n, rest) = digits(self.rest)?;
+        self.rest = rest;
         Ok(n)
-    }
-
-    #[inline]
-    fn digit(&mut self) -> Result<u32, Fault> {
-        match self.rest {
-            [d @ b'0'..=b'9', rest @ ..] => {
-                self.rest = rest;
-                Ok((d - b'0') as u32)
-            }
-            _ => Err(2),
-        }
     }
 
     /// The value ends here; one that the text's end breaks off is an early end.
@@ -568,9 +556,44 @@ impl<'a> Lines<'a> {
     }
 }
 
-/// Whether a second large number is above the first; equal small ones are not.
-fn follows(size: u32, first: &[u8], second: &[u8]) -> bool {
-    size == LARGE && (first.len(), first) < (second.len(), second)
+/// Digits at the front of a text with no needless leading zero, exact below `LARGE`, and the rest.
+#[inline(always)]
+fn digits(text: &[u8]) -> Result<(u32, &[u8]), Fault> {
+    match *text {
+        [a @ b'0'..=b'9', b, ..] if !b.is_ascii_digit() => Ok(((a - b'0') as u32, &text[1..])),
+        [a @ b'1'..=b'9', b @ b'0'..=b'9', c, ..] if !c.is_ascii_digit() => {
+            Ok(((a - b'0') as u32 * 10 + (b - b'0') as u32, &text[2..]))
+        }
+        _ => more_digits(text),
+    }
+}
+
+#[inline(never)]
+fn more_digits(text: &[u8]) -> Result<(u32, &[u8]), Fault> {
+    let [first @ b'0'..=b'9', rest @ ..] = text else {
+        return Err(2);
+    };
+    let mut rest = rest;
+    let mut n = (first - b'0') as u32;
+    while let [d @ b'0'..=b'9', after @ ..] = rest {
+        if n == 0 {
+            return Err(2);
+        }
+        n = (n * 10 + (d - b'0') as u32).min(LARGE);
+        rest = after;
+    }
+    Ok((n, rest))
+}
+
+/// Whether the number at the front of a text is larger than that of another.
+#[cold]
+fn larger(text: &[u8], than: &[u8]) -> bool {
+    fn digits(text: &[u8]) -> &[u8] {
+        let len = text.iter().take_while(|b| b.is_ascii_digit()).count();
+        &text[..len]
+    }
+    let (text, than) = (digits(text), digits(than));
+    (text.len(), text) > (than.len(), than)
 }
 
 #[inline]
