@@ -21,6 +21,9 @@ struct Tally {
     kinds: [u64; KINDS.len()],
     accepted: [u64; KINDS.len()],
     numbers: [u64; 17],
+    runs: u64,
+    completed: u64,
+    steps: u64,
     differ: u64,
     named: Vec<String>,
 }
@@ -224,7 +227,11 @@ impl Tally {
         }
         let report = &out[0][..lens[0]];
         if accepted {
-            self.count(stop_of(report));
+            let [steps, _, stop] = first_line(report);
+            self.runs += 1;
+            self.completed += (stop == 0) as u64;
+            self.steps += steps;
+            self.count(stop as u8);
         }
         lens[0] == lens[1] && *report == out[1][..lens[1]] && log[0] == log[1]
     }
@@ -239,6 +246,9 @@ impl Tally {
         for (sum, n) in self.numbers.iter_mut().zip(other.numbers) {
             *sum += n;
         }
+        self.runs += other.runs;
+        self.completed += other.completed;
+        self.steps += other.steps;
         self.differ += other.differ;
         self.named.extend(other.named);
         self.named.truncate(NAMED);
@@ -252,6 +262,10 @@ impl Tally {
         for (number, times) in self.numbers.iter().enumerate().skip(1) {
             println!("number={number} met={times}");
         }
+        println!(
+            "runs={} completed={} steps={}",
+            self.runs, self.completed, self.steps
+        );
         for name in &self.named {
             println!("differs: {name}");
         }
@@ -267,9 +281,14 @@ fn number_of(outcome: &Result<(), Refusal>) -> u8 {
     outcome.map_or_else(|refusal| refusal.number, |()| 0)
 }
 
-/// The stop number of a report's first line.
-fn stop_of(report: &[u8]) -> u8 {
+/// The steps, values used and stop number of a report's first line.
+fn first_line(report: &[u8]) -> [u64; 3] {
     let line = report.split(|&b| b == b'\n').next().unwrap_or_default();
-    let at = line.iter().rposition(|&b| b == b'=').map_or(0, |i| i + 1);
-    line[at..].iter().fold(0, |n, &d| n * 10 + (d - b'0'))
+    let mut numbers = line
+        .split(|b| !b.is_ascii_digit())
+        .filter(|word| !word.is_empty());
+    [(); 3].map(|()| {
+        let digits = numbers.next().unwrap_or_default();
+        digits.iter().fold(0, |n, &d| n * 10 + (d - b'0') as u64)
+    })
 }

@@ -3,10 +3,14 @@
 mod compare;
 mod generate;
 mod handmade;
+#[cfg(test)]
+mod naive;
 mod plain;
 mod proved;
 mod random;
 mod speed;
+#[cfg(test)]
+mod tests;
 mod vectors;
 
 use std::path::Path;
@@ -16,8 +20,8 @@ const USAGE: &str = "usage: bench vectors DIR
        bench compare [CASES] [SEED]
        bench show SEED
        bench handmade [CASES SEED]
-       bench speed
-       bench once proved|plain";
+       bench speed [read|close|step]
+       bench once proved|plain read|close|step";
 
 fn main() -> ExitCode {
     let words: Vec<String> = std::env::args().skip(1).collect();
@@ -45,12 +49,16 @@ fn command(words: &[String]) -> Result<bool, String> {
             compare::show(number(seed)?);
             Ok(true)
         }
-        ["once", side @ ("proved" | "plain")] => {
-            speed::once(side == "proved");
+        ["once", side @ ("proved" | "plain"), what @ ("read" | "close" | "step")] => {
+            speed::once(side == "proved", what);
             Ok(true)
         }
         ["speed"] => {
-            speed::speed();
+            speed::speed("");
+            Ok(true)
+        }
+        ["speed", what @ ("read" | "close" | "step")] => {
+            speed::speed(what);
             Ok(true)
         }
         _ => Err(USAGE.to_string()),

@@ -22,8 +22,8 @@ struct Best {
     plain: f64,
 }
 
-/// Prints all measurements.
-pub fn speed() {
+/// Prints the measurements whose names begin with a word.
+pub fn speed(word: &str) {
     if !proved::LINKED {
         println!("the proved library is not linked: plain Rust against itself");
     }
@@ -32,58 +32,66 @@ pub fn speed() {
         ("open", extremes::longest_open()),
         ("closed", extremes::longest_closed()),
     ] {
-        texts(name, &lines_of(&table));
+        let text = lines_of(&table);
+        if "read".starts_with(word) {
+            reading(name, &text);
+            writing(name, &text);
+        }
     }
-    closings();
-    for run in extremes::long_runs(STEPS) {
-        steps(&run);
+    if "close".starts_with(word) {
+        closings();
+    }
+    if "step".starts_with(word) {
+        extremes::long_runs(STEPS).iter().for_each(steps);
     }
 }
 
-/// Does each thing that is measured once, by one side, to count its instructions.
-pub fn once(by_proved: bool) {
+/// Does what is measured once, by one side, to count its instructions.
+pub fn once(by_proved: bool, word: &str) {
     let mut out = vec![0; 1 << 16];
-    for table in [extremes::longest_open(), extremes::longest_closed()] {
-        let text = lines_of(&table);
-        match by_proved {
-            true => _ = black_box((proved::read(&text), proved::write(&text, &mut out))),
-            false => {
-                let done = (read_text(&text), write_text(&text, &mut out));
-                _ = black_box(done);
+    if "read".starts_with(word) {
+        for table in [extremes::longest_open(), extremes::longest_closed()] {
+            let text = lines_of(&table);
+            match by_proved {
+                true => _ = black_box((proved::read(&text), proved::write(&text, &mut out))),
+                false => _ = black_box((read_text(&text), write_text(&text, &mut out))),
             }
         }
     }
-    for (_, table) in extremes::hard() {
-        let text = lines_of(&table);
-        match by_proved {
-            true => _ = black_box(proved::close(&text, &mut out)),
-            false => _ = black_box(close_text(&text, &mut out)),
+    if "close".starts_with(word) {
+        for (_, table) in extremes::hard() {
+            let text = lines_of(&table);
+            match by_proved {
+                true => _ = black_box(proved::close(&text, &mut out)),
+                false => _ = black_box(close_text(&text, &mut out)),
+            }
         }
     }
-    let mut log = vec![0; STEPS * 8];
-    for run in extremes::long_runs(STEPS) {
-        let text = lines_of(&run.table);
-        let (schedule, values) = (&run.schedule, &run.values);
-        match by_proved {
-            true => _ = black_box(proved::steps(&text, schedule, values, MOST, &mut log)),
-            false => _ = black_box(steps_text(&text, schedule, values, MOST, &mut log)),
+    if "step".starts_with(word) {
+        let mut log = vec![0; STEPS * 8];
+        for run in extremes::long_runs(STEPS) {
+            let text = lines_of(&run.table);
+            let (schedule, values) = (&run.schedule, &run.values);
+            match by_proved {
+                true => _ = black_box(proved::steps(&text, schedule, values, MOST, &mut log)),
+                false => _ = black_box(steps_text(&text, schedule, values, MOST, &mut log)),
+            }
         }
     }
 }
 
-/// Reading, and reading and writing, of a text.
-fn texts(name: &str, text: &[u8]) {
-    let megabytes = text.len() as f64 / 1e6;
+/// Reading a text.
+fn reading(name: &str, text: &[u8]) {
     let best = measure(
         || _ = black_box(proved::read(black_box(text))),
         || _ = black_box(read_text(black_box(text))),
     );
-    row(
-        &format!("read {name}, {} bytes", text.len()),
-        "MB/s",
-        &best,
-        |s| megabytes / s,
-    );
+    let name = format!("read {name}, {} bytes", text.len());
+    row(&name, "MB/s", &best, |s| text.len() as f64 / s / 1e6);
+}
+
+/// Reading a text and writing its table.
+fn writing(name: &str, text: &[u8]) {
     let mut out = [vec![0; 1 << 16], vec![0; 1 << 16]];
     let [mine, other] = &mut out;
     let best = measure(
@@ -91,7 +99,7 @@ fn texts(name: &str, text: &[u8]) {
         || _ = black_box(write_text(black_box(text), other)),
     );
     let name = format!("read and write {name}, {} bytes", text.len());
-    row(&name, "MB/s", &best, |s| megabytes / s);
+    row(&name, "MB/s", &best, |s| text.len() as f64 / s / 1e6);
 }
 
 /// Closing, from text to text.
