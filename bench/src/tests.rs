@@ -1,9 +1,11 @@
 //! Examples of document 01 and properties of the plain implementation.
 
+use crate::generate::runs;
 use crate::generate::tables::{self, Size};
 use crate::generate::{extremes, lines_of};
 use crate::plain::close::close_valid;
 use crate::plain::programs::{close_text, read_text, run_text, write_text};
+use crate::plain::run::{Machine, State};
 use crate::plain::table::{Op, Table};
 use crate::plain::Refusal;
 use crate::random::Random;
@@ -184,4 +186,72 @@ fn the_closer_gives_what_the_definitions_give() {
     for (name, open) in extremes::hard() {
         assert!(close(&open) == naive::close(&open), "{name}");
     }
+}
+
+/// The closed state and log entry after a step that leads to the same node as the open one.
+fn closed_step(closed: &Table, before: &State, task: u8, open: &State) -> (State, [u8; 8]) {
+    let next = |state: &State| {
+        let task = &state.tasks[task as usize];
+        task.frames[task.depth as usize - 1].node
+    };
+    for toss in -1..32 {
+        let (mut state, mut entry) = (before.clone(), [0; 8]);
+        let tosses = [toss];
+        let tosses = if toss < 0 { &[] } else { &tosses[..] };
+        let mut machine = Machine::<true>::new(closed, tosses, 0);
+        let stepped = machine.step(&mut state, task, Some(&mut entry));
+        if stepped.is_ok() && next(&state) == next(open) {
+            assert_eq!(machine.used, tosses.len());
+            return (state, entry);
+        }
+    }
+    panic!("no toss leads where the open step does");
+}
+
+/// What demand 3 asks of two states, but for variables.
+fn assert_alike(closed: &Table, a: &State, b: &State) {
+    assert_eq!(a.sems, b.sems);
+    for (a, b) in a.tasks.iter().zip(&b.tasks) {
+        assert_eq!((a.depth, a.lost), (b.depth, b.lost));
+        for (a, b) in a.frames[..a.depth as usize].iter().zip(&b.frames) {
+            assert_eq!((a.proc, a.node), (b.proc, b.node));
+        }
+    }
+    for ((a, b), queue) in a.queues.iter().zip(&b.queues).zip(&closed.queues) {
+        assert_eq!(a.len, b.len);
+        assert!(queue.blank || a.iter().eq(b.iter()));
+        assert!(!queue.blank || b.iter().all(|entry| entry == 0));
+    }
+}
+
+#[test]
+fn open_runs_have_closed_ones() {
+    let mut steps = 0;
+    for seed in 0..3_000 {
+        let mut r = Random::new(seed);
+        let size = r.pick(&[Size::Tiny, Size::Small, Size::Middle]);
+        let open = tables::open(size, &mut r);
+        let mut closed = Table::default();
+        close_valid(&open, &mut closed).unwrap();
+        let words = runs::live(&open, &mut r);
+        let mut machine = Machine::<false>::new(&open, &words.values, words.most);
+        let (mut a, mut b) = (State::default(), State::default());
+        if machine.start(&mut a).is_err() {
+            continue;
+        }
+        Machine::<true>::new(&closed, &[], 0).start(&mut b).unwrap();
+        for &task in &words.schedule {
+            let mut entry = [0; 8];
+            if machine.step(&mut a, task, Some(&mut entry)).is_err() {
+                break;
+            }
+            let (after, closed_entry) = closed_step(&closed, &b, task, &a);
+            b = after;
+            assert_eq!(entry[..3], closed_entry[..3]);
+            assert!(closed_entry[3] == 0 || entry == closed_entry);
+            assert_alike(&closed, &a, &b);
+            steps += 1;
+        }
+    }
+    assert!(steps > 10_000);
 }
