@@ -2,3 +2,4 @@ pub mod Demand3
 pub mod Sim
 pub mod Proof3
 pub mod Theorems
+pub mod Calls
