@@ -3,3 +3,4 @@ pub mod Sim
 pub mod Proof3
 pub mod Theorems
 pub mod Calls
+pub mod RoundTripCalls
