@@ -1,3 +1,4 @@
 pub mod CloseLaws
 pub mod RunLaws
 pub mod WriteLaws
+pub mod PrintLaws

@@ -5,54 +5,23 @@ use machine::Entries;
 use machine::Frame;
 use machine::Running;
 use machine::State;
-use table::Node;
-use table::Proc;
-use table::Queue;
-use table::Sem;
-use table::Slot;
 use table::Table;
-use table::Task;
+use text::Reading;
 use text::Writing;
 ghost use mathlib.Core.Path.{_≡_};
-ghost use Rattle.table.specs.Table.{noTable};
+ghost use Rattle.text.specs.Reader.{read};
 ghost use Rattle.text.specs.Writer.{fault, writeTo};
 ghost use Rattle.machine.specs.State.{noState};
 ghost use Rattle.machine.specs.Run.{run};
 ghost use Rattle.bufshani.specs.RunLaws.{Keeps};
 ghost use Rattle.closing.specs.Close.{close, refusal};
-
-// A table all 0.
-fn no_table() -> Table
-    ensures { λ r. ⌜ r ≡ noTable ⌝ }
-{
-    let slots = [Slot { node: Node::Absent }; 32];
-    Table {
-        trap: 0,
-        closed: false,
-        tasks: 0,
-        procs: 0,
-        sems: 0,
-        queues: 0,
-        task: [Task { top: 0 }; 4],
-        sem: [Sem { count: 0 }; 8],
-        queue: [Queue {
-            cap: 0,
-            blank: false,
-        }; 8],
-        proc: [Proc {
-            params: 0,
-            vars: 0,
-            nodes: 0,
-            drop: 0,
-            slots,
-        }; 8],
-    }
-}
+ghost use Rattle.closing.specs.Program.{refusedLine, printed};
+ghost use Rattle.put.specs.Put.{Put};
 
 fn refused(n: u8) -> Closing
     ensures { λ r. ⌜ r ≡ refusal n ⌝ }
 {
-    let table = no_table();
+    let table = reader::no_table();
     Closing {
         number: n,
         line: 0,
@@ -158,6 +127,13 @@ pub fn check(t: Table) -> u8
     faults::fault(t)
 }
 
+// The table that a text says, or the number and line of its first fault with a table all 0.
+pub fn read(s: &[u8]) -> Reading
+    ensures { λ r. ⌜ r ≡ read (now (s .entry)) ⌝ }
+{
+    reader::read(s)
+}
+
 // Writes a table's text into a lent buffer.
 pub fn write(t: Table, out: &mut [u8]) -> Writing
     ensures answer { λ r. ⌜ r ≡ writeTo t (now (out .entry)) .answer ⌝ }
@@ -182,4 +158,30 @@ pub fn run(t: Table, schedule: &[u8], values: &[i32], most: usize, log: &mut [u8
 {
     let n = faults::fault(t);
     run_checked(t, n, schedule, values, most, log)
+}
+
+// `refused=N line=L` and an LF.
+fn put_refused(out: &mut [u8], n: u8, line: usize) -> usize
+    ensures { λ r. ⌜ Put 65536 (now (out .entry)) 0 (refusedLine n line) (now (out .exit)) r ⌝ }
+{
+    let a = put::put_count(out, 0, b"refused=", n);
+    let b = put::put_size(out, a, b" line=", line);
+    put::put_byte(out, b, 10)
+}
+
+// What the closing program prints for a text: its bytes as far as the buffer reaches, and their number, at most 65,536.
+pub fn close_text(s: &[u8], out: &mut [u8]) -> usize
+    ensures { λ r. ⌜ Put 65536 (now (out .entry)) 0 (printed (now (s .entry))) (now (out .exit)) r ⌝ }
+{
+    let r = reader::read(s);
+    if r.number != 0 {
+        return put_refused(out, r.number, r.line);
+    }
+    let t = r.table;
+    let c = close_checked(t, 0);
+    if c.number != 0 {
+        return put_refused(out, c.number, c.line);
+    }
+    let u = c.table;
+    writer::put_table(out, u)
 }

@@ -5,7 +5,7 @@ use Rattle.bufshani.proofs.refused.Statement.{statement}
 use Rattle.bufshani.proofs.refused.Tie as tie
 use Rattle.bufshani.proofs.refused.Reads as reads
 use Rattle.bufshani.proofs.refused.Lts as lts
-use Rattle.bufshani.proofs.no_table.Reads as no-table-reads
+use Rattle.reader.proofs.no_table.Reads as no-table-reads
 
 -- src/lib.rt:38:9
 no-table-requires : tie.Need-no-table-requires

@@ -1,0 +1,294 @@
+//! Comparison of the proved library with the plain implementation on generated cases.
+
+use crate::generate::{self, Case, Kind, KINDS};
+use crate::plain::programs::{close_text, run_text, write_text};
+use crate::plain::read::read;
+use crate::plain::table::Table;
+use crate::plain::Refusal;
+use crate::proved;
+use crate::random::Random;
+use std::time::Instant;
+
+/// How many differences are named.
+const NAMED: usize = 10;
+
+/// What unused bytes of a buffer hold.
+const FILL: u8 = 0xa5;
+
+/// The count of cases, of numbers met, and the seeds of cases that differ.
+#[derive(Default)]
+struct Tally {
+    kinds: [u64; KINDS.len()],
+    accepted: [u64; KINDS.len()],
+    numbers: [u64; 17],
+    runs: u64,
+    completed: u64,
+    steps: u64,
+    differ: u64,
+    named: Vec<String>,
+}
+
+/// Buffers of one thread, a pair for the two sides.
+struct Buffers {
+    table: Table,
+    out: [Vec<u8>; 2],
+    log: [Vec<u8>; 2],
+}
+
+impl Buffers {
+    fn new() -> Self {
+        Buffers {
+            table: Table::default(),
+            out: [vec![FILL; 1 << 18], vec![FILL; 1 << 18]],
+            log: [Vec::new(), Vec::new()],
+        }
+    }
+}
+
+/// Compares so many cases from a seed on, and all cuts of a few texts; whether nothing differs.
+pub fn compare(cases: u64, seed: u64) -> bool {
+    let start = Instant::now();
+    let threads = std::thread::available_parallelism().map_or(1, usize::from) as u64;
+    let mut tally = Tally::default();
+    if cases > 1 {
+        every_cut(seed, &mut tally);
+    }
+    let parts = std::thread::scope(|scope| {
+        let handles: Vec<_> = (0..threads)
+            .map(|part| scope.spawn(move || stride(cases, seed, part, threads)))
+            .collect();
+        handles
+            .into_iter()
+            .map(|handle| handle.join().expect("a thread ends"))
+            .collect::<Vec<_>>()
+    });
+    for part in parts {
+        tally.add(part);
+    }
+    tally.print(start.elapsed().as_secs_f64());
+    tally.differ == 0
+}
+
+/// The cases of one thread.
+fn stride(cases: u64, seed: u64, part: u64, threads: u64) -> Tally {
+    let mut tally = Tally::default();
+    let mut buffers = Buffers::new();
+    let mut i = part;
+    while i < cases {
+        let case_seed = seed.wrapping_add(i);
+        let case = generate::case(case_seed);
+        tally.case(&case, &mut buffers, || format!("seed {case_seed}"));
+        i += threads;
+    }
+    tally
+}
+
+/// Every cut of a few texts, open and closed.
+fn every_cut(seed: u64, tally: &mut Tally) {
+    let mut r = Random::new(seed);
+    let mut buffers = Buffers::new();
+    use generate::tables::{closed, closing, open, Size};
+    let tables = [
+        open(Size::Small, &mut r),
+        closed(Size::Small, &mut r),
+        open(Size::Middle, &mut r),
+        closing(Size::Middle, &mut r),
+    ];
+    for (i, table) in tables.iter().enumerate() {
+        let text = generate::lines_of(table);
+        for len in 0..=text.len() {
+            let case = generate::with_run(Kind::Cut, text[..len].to_vec(), &mut r);
+            tally.case(&case, &mut buffers, || {
+                format!("text {i} of seed {seed} cut at {len}")
+            });
+        }
+    }
+}
+
+/// Prints a case and what both sides say of it.
+pub fn show(seed: u64) {
+    let case = generate::case(seed);
+    println!("kind={:?} bytes={}", case.kind, case.text.len());
+    println!("{}", String::from_utf8_lossy(&case.text));
+    let words = &case.words;
+    println!(
+        "schedule={:?} values={:?} most={} log={} room={}",
+        words.schedule, words.values, words.most, words.log, case.room
+    );
+    let mut out = vec![FILL; 1 << 18];
+    let mut log = vec![FILL; words.log];
+    println!("plain read: {:?}", read(&case.text, &mut Table::default()));
+    println!("proved read: {:?}", proved::read(&case.text));
+    for (side, close) in [
+        ("plain", close_text as fn(&[u8], &mut [u8]) -> usize),
+        ("proved", proved::close),
+    ] {
+        let len = close(&case.text, &mut out);
+        println!("{side} close:\n{}", String::from_utf8_lossy(&out[..len]));
+    }
+    for (side, run) in [("plain", run_text as Run), ("proved", proved::run)] {
+        let len = run(
+            &case.text,
+            &words.schedule,
+            &words.values,
+            words.most,
+            &mut log,
+            &mut out,
+        );
+        println!("{side} run:\n{}", String::from_utf8_lossy(&out[..len]));
+    }
+}
+
+type Run = fn(&[u8], &[u8], &[i32], u32, &mut [u8], &mut [u8]) -> usize;
+
+impl Tally {
+    /// Compares one case and counts it.
+    fn case(&mut self, case: &Case, buffers: &mut Buffers, name: impl Fn() -> String) {
+        let at = KINDS
+            .iter()
+            .position(|(kind, ..)| *kind == case.kind)
+            .unwrap_or(0);
+        self.kinds[at] += 1;
+        let expected = read(&case.text, &mut buffers.table);
+        self.accepted[at] += expected.is_ok() as u64;
+        self.count(number_of(&expected));
+        let mut wrong = Vec::new();
+        if proved::read(&case.text) != expected {
+            wrong.push("read");
+        }
+        if !self.write_same(case, buffers) {
+            wrong.push("write");
+        }
+        if !self.close_same(case, buffers) {
+            wrong.push("close");
+        }
+        if !self.run_same(case, expected.is_ok(), buffers) {
+            wrong.push("run");
+        }
+        if !wrong.is_empty() {
+            self.differ += 1;
+            if self.named.len() < NAMED {
+                self.named
+                    .push(format!("{} ({})", name(), wrong.join(", ")));
+            }
+        }
+    }
+
+    fn count(&mut self, number: u8) {
+        self.numbers[number as usize] += 1;
+    }
+
+    /// The written text and the bytes around it; an accepted text is written as it was read.
+    fn write_same(&mut self, case: &Case, buffers: &mut Buffers) -> bool {
+        let [mine, other] = &mut buffers.out;
+        let (mine, other) = (&mut mine[..case.room], &mut other[..case.room]);
+        mine.fill(FILL);
+        other.fill(FILL);
+        let expected = write_text(&case.text, mine);
+        if let Err(Refusal { number: 8, .. }) = expected {
+            self.count(8);
+        }
+        if let Ok(len) = expected {
+            if mine[..len] != case.text {
+                return false;
+            }
+        }
+        proved::write(&case.text, other) == expected && mine == other
+    }
+
+    fn close_same(&mut self, case: &Case, buffers: &mut Buffers) -> bool {
+        let [mine, other] = &mut buffers.out;
+        let len = close_text(&case.text, mine);
+        if mine[..len].starts_with(b"refused=9 ") {
+            self.count(9);
+        }
+        let other_len = proved::close(&case.text, other);
+        len == other_len && mine[..len] == other[..len]
+    }
+
+    /// The report and the whole log.
+    fn run_same(&mut self, case: &Case, accepted: bool, buffers: &mut Buffers) -> bool {
+        let words = &case.words;
+        let Buffers { out, log, .. } = buffers;
+        for log in log.iter_mut() {
+            log.clear();
+            log.resize(words.log, FILL);
+        }
+        let mut lens = [0; 2];
+        for (i, run) in [run_text as Run, proved::run].into_iter().enumerate() {
+            lens[i] = run(
+                &case.text,
+                &words.schedule,
+                &words.values,
+                words.most,
+                &mut log[i],
+                &mut out[i],
+            );
+        }
+        let report = &out[0][..lens[0]];
+        if accepted {
+            let [steps, _, stop] = first_line(report);
+            self.runs += 1;
+            self.completed += (stop == 0) as u64;
+            self.steps += steps;
+            self.count(stop as u8);
+        }
+        lens[0] == lens[1] && *report == out[1][..lens[1]] && log[0] == log[1]
+    }
+
+    fn add(&mut self, other: Tally) {
+        for (sum, n) in self.kinds.iter_mut().zip(other.kinds) {
+            *sum += n;
+        }
+        for (sum, n) in self.accepted.iter_mut().zip(other.accepted) {
+            *sum += n;
+        }
+        for (sum, n) in self.numbers.iter_mut().zip(other.numbers) {
+            *sum += n;
+        }
+        self.runs += other.runs;
+        self.completed += other.completed;
+        self.steps += other.steps;
+        self.differ += other.differ;
+        self.named.extend(other.named);
+        self.named.truncate(NAMED);
+    }
+
+    fn print(&self, seconds: f64) {
+        for (i, (_, _, name)) in KINDS.iter().enumerate() {
+            let (cases, accepted) = (self.kinds[i], self.accepted[i]);
+            println!("kind={name} cases={cases} accepted={accepted}");
+        }
+        for (number, times) in self.numbers.iter().enumerate().skip(1) {
+            println!("number={number} met={times}");
+        }
+        println!(
+            "runs={} completed={} steps={}",
+            self.runs, self.completed, self.steps
+        );
+        for name in &self.named {
+            println!("differs: {name}");
+        }
+        if !proved::LINKED {
+            println!("the proved library is not linked: plain Rust against itself");
+        }
+        let cases: u64 = self.kinds.iter().sum();
+        println!("cases={cases} differ={} seconds={seconds:.1}", self.differ);
+    }
+}
+
+fn number_of(outcome: &Result<(), Refusal>) -> u8 {
+    outcome.map_or_else(|refusal| refusal.number, |()| 0)
+}
+
+/// The steps, values used and stop number of a report's first line.
+fn first_line(report: &[u8]) -> [u64; 3] {
+    let line = report.split(|&b| b == b'\n').next().unwrap_or_default();
+    let mut numbers = line
+        .split(|b| !b.is_ascii_digit())
+        .filter(|word| !word.is_empty());
+    [(); 3].map(|()| {
+        let digits = numbers.next().unwrap_or_default();
+        digits.iter().fold(0, |n, &d| n * 10 + (d - b'0') as u64)
+    })
+}

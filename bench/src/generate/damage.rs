@@ -1,0 +1,387 @@
+//! Faults put into texts and tables.
+
+use crate::plain::table::*;
+use crate::random::Random;
+
+/// Changes, removes or adds one byte to three.
+pub fn bytes(text: &mut Vec<u8>, r: &mut Random) {
+    for _ in 0..r.pick(&[1, 1, 1, 2, 3]) {
+        if text.is_empty() {
+            return;
+        }
+        let at = r.below(text.len());
+        match r.below(4) {
+            0 => {
+                text.remove(at);
+            }
+            1 => text.insert(at, byte(r)),
+            2 => text[at] = text[at].wrapping_add(r.pick(&[1, 255])),
+            _ => text[at] = byte(r),
+        }
+    }
+}
+
+/// A byte, those of the language more often.
+fn byte(r: &mut Random) -> u8 {
+    if r.once_in(8) {
+        return r.next() as u8;
+    }
+    r.pick(b"00112233456789---,,,   \n\n==vnoeskt\r\t\0")
+}
+
+/// Values that a text might have in any place.
+const VALUES: &[&str] = &[
+    "0",
+    "1",
+    "2",
+    "3",
+    "4",
+    "5",
+    "6",
+    "7",
+    "8",
+    "9",
+    "10",
+    "15",
+    "16",
+    "17",
+    "31",
+    "32",
+    "33",
+    "100",
+    "254",
+    "255",
+    "256",
+    "00",
+    "01",
+    "007",
+    "-0",
+    "-00",
+    "-01",
+    "-1",
+    "-",
+    "--",
+    "+1",
+    "",
+    "2147483647",
+    "2147483648",
+    "-2147483648",
+    "-2147483649",
+    "4294967295",
+    "4294967296",
+    "4294967297",
+    "99999999",
+    "100000000",
+    "18446744073709551615",
+    "18446744073709551616",
+    "99999999999999999999",
+    "-99999999999999999999",
+    "340282366920938463463374607431768211456",
+    "none",
+    "None",
+    "nonex",
+    "v",
+    "v0",
+    "v1",
+    "v2",
+    "v15",
+    "v16",
+    "v00",
+    "v-1",
+    "v01",
+    "V1",
+    "v4294967296",
+    "v99999999999999999999",
+    "add",
+    "sub",
+    "and",
+    "or",
+    "xor",
+    "shr",
+    "lt",
+    "eq",
+    "ltx",
+    "yes",
+    "no",
+    "open",
+    "closed",
+    "start",
+    "set",
+    "test",
+    "read",
+    "call",
+    "wait",
+    "signal",
+    "send",
+    "recv",
+    "assert",
+    "out",
+    "return",
+    "returns",
+    "1,2",
+    "2,1",
+    "1,1",
+    "1,2,3",
+    "0,1",
+    "0,0",
+    "0,0,0,0",
+    "0,0,0,0,0",
+    "0,0,0,0,0,0,0,0,0",
+    "-,-",
+    "0,-",
+    "-,0",
+    "1,",
+    ",1",
+    ",",
+    "1,,2",
+    "1,none",
+    "40,3",
+    "99,x",
+    "3,40",
+    "1,02",
+    "9,10",
+    "10,9",
+    "1,2,3,4,5,6,7,8,9,10,11,12,13,14,15",
+    "99999999999999999998,99999999999999999999",
+    "99999999999999999999,99999999999999999998",
+    "99999999999999999999,99999999999999999999",
+    "99999999,100000000",
+    "100000000,99999999",
+    "100000000,100000001",
+    "100000001,100000000",
+    "1,99999999999999999999",
+    "999999999999999999,1000000000000000000",
+    "1000000000000000000,999999999999999999",
+    "4294967297,2",
+    "4294967297",
+    "4294967298",
+    "1,4294967298",
+    "18446744073709551617",
+];
+
+/// Replaces or changes one value to three.
+pub fn values(text: &mut Vec<u8>, r: &mut Random) {
+    for _ in 0..r.pick(&[1, 1, 1, 1, 2, 3]) {
+        let places = places_of(text);
+        if places.is_empty() {
+            return;
+        }
+        let (start, end) = r.pick(&places);
+        let mut value = text[start..end].to_vec();
+        match r.below(10) {
+            0 => value.insert(0, r.pick(b"0-v1")),
+            1 => value.extend_from_slice(
+                r.pick(&[",1", ",31", ",32", "0", ",0", ",-", "9", " "])
+                    .as_bytes(),
+            ),
+            2 | 3 => nudge(&mut value, r),
+            4 => {
+                let (from, to) = r.pick(&places);
+                value = text[from..to].to_vec();
+            }
+            5 => reorder(&mut value, r),
+            6 => {
+                let mut digits = vec![b'1' + r.below(9) as u8];
+                digits.extend((0..r.below(45)).map(|_| b'0' + r.below(10) as u8));
+                value = digits;
+            }
+            _ => value = r.pick(VALUES).as_bytes().to_vec(),
+        }
+        text.splice(start..end, value);
+    }
+}
+
+/// The extents of the values of a text.
+fn places_of(text: &[u8]) -> Vec<(usize, usize)> {
+    let mut places = Vec::new();
+    let mut start = None;
+    for (i, &b) in text.iter().enumerate() {
+        match b {
+            b'=' => start = Some(i + 1),
+            b' ' | b'\n' => {
+                if let Some(start) = start.take() {
+                    places.push((start, i));
+                }
+            }
+            _ => {}
+        }
+    }
+    places
+}
+
+/// Makes a number one more or less.
+fn nudge(value: &mut Vec<u8>, r: &mut Random) {
+    let text = String::from_utf8_lossy(value).into_owned();
+    let (front, number) = match text.strip_prefix('v') {
+        Some(number) => ("v", number),
+        None => ("", text.as_str()),
+    };
+    if let Ok(n) = number.parse::<i64>() {
+        *value = format!("{front}{}", n + r.pick(&[1, -1])).into_bytes();
+    }
+}
+
+/// Swaps two items of a list, doubles one or removes one.
+fn reorder(value: &mut Vec<u8>, r: &mut Random) {
+    let mut items: Vec<Vec<u8>> = value.split(|&b| b == b',').map(<[u8]>::to_vec).collect();
+    let (i, j) = (r.below(items.len()), r.below(items.len()));
+    match r.below(3) {
+        0 => items.swap(i, j),
+        1 => items.insert(i, items[j].clone()),
+        _ => {
+            items.remove(i);
+        }
+    }
+    *value = items.join(&b',');
+}
+
+/// Swaps, doubles, removes or moves lines.
+pub fn lines(text: &mut Vec<u8>, r: &mut Random) {
+    let mut lines: Vec<Vec<u8>> = text
+        .split_inclusive(|&b| b == b'\n')
+        .map(<[u8]>::to_vec)
+        .collect();
+    for _ in 0..r.pick(&[1, 1, 1, 2]) {
+        if lines.is_empty() {
+            break;
+        }
+        let (i, j) = (r.below(lines.len()), r.below(lines.len()));
+        let next = (i + 1) % lines.len();
+        match r.below(6) {
+            0 => lines.swap(i, j),
+            1 => lines.swap(i, next),
+            2 => lines.insert(i, lines[j].clone()),
+            3 => {
+                lines.remove(i);
+            }
+            4 => {
+                let line = lines.remove(i);
+                lines.insert(j.min(lines.len()), line);
+            }
+            _ => {
+                lines[i] = r
+                    .pick(&[&b"\n"[..], b" \n", b"node=1 kind=return\n", b""])
+                    .to_vec()
+            }
+        }
+    }
+    *text = lines.concat();
+}
+
+/// Adds bytes after the end.
+pub fn tail(text: &mut Vec<u8>, r: &mut Random) {
+    match r.below(6) {
+        0 => text.push(byte(r)),
+        1 => text.extend_from_within(..),
+        2 => text.resize(65_536, byte(r)),
+        3 => text.resize(65_537, byte(r)),
+        4 => text.resize(65_537 + r.below(1000), byte(r)),
+        _ => text.extend_from_slice(
+            r.pick(&["\n", " ", "\0", "node=", "proc=8 ", "node=31 kind=return\n"])
+                .as_bytes(),
+        ),
+    }
+}
+
+/// Words of the language in no order.
+pub fn noise(r: &mut Random) -> Vec<u8> {
+    const WORDS: &[&str] = &[
+        "trap=1",
+        "form=open",
+        "form=closed",
+        "\n",
+        "\n",
+        "tasks=1",
+        "procs=1",
+        "sems=0",
+        "queues=0",
+        " ",
+        " ",
+        " ",
+        "task=0",
+        "top=0",
+        "proc=0",
+        "params=0",
+        "vars=0",
+        "nodes=2",
+        "node=0",
+        "kind=start",
+        "to=1",
+        "=",
+        "node=1",
+        "kind=return",
+        "drop=none",
+    ];
+    let mut text = Vec::new();
+    if r.once_in(2) {
+        text.extend_from_slice(b"trap=1 form=open\ntasks=1 procs=1 sems=0 queues=0\n");
+    }
+    for _ in 0..r.below(30) {
+        text.extend_from_slice(r.pick(WORDS).as_bytes());
+    }
+    text
+}
+
+/// Breaks, most often, a rule that is judged after all lines.
+pub fn break_rules(t: &mut Table, r: &mut Random) {
+    for _ in 0..r.pick(&[1, 1, 2, 3]) {
+        let i = r.below(t.proc_count as usize);
+        let j = r.below(t.procs[i].count as usize);
+        match r.below(6) {
+            0 => {
+                let top = t.tops[r.below(t.task_count as usize)] as usize;
+                t.procs[top].drop &= !(1 << r.below(4));
+            }
+            1 => {
+                let p = &mut t.procs[i];
+                p.params = (r.below(5) as u8).min(p.vars);
+                p.drop &= all_params(p.params);
+            }
+            2 if t.closed => {
+                t.procs[i].nodes[j.max(1)] = Node::Absent;
+            }
+            3 if t.closed && t.queue_count > 0 => {
+                let queue = &mut t.queues[r.below(t.queue_count as usize)];
+                queue.blank = !queue.blank;
+            }
+            _ => break_node(t, i, j, r),
+        }
+    }
+}
+
+/// Changes arguments, `-` or a target of a node, or of one after it.
+fn break_node(t: &mut Table, i: usize, j: usize, r: &mut Random) {
+    let p = &mut t.procs[i];
+    let (vars, closed) = (p.vars, t.closed);
+    let removed = |var: &mut u8, r: &mut Random| match *var {
+        GONE if vars > 0 => *var = r.below(vars as usize) as u8,
+        _ if closed => *var = GONE,
+        _ => {}
+    };
+    for node in &mut p.nodes[j..p.count as usize] {
+        match node {
+            Node::Call { count, args, .. } => {
+                match r.below(3) {
+                    0 => *count = r.below(5) as u8,
+                    1 => removed(&mut args[r.below(PARAMS)], r),
+                    _ => *count = (*count + 1).min(4),
+                }
+                for arg in &mut args[*count as usize..] {
+                    *arg = 0;
+                }
+                return;
+            }
+            Node::Send { var, .. } | Node::Recv { var, .. } if r.once_in(2) => {
+                removed(var, r);
+                return;
+            }
+            Node::Set { to, .. } | Node::Wait { to, .. } | Node::Out { to, .. }
+                if closed && r.once_in(3) =>
+            {
+                *to |= 1 << r.below(32);
+                return;
+            }
+            _ => {}
+        }
+    }
+}

@@ -1,0 +1,238 @@
+//! The faults of a table: those after all lines, and those of a hand-made table.
+
+use super::table::*;
+use super::Refusal;
+
+/// Faults 6 and 7, by line; the table has none of the faults before them.
+pub fn late(t: &Table) -> Result<(), Refusal> {
+    let mut line = 3;
+    for &top in &t.tops[..t.task_count as usize] {
+        let p = &t.procs[top as usize];
+        if t.closed && p.drop != all_params(p.params) {
+            return Err(Refusal { number: 7, line });
+        }
+        line += 1;
+    }
+    line += t.sem_count as u32 + t.queue_count as u32;
+    for p in &t.procs[..t.proc_count as usize] {
+        let present = if t.closed { p.present() } else { u32::MAX };
+        line += 1;
+        for node in p.used() {
+            if *node == Node::Absent {
+                continue;
+            }
+            let number = late_node(t, present, node);
+            if number != 0 {
+                return Err(Refusal { number, line });
+            }
+            line += 1;
+        }
+    }
+    Ok(())
+}
+
+/// Fault 6 or 7 of a node, or 0.
+#[inline]
+fn late_node(t: &Table, present: u32, node: &Node) -> u8 {
+    if let Node::Call { proc, count, .. } = *node {
+        if count != t.procs[proc as usize].params {
+            return 6;
+        }
+    }
+    if t.closed && (targets_of(node) & !present != 0 || !removed_right(t, node)) {
+        return 7;
+    }
+    0
+}
+
+/// All targets of a node.
+fn targets_of(node: &Node) -> Arc {
+    match *node {
+        Node::Start { to }
+        | Node::Set { to, .. }
+        | Node::Read { to, .. }
+        | Node::Call { to, .. }
+        | Node::Wait { to, .. }
+        | Node::Signal { to, .. }
+        | Node::Send { to, .. }
+        | Node::Recv { to, .. }
+        | Node::Assert { to, .. }
+        | Node::Out { to, .. } => to,
+        Node::Test { yes, no, .. } => yes | no,
+        Node::Absent | Node::Return => 0,
+    }
+}
+
+/// Whether `-` stands where it has to and nowhere else.
+fn removed_right(t: &Table, node: &Node) -> bool {
+    match *node {
+        Node::Send { queue, var, .. } | Node::Recv { queue, var, .. } => {
+            (var == GONE) == t.queues[queue as usize].blank
+        }
+        Node::Call {
+            proc, count, args, ..
+        } => {
+            let drop = t.procs[proc as usize].drop;
+            let given = &args[..count as usize];
+            (given.iter().enumerate()).all(|(i, &arg)| (arg == GONE) == (drop >> i & 1 == 1))
+        }
+        _ => true,
+    }
+}
+
+/// The fault of a hand-made table, with line 0: what the reader says of the lines it stands for,
+/// then 2 for an unused place that is not 0.
+pub fn check(t: &Table) -> Result<(), Refusal> {
+    let refuse = |number| Refusal { number, line: 0 };
+    lines(t).map_err(refuse)?;
+    late(t).map_err(|r| refuse(r.number))?;
+    if unused_clear(t) {
+        Ok(())
+    } else {
+        Err(refuse(2))
+    }
+}
+
+/// Faults 2 to 5 in the order of the lines.
+fn lines(t: &Table) -> Result<(), u8> {
+    let counts = (1..=TASKS).contains(&(t.task_count as usize))
+        && (1..=PROCS).contains(&(t.proc_count as usize))
+        && t.sem_count as usize <= SEMS
+        && t.queue_count as usize <= QUEUES;
+    require(counts, 3)?;
+    for &top in &t.tops[..t.task_count as usize] {
+        require(top < t.proc_count, 5)?;
+    }
+    for queue in &t.queues[..t.queue_count as usize] {
+        require((1..=8).contains(&queue.cap), 3)?;
+    }
+    for p in &t.procs[..t.proc_count as usize] {
+        procedure(t, p)?;
+    }
+    Ok(())
+}
+
+fn procedure(t: &Table, p: &Proc) -> Result<(), u8> {
+    let sizes = p.params as usize <= PARAMS
+        && (p.params as usize..=VARS).contains(&(p.vars as usize))
+        && (2..=NODES).contains(&(p.count as usize));
+    require(sizes, 3)?;
+    require(!t.closed || p.drop & !all_params(p.params) == 0, 5)?;
+    for (j, node) in p.used().iter().enumerate() {
+        if *node == Node::Absent {
+            if t.closed && j > 0 {
+                continue;
+            }
+            let later = p.used()[j..].iter().any(|n| *n != Node::Absent);
+            return Err(if later { 4 } else { 2 });
+        }
+        require(!(t.closed && matches!(node, Node::Read { .. })), 2)?;
+        require(matches!(node, Node::Start { .. }) == (j == 0), 4)?;
+        fields(t, p, node)?;
+    }
+    Ok(())
+}
+
+/// The fields of a node, left to right.
+fn fields(t: &Table, p: &Proc, node: &Node) -> Result<(), u8> {
+    let variable = |v: u8| require(v != GONE, 2).and_then(|()| require(v < p.vars, 5));
+    let maybe = |v: u8| {
+        if t.closed && v == GONE {
+            Ok(())
+        } else {
+            variable(v)
+        }
+    };
+    let operand = |o: Operand| match o {
+        Operand::Var(v) => require(v < p.vars, 5),
+        Operand::Const(_) => Ok(()),
+    };
+    let arc = |to: Arc| {
+        require(t.closed || to.count_ones() == 1, 2)?;
+        require(to & !p.targets() == 0, 5)
+    };
+    match *node {
+        Node::Absent | Node::Return => Ok(()),
+        Node::Start { to } => arc(to),
+        Node::Set { var, a, b, to, .. } => {
+            variable(var)?;
+            operand(a)?;
+            operand(b)?;
+            arc(to)
+        }
+        Node::Test { op, a, b, yes, no } => {
+            require(op.compares(), 2)?;
+            operand(a)?;
+            operand(b)?;
+            arc(yes)?;
+            arc(no)
+        }
+        Node::Read { var, to } => {
+            variable(var)?;
+            arc(to)
+        }
+        Node::Call {
+            proc,
+            count,
+            args,
+            to,
+        } => {
+            require(proc < t.proc_count, 5)?;
+            let given = &args[..(count as usize).min(PARAMS)];
+            require(t.closed || given.iter().all(|&v| v != GONE), 2)?;
+            for &v in given {
+                maybe(v)?;
+            }
+            arc(to)
+        }
+        Node::Wait { sem, to } | Node::Signal { sem, to } => {
+            require(sem < t.sem_count, 5)?;
+            arc(to)
+        }
+        Node::Send { queue, var, to } | Node::Recv { queue, var, to } => {
+            require(queue < t.queue_count, 5)?;
+            maybe(var)?;
+            arc(to)
+        }
+        Node::Assert { var, to } | Node::Out { var, to } => {
+            maybe(var)?;
+            arc(to)
+        }
+    }
+}
+
+/// Whether every place at or beyond a count is 0, and `drop` and `blank` in an open table.
+fn unused_clear(t: &Table) -> bool {
+    let none = Queue::default();
+    let procs = &t.procs[..t.proc_count as usize];
+    t.tops[t.task_count as usize..].iter().all(|&x| x == 0)
+        && t.sems[t.sem_count as usize..].iter().all(|&x| x == 0)
+        && t.queues[t.queue_count as usize..]
+            .iter()
+            .all(|q| *q == none)
+        && t.procs[t.proc_count as usize..]
+            .iter()
+            .all(|p| *p == Proc::default())
+        && procs.iter().all(|p| {
+            let after = &p.nodes[p.count as usize..];
+            after.iter().all(|n| *n == Node::Absent) && p.used().iter().all(args_clear)
+        })
+        && (t.closed || t.queues.iter().all(|q| !q.blank) && procs.iter().all(|p| p.drop == 0))
+}
+
+fn args_clear(node: &Node) -> bool {
+    match *node {
+        Node::Call { count, args, .. } => {
+            args[(count as usize).min(PARAMS)..].iter().all(|&x| x == 0)
+        }
+        _ => true,
+    }
+}
+
+fn require(holds: bool, number: u8) -> Result<(), u8> {
+    if holds {
+        Ok(())
+    } else {
+        Err(number)
+    }
+}

@@ -1,0 +1,162 @@
+//! The proved library: safe wrappers of its C functions. A lent slice crosses as its pointer and
+//! its length. Without the library (`--features plain-only`) the plain implementation stands in.
+
+#[cfg(proved)]
+use crate::plain::Refusal;
+
+/// Whether the proved library is linked.
+pub const LINKED: bool = cfg!(proved);
+
+#[cfg(proved)]
+mod ffi {
+    extern "C" {
+        /// The number of the refusal times 2^32 plus its line; 0 if the text is accepted.
+        pub fn bufshani_read(text: *const u8, text_len: usize) -> u64;
+
+        /// The length of the text written; on refusal as `bufshani_read`.
+        pub fn bufshani_write(
+            text: *const u8,
+            text_len: usize,
+            out: *mut u8,
+            out_len: usize,
+        ) -> u64;
+
+        /// The length of what the closing program prints.
+        pub fn bufshani_close(
+            text: *const u8,
+            text_len: usize,
+            out: *mut u8,
+            out_len: usize,
+        ) -> usize;
+
+        /// The length of the report that the `run` program prints.
+        pub fn bufshani_run(
+            text: *const u8,
+            text_len: usize,
+            schedule: *const u8,
+            schedule_len: usize,
+            values: *const i32,
+            values_len: usize,
+            most: u32,
+            log: *mut u8,
+            log_len: usize,
+            out: *mut u8,
+            out_len: usize,
+        ) -> usize;
+
+        /// A run with no report: the stop number times 2^32 plus the steps completed.
+        pub fn bufshani_steps(
+            text: *const u8,
+            text_len: usize,
+            schedule: *const u8,
+            schedule_len: usize,
+            values: *const i32,
+            values_len: usize,
+            most: u32,
+            log: *mut u8,
+            log_len: usize,
+        ) -> u64;
+    }
+}
+
+/// The refusal that a number stands for, if it is one.
+#[cfg(proved)]
+fn refusal(answer: u64) -> Option<Refusal> {
+    let number = (answer >> 32) as u8;
+    let line = answer as u32;
+    (number != 0).then_some(Refusal { number, line })
+}
+
+#[cfg(proved)]
+pub fn read(text: &[u8]) -> Result<(), Refusal> {
+    let answer = unsafe { ffi::bufshani_read(text.as_ptr(), text.len()) };
+    refusal(answer).map_or(Ok(()), Err)
+}
+
+#[cfg(proved)]
+pub fn write(text: &[u8], out: &mut [u8]) -> Result<usize, Refusal> {
+    let answer =
+        unsafe { ffi::bufshani_write(text.as_ptr(), text.len(), out.as_mut_ptr(), out.len()) };
+    refusal(answer).map_or(Ok(answer as usize), Err)
+}
+
+#[cfg(proved)]
+pub fn close(text: &[u8], out: &mut [u8]) -> usize {
+    unsafe { ffi::bufshani_close(text.as_ptr(), text.len(), out.as_mut_ptr(), out.len()) }
+}
+
+#[cfg(proved)]
+pub fn run(
+    text: &[u8],
+    schedule: &[u8],
+    values: &[i32],
+    most: u32,
+    log: &mut [u8],
+    out: &mut [u8],
+) -> usize {
+    unsafe {
+        ffi::bufshani_run(
+            text.as_ptr(),
+            text.len(),
+            schedule.as_ptr(),
+            schedule.len(),
+            values.as_ptr(),
+            values.len(),
+            most,
+            log.as_mut_ptr(),
+            log.len(),
+            out.as_mut_ptr(),
+            out.len(),
+        )
+    }
+}
+
+/// The steps completed and the stop number of a run with no report.
+#[cfg(proved)]
+pub fn steps(
+    text: &[u8],
+    schedule: &[u8],
+    values: &[i32],
+    most: u32,
+    log: &mut [u8],
+) -> (usize, u8) {
+    let answer = unsafe {
+        ffi::bufshani_steps(
+            text.as_ptr(),
+            text.len(),
+            schedule.as_ptr(),
+            schedule.len(),
+            values.as_ptr(),
+            values.len(),
+            most,
+            log.as_mut_ptr(),
+            log.len(),
+        )
+    };
+    (answer as u32 as usize, (answer >> 32) as u8)
+}
+
+#[cfg(not(proved))]
+pub use stand_in::*;
+
+#[cfg(not(proved))]
+mod stand_in {
+    use crate::plain::programs;
+
+    pub use programs::{
+        close_text as close, read_text as read, run_text as run, write_text as write,
+    };
+
+    pub fn steps(
+        text: &[u8],
+        schedule: &[u8],
+        values: &[i32],
+        most: u32,
+        log: &mut [u8],
+    ) -> (usize, u8) {
+        match programs::steps_text(text, schedule, values, most, log) {
+            Ok(answer) => (answer.steps, answer.stop),
+            Err(refusal) => (0, refusal.number),
+        }
+    }
+}

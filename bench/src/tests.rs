@@ -1,0 +1,257 @@
+//! Examples of document 01 and properties of the plain implementation.
+
+use crate::generate::runs;
+use crate::generate::tables::{self, Size};
+use crate::generate::{extremes, lines_of};
+use crate::plain::close::close_valid;
+use crate::plain::programs::{close_text, read_text, run_text, write_text};
+use crate::plain::run::{Machine, State};
+use crate::plain::table::{Op, Table};
+use crate::plain::Refusal;
+use crate::random::Random;
+use crate::{compare, handmade, naive};
+
+const OPEN: &str = "\
+trap=1 form=open
+tasks=1 procs=1 sems=1 queues=0
+task=0 top=0
+sem=0 count=1
+proc=0 params=0 vars=3 nodes=8
+node=0 kind=start to=1
+node=1 kind=read var=0 to=2
+node=2 kind=set var=1 op=add a=v2 b=1 to=3
+node=3 kind=test op=lt a=v0 b=100 yes=4 no=5
+node=4 kind=wait sem=0 to=6
+node=5 kind=out var=0 to=7
+node=6 kind=signal sem=0 to=3
+node=7 kind=return
+";
+
+const CLOSED: &str = "\
+trap=1 form=closed
+tasks=1 procs=1 sems=1 queues=0
+task=0 top=0
+sem=0 count=1
+proc=0 params=0 vars=3 nodes=8 drop=none
+node=0 kind=start to=2
+node=2 kind=set var=1 op=add a=v2 b=1 to=4,5
+node=4 kind=wait sem=0 to=6
+node=5 kind=out var=- to=7
+node=6 kind=signal sem=0 to=4,5
+node=7 kind=return
+";
+
+fn closing(text: &str) -> String {
+    let mut out = vec![0; 1 << 16];
+    let len = close_text(text.as_bytes(), &mut out);
+    String::from_utf8_lossy(&out[..len]).into_owned()
+}
+
+fn refusal(text: &str) -> (u8, u32) {
+    match read_text(text.as_bytes()) {
+        Ok(()) => (0, 0),
+        Err(Refusal { number, line }) => (number, line),
+    }
+}
+
+/// The open example with one piece of text in place of another.
+fn with(old: &str, new: &str) -> String {
+    assert!(OPEN.contains(old));
+    OPEN.replacen(old, new, 1)
+}
+
+/// A procedure with one test of v0 after a read, and so many nodes declared.
+fn small(nodes: &str) -> String {
+    format!(
+        "trap=1 form=open\ntasks=1 procs=1 sems=0 queues=0\ntask=0 top=0\n\
+         proc=0 params=0 vars=1 nodes={nodes}\nnode=0 kind=start to=1\n"
+    )
+}
+
+#[test]
+fn the_pair_of_document_01() {
+    assert_eq!(closing(OPEN), CLOSED);
+    assert_eq!(closing(CLOSED), "refused=9 line=0\n");
+}
+
+#[test]
+fn operations() {
+    assert_eq!(Op::Add.apply(2147483647, 1), -2147483648);
+    assert_eq!(Op::Sub.apply(-2147483648, 1), 2147483647);
+    assert_eq!(Op::Shr.apply(-8, 33), -4);
+    assert_eq!(Op::Shr.apply(-1, -1), -1);
+    assert_eq!(Op::Lt.apply(-1, 0), 1);
+}
+
+#[test]
+fn a_dropped_cycle_leads_to_none() {
+    let text = small("4")
+        + "node=1 kind=read var=0 to=2\n\
+           node=2 kind=test op=lt a=v0 b=1 yes=1 no=2\n\
+           node=3 kind=return\n";
+    assert!(closing(&text).contains("node=0 kind=start to=none\n"));
+}
+
+#[test]
+fn faults_and_lines() {
+    assert_eq!(refusal(""), (2, 1));
+    assert_eq!(refusal("\n"), (2, 1));
+    assert_eq!(refusal(&small("33")), (3, 4));
+    assert_eq!(refusal(&small("1")), (3, 4));
+    assert_eq!(refusal(&with("to=1\n", "to=0\n")), (5, 6));
+    assert_eq!(refusal(&with("b=100", "b=2147483648")), (3, 9));
+    assert_eq!(refusal(&with("b=100", "b=-0")), (2, 9));
+    assert_eq!(refusal(&with("tasks=1", "tasks=9\n")), (3, 2));
+    assert_eq!(refusal("trap=1 form=open\ntasks=9"), (2, 2));
+    assert_eq!(refusal("trap=1 form=open\ntasks=9 "), (3, 2));
+    assert_eq!(
+        refusal(&with("node=1", "node=99999999999999999999")),
+        (4, 7)
+    );
+    assert_eq!(refusal(&with("to=7", "to=99999999999999999999")), (5, 11));
+    assert_eq!(refusal(&with("to=7", "to=99,x")), (2, 11));
+    assert_eq!(refusal(&(OPEN.to_string() + "\n")), (2, 14));
+    assert_eq!(refusal(&OPEN[..OPEN.len() - 1]), (2, 13));
+    assert_eq!(refusal(&"x".repeat(65_537)), (1, 0));
+    let list = |items: &str| refusal(&CLOSED.replace("to=4,5", &format!("to={items}")));
+    let large = "99999999999999999998,99999999999999999999";
+    assert_eq!(list(large), (5, 7));
+    assert_eq!(list("99999999999999999999,99999999999999999998"), (2, 7));
+    assert_eq!(list("4,4"), (2, 7));
+    assert_eq!(list("3"), (7, 7));
+}
+
+#[test]
+fn the_longest_texts() {
+    let open = lines_of(&extremes::longest_open());
+    let closed = lines_of(&extremes::longest_closed());
+    assert_eq!((open.len(), closed.len()), (16_845, 57_855));
+    for text in [open, closed] {
+        let mut out = vec![0; text.len()];
+        assert_eq!(write_text(&text, &mut out), Ok(text.len()));
+        assert_eq!(out, text);
+        out.pop();
+        out.fill(7);
+        let refused = write_text(&text, &mut out);
+        assert_eq!(refused, Err(Refusal { number: 8, line: 0 }));
+        assert!(out.iter().all(|&b| b == 7));
+    }
+}
+
+#[test]
+fn hard_tables_close_to_texts_that_read_back() {
+    for (name, table) in extremes::hard() {
+        let text = String::from_utf8(lines_of(&table)).unwrap();
+        assert_eq!(refusal(&text), (0, 0), "{name}");
+        assert_eq!(refusal(&closing(&text)), (0, 0), "{name}");
+    }
+}
+
+#[test]
+fn a_run_of_the_example() {
+    let mut log = [9; 20];
+    let mut out = vec![0; 1 << 12];
+    let run = |log: &mut [u8], out: &mut [u8], most| {
+        let len = run_text(OPEN.as_bytes(), &[0, 0, 0, 0], &[5, 5], most, log, out);
+        String::from_utf8_lossy(&out[..len]).into_owned()
+    };
+    assert!(run(&mut log, &mut out, 1).starts_with("steps=2 used=1 stop=11\n"));
+    assert_eq!(log[16..], [9; 4]);
+    assert!(run(&mut log, &mut out, 0).starts_with("steps=0 used=0 stop=14\n"));
+}
+
+#[test]
+fn hand_made_tables_are_judged_as_their_lines() {
+    assert!(handmade::handmade(2_000, 1));
+}
+
+#[test]
+fn generated_cases_agree() {
+    assert!(compare::compare(2_000, 1));
+}
+
+#[test]
+fn the_closer_gives_what_the_definitions_give() {
+    let close = |open: &Table| {
+        let mut closed = Table::default();
+        close_valid(open, &mut closed).unwrap();
+        closed
+    };
+    for seed in 0..2_000 {
+        let mut r = Random::new(seed);
+        let size = r.pick(&[Size::Tiny, Size::Tiny, Size::Small, Size::Middle]);
+        let open = tables::open(size, &mut r);
+        assert!(close(&open) == naive::close(&open), "seed {seed}");
+    }
+    for (name, open) in extremes::hard() {
+        assert!(close(&open) == naive::close(&open), "{name}");
+    }
+}
+
+/// The closed state and log entry after a step that leads to the same node as the open one.
+fn closed_step(closed: &Table, before: &State, task: u8, open: &State) -> (State, [u8; 8]) {
+    let next = |state: &State| {
+        let task = &state.tasks[task as usize];
+        task.frames[task.depth as usize - 1].node
+    };
+    for toss in -1..32 {
+        let (mut state, mut entry) = (before.clone(), [0; 8]);
+        let tosses = [toss];
+        let tosses = if toss < 0 { &[] } else { &tosses[..] };
+        let mut machine = Machine::<true>::new(closed, tosses, 0);
+        let stepped = machine.step(&mut state, task, Some(&mut entry));
+        if stepped.is_ok() && next(&state) == next(open) {
+            assert_eq!(machine.used, tosses.len());
+            return (state, entry);
+        }
+    }
+    panic!("no toss leads where the open step does");
+}
+
+/// What demand 3 asks of two states, but for variables.
+fn assert_alike(closed: &Table, a: &State, b: &State) {
+    assert_eq!(a.sems, b.sems);
+    for (a, b) in a.tasks.iter().zip(&b.tasks) {
+        assert_eq!((a.depth, a.lost), (b.depth, b.lost));
+        for (a, b) in a.frames[..a.depth as usize].iter().zip(&b.frames) {
+            assert_eq!((a.proc, a.node), (b.proc, b.node));
+        }
+    }
+    for ((a, b), queue) in a.queues.iter().zip(&b.queues).zip(&closed.queues) {
+        assert_eq!(a.len, b.len);
+        assert!(queue.blank || a.iter().eq(b.iter()));
+        assert!(!queue.blank || b.iter().all(|entry| entry == 0));
+    }
+}
+
+#[test]
+fn open_runs_have_closed_ones() {
+    let mut steps = 0;
+    for seed in 0..3_000 {
+        let mut r = Random::new(seed);
+        let size = r.pick(&[Size::Tiny, Size::Small, Size::Middle]);
+        let open = tables::open(size, &mut r);
+        let mut closed = Table::default();
+        close_valid(&open, &mut closed).unwrap();
+        let words = runs::live(&open, &mut r);
+        let mut machine = Machine::<false>::new(&open, &words.values, words.most);
+        let (mut a, mut b) = (State::default(), State::default());
+        if machine.start(&mut a).is_err() {
+            continue;
+        }
+        Machine::<true>::new(&closed, &[], 0).start(&mut b).unwrap();
+        for &task in &words.schedule {
+            let mut entry = [0; 8];
+            if machine.step(&mut a, task, Some(&mut entry)).is_err() {
+                break;
+            }
+            let (after, closed_entry) = closed_step(&closed, &b, task, &a);
+            b = after;
+            assert_eq!(entry[..3], closed_entry[..3]);
+            assert!(closed_entry[3] == 0 || entry == closed_entry);
+            assert_alike(&closed, &a, &b);
+            steps += 1;
+        }
+    }
+    assert!(steps > 10_000);
+}

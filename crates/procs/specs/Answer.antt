@@ -1,0 +1,82 @@
+-- What the readers of procedures answer.
+use Prim.Native.Nat.{ℕ, suc, _+_, _≤_}
+use mathlib.Core.Path.{_≡_}
+use mathlib.Core.Bool.{Bool, true, false}
+use mathlib.Core.List.{List}
+use lib.ListN.{length, drop, replicate}
+use Rattle.table.specs.Table.{noProc}
+use Rattle.table.specs.declared.Slot.{Slot}
+use Rattle.table.specs.declared.Proc.{Proc}
+use Rattle.text.specs.declared.Fault.{Fault}
+use Rattle.text.specs.Number.{bytes}
+use Rattle.text.specs.Line.{Parser, _>>=_, give, After, at as stands, differs, broken, after}
+use Rattle.text.specs.Format.{Scope as Judged}
+use Rattle.text.specs.Reader.{nodeRow, slotOf, furtherNodes, nodesOf, procRow}
+use Rattle.records.specs.declared.Counts.{Counts}
+use Rattle.records.specs.declared.ProcHead.{ProcHead}
+use Rattle.records.specs.declared.ProcLine.{ProcLine}
+use Rattle.records.specs.declared.ProcLine.the-variants.{Is as IsProc, Refused as NotProc}
+use Rattle.nodes.specs.declared.Line.{Line}
+use Rattle.nodes.specs.declared.Line.the-variants.{Node as IsNode, Refused as NotNode}
+use Rattle.rows.specs.declared.End.{End}
+use Rattle.rows.specs.declared.End.the-variants.{At, Refused}
+use Rattle.rows.specs.Rows.{endIn, endWithin, RowsAt}
+use Rattle.procs.specs.declared.Slots.{Slots}
+use Rattle.procs.specs.declared.ProcRow.{ProcRow}
+use Rattle.procs.specs.declared.Procs.{Procs}
+
+-- ---- node lines
+
+abbrev pub stoppedOf : Line → List Slot → Slots
+stoppedOf (IsNode x j e) l = record { end = Refused Fault.Form; line = 0; slots = l }
+stoppedOf (NotNode f k) l = record { end = Refused f; line = k; slots = l }
+
+abbrev pub stood : After → Bool
+stood (stands s) = true
+stood differs = false
+stood broken = false
+
+-- a line beginning `node=` stands there
+abbrev pub nodeStands : List ℕ → ℕ → Bool
+nodeStands s at = stood (after (bytes "node=") (drop at s))
+
+-- open form: the line whose number is j
+abbrev pub openRow : Judged → ℕ → Parser Slot
+openRow c j = nodeRow c j (suc j) >>= λ x. give (slotOf x)
+
+-- closed form: the lines behind the first
+pub record FurtherAt (c : Judged) (first : List Slot) (s : List ℕ) (at line : ℕ) (r : Slots) : Type 0 where
+  pub same : endIn s (r .line) (r .slots) (r .end) ≡ furtherNodes c (c .nodes) 0 first line (drop at s)
+  pub within : endWithin s (r .end)
+  pub lines : r .line ≤ line + 31
+
+-- the node lines of a procedure
+pub record SlotsAt (c : Judged) (closed : Bool) (s : List ℕ) (at line : ℕ) (r : Slots) : Type 0 where
+  pub same : endIn s (r .line) (r .slots) (r .end) ≡ nodesOf c closed line (drop at s)
+  pub within : endWithin s (r .end)
+  pub lines : r .line ≤ line + 32
+
+-- ---- procedures
+
+abbrev pub procFault : ProcLine → Fault
+procFault (IsProc x e) = Fault.Form
+procFault (NotProc f) = f
+
+abbrev pub procOf : ProcHead → List Slot → Proc
+procOf h l = record { params = h .params; vars = h .vars; nodes = h .nodes; drop = h .drop; slots = l }
+
+abbrev pub rowOf : ProcHead → Slots → ProcRow
+rowOf h x = record { end = x .end; line = x .line; proc = procOf h (x .slots) }
+
+abbrev pub rowIn : Bool → Counts → ℕ → Parser Proc
+rowIn closed x = procRow closed (x .procs) (x .sems) (x .queues)
+
+-- procedure i
+pub record ProcRowAt (closed : Bool) (x : Counts) (i : ℕ) (s : List ℕ) (at line : ℕ) (r : ProcRow) : Type 0 where
+  pub same : endIn s (r .line) (r .proc) (r .end) ≡ rowIn closed x i line (drop at s)
+  pub within : endWithin s (r .end)
+  pub lines : r .line ≤ line + 33
+
+-- all procedures
+pub record ProcsAt (closed : Bool) (x : Counts) (s : List ℕ) (at line : ℕ) (r : Procs) : Type 0 where
+  pub rows : RowsAt (rowIn closed x) (x .procs) (replicate 8 noProc) s at line (r .end) (r .line) (r .proc)

@@ -1,0 +1,265 @@
+// The procedures of a text, each with its node lines.
+ghost use Prim.Native.Nat.{_<_, _≤_};
+ghost use mathlib.Core.Path.{_≡_};
+ghost use mathlib.Core.Bool.{true, false};
+ghost use lib.ListN.{length};
+ghost use Rattle.nodes.specs.Answer.{scopeIn, Fits};
+ghost use Rattle.procs.specs.Answer.{stoppedOf, nodeStands, FurtherAt, SlotsAt, rowOf, procFault, ProcRowAt, ProcsAt};
+ghost use Rattle.records.specs.Answer.{Counted};
+ghost use Rattle.table.specs.Table.{noProc};
+
+// The node lines of a procedure, with the line reached; or their first fault, with its line.
+pub struct Slots {
+    pub end: rows::End,
+    pub line: usize,
+    pub slots: [table::Slot; 32],
+}
+
+// A procedure, with the line reached; or its first fault, with its line.
+struct ProcRow {
+    end: rows::End,
+    line: usize,
+    proc: table::Proc,
+}
+
+// All procedures, with the line reached; or their first fault, with its line.
+pub struct Procs {
+    pub end: rows::End,
+    pub line: usize,
+    pub proc: [table::Proc; 8],
+}
+
+// ---- node lines
+
+// A refused line's fault and number.
+fn stopped(row: nodes::Line, slots: [table::Slot; 32]) -> Slots
+    ensures { λ r. ⌜ r ≡ stoppedOf row slots ⌝ }
+{
+    match row {
+        nodes::Line::Node(_, _, _) => Slots {
+            end: rows::End::Refused(text::Fault::Form),
+            line: 0,
+            slots,
+        },
+        nodes::Line::Refused(f, l) => Slots {
+            end: rows::End::Refused(f),
+            line: l,
+            slots,
+        },
+    }
+}
+
+// n lines whose numbers count up from 0.
+fn open_nodes(s: &[u8], at: usize, line: usize, c: nodes::Scope) -> Slots
+    requires { ⌜ (at ≤ length (now s)) × Fits c × (line ≤ 1000) ⌝ }
+    ensures { λ r. ⌜ SlotsAt (scopeIn c) false (now (s .entry)) at line r ⌝ }
+{
+    let none = table::Slot {
+        node: table::Node::Absent,
+    };
+    let mut slots = [none; 32];
+    let n = c.nodes as usize;
+    let mut p = at;
+    let mut l = line;
+    let mut i = 0;
+    while i < n {
+        let j = i as u64;
+        let row = nodes::node_line(s, p, l, c, j, j + 1);
+        let nodes::Line::Node(node, _, e) = row else {
+            return stopped(row, slots);
+        };
+        slots[i] = table::Slot { node };
+        p = e;
+        l += 1;
+        i += 1;
+    }
+    Slots {
+        end: rows::End::At(p),
+        line: l,
+        slots,
+    }
+}
+
+// Whether a line beginning `node=` stands there.
+fn node_stands(s: &[u8], at: usize) -> bool
+    requires { ⌜ at ≤ length (now s) ⌝ }
+    ensures { λ r. ⌜ r ≡ nodeStands (now (s .entry)) at ⌝ }
+{
+    match scan::after(s, at, b"node=") {
+        scan::Found::At(_) => true,
+        scan::Found::Differs => false,
+        scan::Found::Broken => false,
+    }
+}
+
+// "Each further line beginning `node=` belongs to the procedure before it"; numbers ascend strictly.
+fn further_nodes(
+    s: &[u8],
+    at: usize,
+    line: usize,
+    c: nodes::Scope,
+    first: [table::Slot; 32],
+) -> Slots
+    requires { ⌜ (at ≤ length (now s)) × Fits c × (0 < c .nodes) × (line ≤ 1000) ⌝ }
+    ensures { λ r. ⌜ FurtherAt (scopeIn c) first (now (s .entry)) at line r ⌝ }
+{
+    let n = c.nodes;
+    let mut slots = first;
+    let mut p = at;
+    let mut l = line;
+    let mut last = 0u64;
+    while node_stands(s, p) {
+        let row = nodes::node_line(s, p, l, c, last + 1, n);
+        let nodes::Line::Node(node, j, e) = row else {
+            return stopped(row, slots);
+        };
+        let k = j as usize;
+        slots[k] = table::Slot { node };
+        p = e;
+        l += 1;
+        last = j as u64;
+    }
+    Slots {
+        end: rows::End::At(p),
+        line: l,
+        slots,
+    }
+}
+
+// The first line's number is 0.
+fn closed_nodes(s: &[u8], at: usize, line: usize, c: nodes::Scope) -> Slots
+    requires { ⌜ (at ≤ length (now s)) × Fits c × (0 < c .nodes) × (line < 1000) ⌝ }
+    ensures { λ r. ⌜ SlotsAt (scopeIn c) true (now (s .entry)) at line r ⌝ }
+{
+    let none = table::Slot {
+        node: table::Node::Absent,
+    };
+    let mut slots = [none; 32];
+    let row = nodes::node_line(s, at, line, c, 0, 1);
+    let nodes::Line::Node(node, _, e) = row else {
+        return stopped(row, slots);
+    };
+    slots[0] = table::Slot { node };
+    further_nodes(s, e, line + 1, c, slots)
+}
+
+fn node_rows(s: &[u8], at: usize, line: usize, c: nodes::Scope) -> Slots
+    requires { ⌜ (at ≤ length (now s)) × Fits c × (0 < c .nodes) × (line < 1000) ⌝ }
+    ensures { λ r. ⌜ SlotsAt (scopeIn c) (c .closed) (now (s .entry)) at line r ⌝ }
+{
+    if c.closed {
+        return closed_nodes(s, at, line, c);
+    }
+    open_nodes(s, at, line, c)
+}
+
+// ---- procedures
+
+// What a procedure's line says, with its node lines.
+fn with_nodes(h: records::ProcHead, body: Slots) -> ProcRow
+    ensures { λ r. ⌜ r ≡ rowOf h body ⌝ }
+{
+    let end = body.end;
+    let slots = body.slots;
+    let q = table::Proc {
+        params: h.params,
+        vars: h.vars,
+        nodes: h.nodes,
+        drop: h.drop,
+        slots,
+    };
+    ProcRow {
+        end,
+        line: body.line,
+        proc: q,
+    }
+}
+
+fn empty_proc() -> table::Proc
+    ensures { λ r. ⌜ r ≡ noProc ⌝ }
+{
+    let none = table::Slot {
+        node: table::Node::Absent,
+    };
+    table::Proc {
+        params: 0,
+        vars: 0,
+        nodes: 0,
+        drop: 0,
+        slots: [none; 32],
+    }
+}
+
+fn proc_fault(head: records::ProcLine) -> text::Fault
+    ensures { λ r. ⌜ r ≡ procFault head ⌝ }
+{
+    match head {
+        records::ProcLine::Is(_, _) => text::Fault::Form,
+        records::ProcLine::Refused(f) => f,
+    }
+}
+
+// A procedure's line and its node lines.
+fn proc_row(
+    s: &[u8],
+    at: usize,
+    line: usize,
+    closed: bool,
+    counts: records::Counts,
+    i: u64,
+) -> ProcRow
+    requires { ⌜ (at ≤ length (now s)) × Counted counts × (i < 8) × (line < 999) ⌝ }
+    ensures { λ r. ⌜ ProcRowAt closed counts i (now (s .entry)) at line r ⌝ }
+{
+    let head = records::proc_line(s, at, closed, i);
+    let records::ProcLine::Is(h, e) = head else {
+        return ProcRow {
+            end: rows::End::Refused(proc_fault(head)),
+            line,
+            proc: empty_proc(),
+        };
+    };
+    let c = nodes::Scope {
+        closed,
+        procs: counts.procs as u64,
+        sems: counts.sems as u64,
+        queues: counts.queues as u64,
+        vars: h.vars as u64,
+        nodes: h.nodes as u64,
+    };
+    let body = node_rows(s, e, line + 1, c);
+    with_nodes(h, body)
+}
+
+pub fn proc_rows(s: &[u8], at: usize, line: usize, closed: bool, counts: records::Counts) -> Procs
+    requires { ⌜ (at ≤ length (now s)) × Counted counts × (line ≤ 100) ⌝ }
+    ensures { λ r. ⌜ ProcsAt closed counts (now (s .entry)) at line r ⌝ }
+{
+    let none = empty_proc();
+    let mut proc = [none; 8];
+    let n = counts.procs as usize;
+    let mut p = at;
+    let mut l = line;
+    let mut i = 0;
+    while i < n {
+        let row = proc_row(s, p, l, closed, counts, i as u64);
+        let end = row.end;
+        let rows::End::At(e) = end else {
+            return Procs {
+                end,
+                line: row.line,
+                proc,
+            };
+        };
+        let q = row.proc;
+        proc[i] = q;
+        p = e;
+        l = row.line;
+        i += 1;
+    }
+    Procs {
+        end: rows::End::At(p),
+        line: l,
+        proc,
+    }
+}

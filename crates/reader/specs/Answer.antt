@@ -1,0 +1,75 @@
+-- What the readers of whole texts answer.
+use Prim.Native.Nat.{ℕ, _≤_}
+use mathlib.Core.Path.{_≡_}
+use mathlib.Core.List.{List}
+use mathlib.Core.Bool.{Bool}
+use lib.ListN.{length, drop, replicate}
+use Rattle.table.specs.Table.{noTask, noSem, noQueue}
+use Rattle.table.specs.declared.Task.{Task}
+use Rattle.table.specs.declared.Sem.{Sem}
+use Rattle.table.specs.declared.Queue.{Queue}
+use Rattle.text.specs.declared.Fault.{Fault}
+use Rattle.text.specs.Line.{Parser, _>>=_, give}
+use Rattle.text.specs.Reader.{rows, taskRow, semRow, queueRow, body, table}
+use Rattle.records.specs.declared.Counts.{Counts}
+use Rattle.records.specs.declared.HeadLine.{HeadLine}
+use Rattle.records.specs.declared.HeadLine.the-variants.{Is as IsHead, Refused as NotHead}
+use Rattle.records.specs.declared.CountsLine.{CountsLine}
+use Rattle.records.specs.declared.CountsLine.the-variants.{Is as IsCounts, Refused as NotCounts}
+use Rattle.rows.specs.declared.End.{End}
+use Rattle.rows.specs.declared.End.the-variants.{At, Refused}
+use Rattle.rows.specs.Rows.{endIn, endWithin}
+use Rattle.late.specs.Late.{Counted as Few}
+use Rattle.reader.specs.declared.Objects.{Objects}
+use Rattle.reader.specs.declared.Whole.{Whole}
+
+abbrev pub headFault : HeadLine → Fault
+headFault (IsHead n c e) = Fault.Form
+headFault (NotHead f) = f
+
+abbrev pub countsFault : CountsLine → Fault
+countsFault (IsCounts x e) = Fault.Form
+countsFault (NotCounts f) = f
+
+abbrev pub faultOf : End → Fault
+faultOf (At e) = Fault.Form
+faultOf (Refused f) = f
+
+-- three lists of rows
+pub record Lists : Type 0 where
+  pub task : List Task
+  pub sem : List Sem
+  pub queue : List Queue
+
+abbrev pub lists : List Task → List Sem → List Queue → Lists
+lists ts ss qs = record { task = ts; sem = ss; queue = qs }
+
+abbrev pub listsOf : Objects → Lists
+listsOf r = lists (r .task) (r .sem) (r .queue)
+
+abbrev pub queueRows : Bool → Counts → List Task → List Sem → Parser Lists
+queueRows closed x ts ss = rows (queueRow closed) (x .queues) 0 (replicate 8 noQueue) >>= λ qs. give (lists ts ss qs)
+
+abbrev pub semRows : Bool → Counts → List Task → Parser Lists
+semRows closed x ts = rows semRow (x .sems) 0 (replicate 8 noSem) >>= queueRows closed x ts
+
+abbrev pub objectRows : Bool → Counts → Parser Lists
+objectRows closed x = rows (taskRow (x .procs)) (x .tasks) 0 (replicate 4 noTask) >>= semRows closed x
+
+pub record ObjectsAt (closed : Bool) (x : Counts) (s : List ℕ) (at line : ℕ) (r : Objects) : Type 0 where
+  pub same : endIn s (r .line) (listsOf r) (r .end) ≡ objectRows closed x line (drop at s)
+  pub within : endWithin s (r .end)
+  pub lines : r .line ≤ 23
+
+-- the counts of a table that was read are in range
+abbrev pub endFew : Whole → End → Type 0
+endFew r (At e) = Few (r .table)
+endFew r (Refused f) = Unit {0}
+
+pub record BodyAt (trap : ℕ) (closed : Bool) (x : Counts) (s : List ℕ) (at : ℕ) (r : Whole) : Type 0 where
+  pub same : endIn s (r .line) (r .table) (r .end) ≡ body trap closed (x .tasks) (x .procs) (x .sems) (x .queues) 3 (drop at s)
+  pub few : endFew r (r .end)
+
+pub record WholeAt (s : List ℕ) (r : Whole) : Type 0 where
+  pub same : endIn s (r .line) (r .table) (r .end) ≡ table 1 s
+  pub few : endFew r (r .end)

@@ -1,0 +1,223 @@
+-- The lines of a text, one group behind the other.
+use Prim.Native.Nat.{ℕ, suc, _+_, _≤_, _<_}
+use mathlib.Core.Path.{_≡_, refl, sym, _∙_, ap}
+use mathlib.Core.List.{List, []}
+use mathlib.Core.Bool.{Bool, true, false}
+use native.Mathlib.Omega.{arith}
+use borrow.Author.Tests.{lt-ltb, le-ltb}
+use lib.ListN.{length, drop, getD, replicate, drop-of-length-le}
+use lib.Seq.{drop-cons}
+use Rattle.table.specs.Table.{noTable, noTask, noSem, noQueue, noProc, outside}
+use Rattle.table.specs.declared.Sem.{Sem}
+use Rattle.table.specs.declared.Queue.{Queue}
+use Rattle.table.specs.declared.Proc.{Proc}
+use Rattle.table.specs.declared.Table.{Table}
+use Rattle.text.specs.declared.Fault.{Fault}
+use Rattle.text.specs.declared.Fault.the-variants.{Long, Ended}
+use Rattle.text.specs.declared.Reading.{Reading}
+use Rattle.text.specs.Fault.{number}
+use Rattle.text.specs.Line.{Vals, Outcome, took, refused, Parser, onto, _>>=_, give, line}
+use Rattle.text.specs.LineLaws.{onto-read, line-read}
+use Rattle.text.specs.RowLaws.{Rows, Row, faultless, rows-fill}
+use Rattle.text.specs.NodeLaws.{number-fact}
+use Rattle.text.specs.Format.{headLine, countsLine, procLine}
+use Rattle.text.specs.Reader.{rows, taskRow, semRow, queueRow, nodesOf, scopeOf, procOf, procRow, atEnd, body, table, late, firstLate, good, bad, resultOf, readLines, reading, read}
+use Rattle.fields.specs.Answer.{LineAt}
+use Rattle.fields.specs.FieldLaws.{onto-onto, onto-got, onto-stop}
+use Rattle.records.specs.declared.Counts.{Counts}
+use Rattle.records.specs.declared.HeadLine.{HeadLine}
+use Rattle.records.specs.declared.HeadLine.the-variants.{Is as IsHead, Refused as NotHead}
+use Rattle.records.specs.declared.CountsLine.{CountsLine}
+use Rattle.records.specs.declared.CountsLine.the-variants.{Is as IsCounts, Refused as NotCounts}
+use Rattle.records.specs.Answer.{headIn, valsOf, Counted, CountsAt}
+use Rattle.rows.specs.declared.End.{End}
+use Rattle.rows.specs.declared.End.the-variants.{At, Refused}
+use Rattle.rows.specs.declared.Tasks.{Tasks}
+use Rattle.rows.specs.declared.Sems.{Sems}
+use Rattle.rows.specs.declared.Queues.{Queues}
+use Rattle.rows.specs.Rows.{endIn, RowsAt}
+use Rattle.rows.specs.RowLaws.{end-mapped}
+use Rattle.procs.specs.declared.Procs.{Procs}
+use Rattle.procs.specs.Answer.{ProcsAt}
+use Rattle.late.specs.declared.Late.{Late}
+use Rattle.late.specs.declared.Late.the-variants.{Good, Bad}
+use Rattle.late.specs.Late.{lateIn, Counted as Few}
+use Rattle.reader.specs.declared.Objects.{Objects}
+use Rattle.reader.specs.declared.Whole.{Whole}
+use Rattle.reader.specs.Answer.{headFault, countsFault, faultOf, Lists, lists, listsOf, queueRows, semRows, objectRows, ObjectsAt, BodyAt, WholeAt}
+
+module _ {A : Type 0} {f : ℕ → Parser A} {n : ℕ} {acc : List A} {s : List ℕ} {at line : ℕ} {e : End} {l : ℕ} {a : List A} (m : RowsAt f n acc s at line e l a) where
+  rows-took : {p : ℕ} → e ≡ At p → rows f n 0 acc line (drop at s) ≡ took a l (drop p s)
+  rows-took q = sym (m .same) ∙ rw q
+
+  rows-refused : {x : Fault} → e ≡ Refused x → rows f n 0 acc line (drop at s) ≡ refused x l
+  rows-refused q = sym (m .same) ∙ rw q
+
+  pub rows-place : {p : ℕ} → e ≡ At p → p ≤ length s
+  rows-place q = rw q at (m .within)
+
+-- ---- tasks, semaphores and queues
+module _ {closed : Bool} {x : Counts} {s : List ℕ} {at line : ℕ} {a : Tasks}
+    (m : RowsAt (taskRow (x .procs)) (x .tasks) (replicate 4 noTask) s at line (a .end) (a .line) (a .task)) (u : a .line ≤ line + 4) (h : line ≤ 3) where
+  pub tasks-stop : {y : Fault} → a .end ≡ Refused y → {ss : List Sem} {qs : List Queue}
+      → ObjectsAt closed x s at line (record { end = a .end; line = a .line; task = a .task; sem = ss; queue = qs })
+  tasks-stop q = record { same = rw (q, rows-refused m q); within = rw q tt; lines = omega arith }
+
+  module _ {p : ℕ} (q : a .end ≡ At p) {b : Sems} (n : RowsAt semRow (x .sems) (replicate 8 noSem) s p (a .line) (b .end) (b .line) (b .sem)) (v : b .line ≤ a .line + 8) where
+    pub sems-stop : {y : Fault} → b .end ≡ Refused y → {qs : List Queue}
+        → ObjectsAt closed x s at line (record { end = b .end; line = b .line; task = a .task; sem = b .sem; queue = qs })
+    sems-stop r = record { same = rw (r, rows-took m q, rows-refused n r); within = rw r tt; lines = omega arith }
+
+    pub objects-end : {i : ℕ} → b .end ≡ At i → {c : Queues} → RowsAt (queueRow closed) (x .queues) (replicate 8 noQueue) s i (b .line) (c .end) (c .line) (c .queue)
+        → c .line ≤ b .line + 8 → ObjectsAt closed x s at line (record { end = c .end; line = c .line; task = a .task; sem = b .sem; queue = c .queue })
+    objects-end r {c} o w = record {
+      same = rw (rows-took m q, rows-took n r)
+          (end-mapped (c .end) s (c .line) (c .queue) (lists (a .task) (b .sem))
+          ∙ ap (λ (z : Outcome (List Queue)). onto z (λ qs k t. took (lists (a .task) (b .sem) qs) k t)) (o .same));
+      within = o .within;
+      lines = omega arith;
+    }
+
+pub objects-place : {closed : Bool} {x : Counts} {s : List ℕ} {at line : ℕ} {r : Objects} → ObjectsAt closed x s at line r → {p : ℕ} → r .end ≡ At p → p ≤ length s
+objects-place m q = rw q at (m .within)
+
+-- ---- the lines behind the first two
+
+abbrev tableOf : ℕ → Bool → Counts → Lists → List Proc → Table
+tableOf trap closed x o ps = record {
+  trap = trap;
+  closed = closed;
+  tasks = x .tasks;
+  procs = x .procs;
+  sems = x .sems;
+  queues = x .queues;
+  task = o .task;
+  sem = o .sem;
+  queue = o .queue;
+  proc = ps;
+}
+
+-- procedures and the text's end
+abbrev others : ℕ → Bool → Counts → Lists → Parser Table
+others trap closed x o =
+    rows (procRow closed (x .procs) (x .sems) (x .queues)) (x .procs) 0 (replicate 8 noProc) >>= λ ps.
+    atEnd >>= λ u.
+    give (tableOf trap closed x o ps)
+
+body-parts : (trap : ℕ) (closed : Bool) (x : Counts) (l : ℕ) (t : List ℕ)
+    → onto (objectRows closed x l t) (others trap closed x) ≡ body trap closed (x .tasks) (x .procs) (x .sems) (x .queues) l t
+unfolding body
+body-parts trap closed x l t =
+    let g = others trap closed x in
+    onto-onto (rows (taskRow (x .procs)) (x .tasks) 0 (replicate 4 noTask) l t) (semRows closed x) g
+    ∙ (λ ι. onto (rows (taskRow (x .procs)) (x .tasks) 0 (replicate 4 noTask) l t) (λ ts l₁ t₁.
+    (onto-onto (rows semRow (x .sems) 0 (replicate 8 noSem) l₁ t₁) (queueRows closed x ts) g
+    ∙ (λ κ. onto (rows semRow (x .sems) 0 (replicate 8 noSem) l₁ t₁) (λ ss l₂ t₂.
+    onto-onto (rows (queueRow closed) (x .queues) 0 (replicate 8 noQueue) l₂ t₂) (λ qs. give (lists ts ss qs)) g κ))) ι))
+
+-- "n 2 to 32"
+abbrev small : Rows Proc
+small = record {
+  text = λ i a. [];
+  empty = outside;
+  Fine = λ i a. a .nodes ≤ 32;
+  Fits = λ a. ⊥;
+  Clean = λ a. Unit {0};
+  Next = λ i s. Unit {0};
+  next = λ i b s n. tt;
+}
+
+small-row : (closed : Bool) (procs sems queues : ℕ) (i l : ℕ) (s : List ℕ) (a : Proc) (l′ : ℕ) (r : List ℕ) → procRow closed procs sems queues i l s ≡ took a l′ r → Row small i s a r
+small-row closed procs sems queues i l s a l′ r e = record {
+  fine =
+      onto-read (line (procLine closed i) l s) _ a l′ r e (λ w l₁ s₁ q e₁.
+      onto-read (nodesOf (scopeOf closed procs sems queues i w) closed l₁ s₁) _ a l′ r e₁ (λ L l₂ s₂ u e₂.
+      let p : procOf closed i w L ≡ a = cc e₂ in
+      let f = faultless (procLine closed i) w (line-read (procLine closed i) l s w l₁ s₁ q .2) in
+      let n : w .1 .1 .1 .0 < 33 = number-fact 2 33 _ (w .1 .1 .1 .0) (f .1 .1 .1 .0) .1 in
+      rw (← p) (omega arith)));
+  same = λ h. absurd h;
+  only = λ h. absurd h;
+}
+
+module _ {trap : ℕ} {closed : Bool} {x : Counts} {s : List ℕ} {at : ℕ} {o : Objects} (m : ObjectsAt closed x s at 3 o) where
+  pub body-stop : {y : Fault} → o .end ≡ Refused y → {t : Table} → BodyAt trap closed x s at (record { end = o .end; line = o .line; table = t })
+  body-stop q = record { same = rw (← body-parts trap closed x 3 (drop at s), ← m .same, q); few = rw q tt }
+
+  module _ {p : ℕ} (q : o .end ≡ At p) {b : Procs} (n : ProcsAt closed x s p (o .line) b) where
+    pub procs-stop : {y : Fault} → b .end ≡ Refused y → {t : Table} → BodyAt trap closed x s at (record { end = b .end; line = b .line; table = t })
+    procs-stop r = record { same = rw (← body-parts trap closed x 3 (drop at s), ← m .same, q, r, rows-refused (n .rows) r); few = rw r tt }
+
+    pub body-more : {e : ℕ} → b .end ≡ At e → e < length s → {t : Table} → BodyAt trap closed x s at (record { end = Refused Ended; line = b .line; table = t })
+    body-more {e} r h = record { same = rw (← body-parts trap closed x 3 (drop at s), ← m .same, q, rows-took (n .rows) r, drop-cons s e 0 h); few = tt }
+
+    pub body-end : Counted x → {e : ℕ} → b .end ≡ At e → length s ≤ e
+        → BodyAt trap closed x s at (record { end = At e; line = b .line; table = tableOf trap closed x (listsOf o) (b .proc) })
+    body-end c {e} r h =
+        let t = rows-took (n .rows) r in
+        let f = rows-fill small (procRow closed (x .procs) (x .sems) (x .queues)) (small-row closed (x .procs) (x .sems) (x .queues)) (x .procs) 0 (x .procs) (replicate 8 noProc) (o .line) (drop p s) (b .proc) (b .line) (drop e s) (omega arith) (omega (arith, c .procs)) t in
+        record {
+          same = rw (← body-parts trap closed x 3 (drop at s), ← m .same, q, t, drop-of-length-le s h);
+          few = record { tasks = omega (arith, c .tasks); procs = omega (arith, c .procs); nodes = λ i k. f .fine i (omega arith) k };
+        }
+
+-- ---- the whole text
+module _ {s : List ℕ} {r : HeadLine} (m : LineAt headLine (λ w. w) s 0 (headIn r)) where
+  pub head-stop : {f y : Fault} → r ≡ NotHead f → y ≡ headFault r → {t : Table} → WholeAt s (record { end = Refused y; line = 1; table = t })
+  unfolding table
+  head-stop {f} q d = rw (d, q) (record { same = rw (onto-stop (line headLine 1 s) (λ w. w) {f = f} {l = 1} (sym (m .same 1) ∙ rw q)); few = tt })
+
+  pub head-place : {n : ℕ} {c : Bool} {a : ℕ} → r ≡ IsHead n c a → a ≤ length s
+  head-place q = rw q at (m .within)
+
+  head-got : {n : ℕ} {c : Bool} {a : ℕ} → r ≡ IsHead n c a → line headLine 1 s ≡ took (n, (c, tt)) 2 (drop a s)
+  head-got {n} {c} {a} q =
+      let t = onto-got (line headLine 1 s) (λ w. w) {b = (n, (c, tt))} {l = 2} {s = drop a s} (sym (m .same 1) ∙ rw q) in
+      t .1 ∙ rw (t .2)
+
+  module _ {n : ℕ} {c : Bool} {a : ℕ} (q : r ≡ IsHead n c a) {k : CountsLine} (o : CountsAt countsLine (λ w. w) s a k) where
+    pub counts-stop : {f y : Fault} → k ≡ NotCounts f → y ≡ countsFault k → {t : Table} → WholeAt s (record { end = Refused y; line = 2; table = t })
+    unfolding table
+    counts-stop {f} p d = rw (d, p) (record { same = rw (head-got q, onto-stop (line countsLine 2 (drop a s)) (λ w. w) {f = f} {l = 2} (sym (o .is .same 2) ∙ rw p)); few = tt })
+
+    pub counts-place : {x : Counts} {b : ℕ} → k ≡ IsCounts x b → b ≤ length s
+    counts-place p = rw p at (o .is .within)
+
+    pub counts-fit : {x : Counts} {b : ℕ} → k ≡ IsCounts x b → Counted x
+    counts-fit p = rw p at (o .fit)
+
+    pub table-go : {x : Counts} {b : ℕ} → k ≡ IsCounts x b → {w : Whole} → BodyAt n c x s b w → WholeAt s w
+    unfolding table
+    table-go {x} {b} p {w} u =
+        let t = onto-got (line countsLine 2 (drop a s)) (λ w. w) {b = valsOf x} {l = 3} {s = drop b s} (sym (o .is .same 2) ∙ rw p) in
+        record { same = u .same ∙ rw (head-got q, t .1, t .2); few = u .few }
+
+-- ---- the answer
+pub refused-is : (f : Fault) {l n : ℕ} {t : Table} → n ≡ number f → t ≡ noTable → _≡_ {A = Reading} (record { number = n; line = l; table = t }) (reading (bad f l))
+refused-is f {l} p q = λ ι. record { number = p ι; line = l; table = q ι }
+
+pub read-long : (s : List ℕ) → 65536 < length s → {r : Reading} → r ≡ reading (bad Long 0) → r ≡ read s
+unfolding read
+read-long s h q = q ∙ rw (lt-ltb 65536 (length s) h, read)
+
+module _ {s : List ℕ} {w : Whole} (m : WholeAt s w) where
+  pub read-few : {e : ℕ} → w .end ≡ At e → Few (w .table)
+  read-few q = rw q at (m .few)
+
+  module _ (h : length s ≤ 65536) where
+    answer : (o : Outcome Table) → table 1 s ≡ o → reading (resultOf o) ≡ read s
+    unfolding read readLines
+    answer o q = rw (le-ltb 65536 (length s) h, read, readLines, q)
+
+    pub read-stop : {f : Fault} → w .end ≡ Refused f → {y : Fault} → y ≡ faultOf (w .end) → {r : Reading} → r ≡ reading (bad y (w .line)) → r ≡ read s
+    read-stop {f} q d p = p ∙ rw (d, q) (answer (refused f (w .line)) (sym (m .same) ∙ rw q))
+
+    module _ {e : ℕ} (q : w .end ≡ At e) (l : Late) (n : lateIn (w .table) l ≡ firstLate (w .table) 1 (late (w .table))) where
+      found : reading (lateIn (w .table) l) ≡ read s
+      found = ap reading n ∙ answer (took (w .table) (w .line) (drop e s)) (sym (m .same) ∙ rw q)
+
+      pub read-good : l ≡ Good → _≡_ {A = Reading} (record { number = 0; line = 0; table = w .table }) (read s)
+      read-good p = rw p at found
+
+      pub read-bad : {f : Fault} {k : ℕ} → l ≡ Bad f k → {r : Reading} → r ≡ reading (bad f k) → r ≡ read s
+      read-bad p d = d ∙ (rw p at found)

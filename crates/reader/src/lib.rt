@@ -1,0 +1,244 @@
+// A whole text, read in one pass.
+
+use table::Node;
+use table::Proc;
+use table::Queue;
+use table::Sem;
+use table::Slot;
+use table::Table;
+use table::Task;
+use text::Fault;
+use text::Reading;
+ghost use Prim.Native.Nat.{_≤_};
+ghost use mathlib.Core.Path.{_≡_};
+ghost use lib.ListN.{length};
+ghost use Rattle.table.specs.Table.{noTable};
+ghost use Rattle.text.specs.Reader.{Result, bad, reading, read};
+ghost use Rattle.records.specs.Answer.{Counted};
+ghost use Rattle.reader.specs.Answer.{ObjectsAt, BodyAt, WholeAt, faultOf, headFault, countsFault};
+
+// A table all 0.
+pub fn no_table() -> Table
+    ensures { λ r. ⌜ r ≡ noTable ⌝ }
+{
+    let slots = [Slot { node: Node::Absent }; 32];
+    Table {
+        trap: 0,
+        closed: false,
+        tasks: 0,
+        procs: 0,
+        sems: 0,
+        queues: 0,
+        task: [Task { top: 0 }; 4],
+        sem: [Sem { count: 0 }; 8],
+        queue: [Queue {
+            cap: 0,
+            blank: false,
+        }; 8],
+        proc: [Proc {
+            params: 0,
+            vars: 0,
+            nodes: 0,
+            drop: 0,
+            slots,
+        }; 8],
+    }
+}
+
+// The tasks, semaphores and queues, with the line reached; or their first fault, with its line.
+struct Objects {
+    end: rows::End,
+    line: usize,
+    task: [Task; 4],
+    sem: [Sem; 8],
+    queue: [Queue; 8],
+}
+
+// The table that the lines of a text say, with the line reached; or their first fault, with its line.
+struct Whole {
+    end: rows::End,
+    line: usize,
+    table: Table,
+}
+
+fn head_fault(row: records::HeadLine) -> Fault
+    ensures { λ r. ⌜ r ≡ headFault row ⌝ }
+{
+    match row {
+        records::HeadLine::Is(_, _, _) => Fault::Form,
+        records::HeadLine::Refused(f) => f,
+    }
+}
+
+fn counts_fault(row: records::CountsLine) -> Fault
+    ensures { λ r. ⌜ r ≡ countsFault row ⌝ }
+{
+    match row {
+        records::CountsLine::Is(_, _) => Fault::Form,
+        records::CountsLine::Refused(f) => f,
+    }
+}
+
+fn fault_of(end: rows::End) -> Fault
+    ensures { λ r. ⌜ r ≡ faultOf end ⌝ }
+{
+    match end {
+        rows::End::At(_) => Fault::Form,
+        rows::End::Refused(f) => f,
+    }
+}
+
+// The lines of tasks, semaphores and queues.
+fn object_rows(s: &[u8], at: usize, line: usize, closed: bool, counts: records::Counts) -> Objects
+    requires { ⌜ (at ≤ length (now s)) × Counted counts × (line ≤ 3) ⌝ }
+    ensures { λ r. ⌜ ObjectsAt closed counts (now (s .entry)) at line r ⌝ }
+{
+    let none = Sem { count: 0 };
+    let empty = Queue {
+        cap: 0,
+        blank: false,
+    };
+    let a = rows::task_rows(s, at, line, counts.tasks as usize, counts.procs as u64);
+    let first = a.end;
+    let task = a.task;
+    let rows::End::At(p) = first else {
+        return Objects {
+            end: first,
+            line: a.line,
+            task,
+            sem: [none; 8],
+            queue: [empty; 8],
+        };
+    };
+    let b = rows::sem_rows(s, p, a.line, counts.sems as usize);
+    let second = b.end;
+    let sem = b.sem;
+    let rows::End::At(q) = second else {
+        return Objects {
+            end: second,
+            line: b.line,
+            task,
+            sem,
+            queue: [empty; 8],
+        };
+    };
+    let c = rows::queue_rows(s, q, b.line, counts.queues as usize, closed);
+    let third = c.end;
+    let queue = c.queue;
+    Objects {
+        end: third,
+        line: c.line,
+        task,
+        sem,
+        queue,
+    }
+}
+
+// The lines behind the first two.
+fn body(s: &[u8], at: usize, trap: u8, closed: bool, counts: records::Counts) -> Whole
+    requires { ⌜ (at ≤ length (now s)) × Counted counts ⌝ }
+    ensures { λ r. ⌜ BodyAt trap closed counts (now (s .entry)) at r ⌝ }
+{
+    let o = object_rows(s, at, 3, closed, counts);
+    let first = o.end;
+    let rows::End::At(p) = first else {
+        return Whole {
+            end: first,
+            line: o.line,
+            table: no_table(),
+        };
+    };
+    let b = procs::proc_rows(s, p, o.line, closed, counts);
+    let second = b.end;
+    let rows::End::At(e) = second else {
+        return Whole {
+            end: second,
+            line: b.line,
+            table: no_table(),
+        };
+    };
+    if e < s.len() {
+        return Whole {
+            end: rows::End::Refused(Fault::Ended),
+            line: b.line,
+            table: no_table(),
+        };
+    }
+    let task = o.task;
+    let sem = o.sem;
+    let queue = o.queue;
+    let proc = b.proc;
+    Whole {
+        end: rows::End::At(e),
+        line: b.line,
+        table: Table {
+            trap,
+            closed,
+            tasks: counts.tasks,
+            procs: counts.procs,
+            sems: counts.sems,
+            queues: counts.queues,
+            task,
+            sem,
+            queue,
+            proc,
+        },
+    }
+}
+
+// The lines of a whole text.
+fn table_rows(s: &[u8]) -> Whole
+    ensures { λ r. ⌜ WholeAt (now (s .entry)) r ⌝ }
+{
+    let head = records::head_line(s, 0);
+    let records::HeadLine::Is(trap, closed, a) = head else {
+        return Whole {
+            end: rows::End::Refused(head_fault(head)),
+            line: 1,
+            table: no_table(),
+        };
+    };
+    let row = records::counts_line(s, a);
+    let records::CountsLine::Is(counts, b) = row else {
+        return Whole {
+            end: rows::End::Refused(counts_fault(row)),
+            line: 2,
+            table: no_table(),
+        };
+    };
+    body(s, b, trap, closed, counts)
+}
+
+fn refused(f: Fault, line: usize) -> Reading
+    ensures { λ r. ⌜ r ≡ reading (bad f line) ⌝ }
+{
+    let table = no_table();
+    Reading {
+        number: faults::number(f),
+        line,
+        table,
+    }
+}
+
+// Any bytes: the table, or the number and line of the first fault with a table all 0.
+pub fn read(s: &[u8]) -> Reading
+    ensures { λ r. ⌜ r ≡ read (now (s .entry)) ⌝ }
+{
+    if s.len() > 65536 {
+        return refused(Fault::Long, 0);
+    }
+    let w = table_rows(s);
+    let end = w.end;
+    let rows::End::At(_) = end else {
+        return refused(fault_of(end), w.line);
+    };
+    let table = w.table;
+    match late::find(table) {
+        late::Late::Good => Reading {
+            number: 0,
+            line: 0,
+            table,
+        },
+        late::Late::Bad(f, line) => refused(f, line),
+    }
+}

@@ -1,0 +1,111 @@
+use Rattle.fields.specs.FieldLaws.{number-within, number-next, number-stop, feed-stop, feed-last}
+use native.Mathlib.Omega.{arith}
+use borrow.Author.Needs.{needs}
+use Rattle.records.proofs.task_line.Statement.{statement}
+use Rattle.records.proofs.task_line.Tie as tie
+use Rattle.records.proofs.task_line.Reads as reads
+use Rattle.records.proofs.task_line.Lts as lts
+use Rattle.fields.proofs.end_fault.Reads as end-fault-reads
+use Rattle.fields.proofs.number_fault.Reads as number-fault-reads
+use Rattle.scan.proofs.feed.Reads as feed-reads
+use Rattle.scan.proofs.number_field.Reads as number-field-reads
+
+-- src/lib.rt:41:43
+slice-aggregate-number-field : tie.Need-slice-aggregate-number-field
+slice-aggregate-number-field c = search needs
+
+-- src/lib.rt:41:56
+add-number-field : tie.Need-add-number-field
+add-number-field c = search needs
+
+-- src/lib.rt:41:9
+number-field-requires : tie.Need-number-field-requires
+number-field-requires c κs = search needs
+
+-- src/lib.rt:42:29
+enum-known-index : tie.Need-enum-known-index
+enum-known-index c = search needs
+
+-- src/lib.rt:43:34
+enum-told : tie.Need-enum-told
+enum-told c = search needs
+
+-- src/lib.rt:43:34
+number-fault-requires : tie.Need-number-fault-requires
+number-fault-requires c κs = search needs
+
+-- src/lib.rt:43:9
+returns : tie.Need-returns
+returns c = search (needs, number-stop)
+
+-- src/lib.rt:45:40
+slice-aggregate-number-field-2 : tie.Need-slice-aggregate-number-field-2
+slice-aggregate-number-field-2 c = search needs
+
+-- src/lib.rt:45:9
+number-field-requires-2 : tie.Need-number-field-requires-2
+number-field-requires-2 c κs = search (needs, number-within)
+
+-- src/lib.rt:46:26
+enum-known-top : tie.Need-enum-known-top
+enum-known-top c = search needs
+
+-- src/lib.rt:47:34
+enum-told-2 : tie.Need-enum-told-2
+enum-told-2 c = search needs
+
+-- src/lib.rt:47:34
+number-fault-requires-2 : tie.Need-number-fault-requires-2
+number-fault-requires-2 c κs = search needs
+
+-- src/lib.rt:47:9
+returns-2 : tie.Need-returns-2
+returns-2 c = search (needs, number-next, number-stop)
+
+-- src/lib.rt:49:9
+feed-requires : tie.Need-feed-requires
+feed-requires c κs = search (needs, number-within)
+
+-- src/lib.rt:50:25
+enum-known-end : tie.Need-enum-known-end
+enum-known-end c = search needs
+
+-- src/lib.rt:51:34
+enum-told-3 : tie.Need-enum-told-3
+enum-told-3 c = search needs
+
+-- src/lib.rt:51:34
+end-fault-requires : tie.Need-end-fault-requires
+end-fault-requires c κs = search needs
+
+-- src/lib.rt:51:9
+returns-3 : tie.Need-returns-3
+returns-3 c = search (needs, number-next, feed-stop)
+
+-- src/lib.rt:37:1
+returns-4 : tie.Need-returns-4
+returns-4 c = search (needs, number-next, feed-last)
+
+pub task-line-spec : {M : Type 1} → statement M
+task-line-spec =
+    tie.close
+    (tie.spec
+    slice-aggregate-number-field
+    add-number-field
+    number-field-requires
+    enum-known-index
+    enum-told
+    number-fault-requires
+    returns
+    slice-aggregate-number-field-2
+    number-field-requires-2
+    enum-known-top
+    enum-told-2
+    number-fault-requires-2
+    returns-2
+    feed-requires
+    enum-known-end
+    enum-told-3
+    end-fault-requires
+    returns-3
+    returns-4)
