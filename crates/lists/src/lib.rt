@@ -39,7 +39,7 @@ pub enum Passed {
 // ---- items
 
 // The place of the next comma, or the end.
-fn comma(t: &[u8], from: usize) -> usize
+pub fn comma(t: &[u8], from: usize) -> usize
     requires { ⌜ from ≤ length (now t) ⌝ }
     ensures { λ r. ⌜ CommaAt (now (t .entry)) from r ⌝ }
 {

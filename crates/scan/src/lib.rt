@@ -235,7 +235,7 @@ fn negative_operand(t: &[u8], e: usize, vars: u64) -> Operand
     Operand::Not(text::Fault::Range)
 }
 
-fn operand_value(t: &[u8], e: usize, vars: u64) -> Operand
+pub fn operand_value(t: &[u8], e: usize, vars: u64) -> Operand
     requires { ⌜ vars ≤ 256 ⌝ }
     ensures { λ r. ⌜ OperandJudged vars (saidOperand (now (t .entry))) e r ⌝ }
 {

@@ -1,0 +1,153 @@
+-- Laws of a word's list, item by item: each says what a step of the code shows.
+use Prim.Native.Nat.{ℕ, zero, suc, _+_, _-_, _≤_, _<_}
+use mathlib.Core.Path.{_≡_, refl, sym, _∙_, ap}
+use mathlib.Core.List.{List, [], _∷_, _++_, append-nil, append-assoc}
+use mathlib.Core.Option.{Option, none, some}
+use mathlib.Core.Bool.{Bool, true, false}
+use native.Mathlib.Omega.{arith}
+use native.Mathlib.Nat.{add-zero, add-suc, suc-add}
+use native.Mathlib.Numerals.{add-one}
+use lib.Dec.{leb}
+use lib.ListN.{length, set, drop, length-append}
+use lib.Seq.{sets, length-sets, set-out}
+use borrow.Author.Tests.{le-leb, lt-leb, lt-ltb, le-ltb}
+use Rattle.table.specs.Mask.{pick}
+use Rattle.text.specs.Number.{bytes}
+use Rattle.text.specs.Value.{same, split, each, followed}
+use Rattle.machine.specs.Program.{kept, saidItems}
+use Rattle.lists.specs.Items.{CommaAt, part, more}
+use Rattle.lists.specs.ItemLaws.{comma-split}
+use Rattle.arguments.specs.declared.Number.{Number}
+use Rattle.arguments.specs.declared.Number.the-variants.{Is, Not}
+use Rattle.arguments.specs.Answers.{countOf, before, leadingOf, leading}
+
+-- ---- stores one after another
+
+sets-append : {A : Type 0} (t u l : List A) (at : ℕ) → sets l at (t ++ u) ≡ sets (sets l at t) (at + length t) u
+sets-append [] u l at = rw add-zero
+sets-append (b ∷ t) u l at = sets-append t u _ (suc at) ∙ rw (suc-add, ← add-suc at (length t))
+
+sets-out : {A : Type 0} (t l : List A) (at : ℕ) → length l ≤ at → sets l at t ≡ l
+sets-out [] l at h = refl
+sets-out (b ∷ t) l at h = rw (set-out l at b h) (sets-out t l (suc at) (omega arith))
+
+-- ---- the items so far
+
+abbrev prefixed : {A : Type 0} → List A → Option (List A) → Option (List A)
+prefixed xs none = none
+prefixed xs (some ys) = some (xs ++ ys)
+
+prefixed-none : {A : Type 0} (o : Option (List A)) → o ≡ prefixed [] o
+prefixed-none none = refl
+prefixed-none (some xs) = refl
+
+prefixed-more : {A : Type 0} (xs : List A) (x : A) (o : Option (List A)) → prefixed xs (followed (some x) o) ≡ prefixed (xs ++ (x ∷ [])) o
+prefixed-more xs x none = refl
+prefixed-more xs x (some ys) = ap some (sym (append-assoc xs (x ∷ []) ys))
+
+module _ {A : Type 0} where
+  -- the items before a place of the word are stored
+  pub record Taking (f : List ℕ → Option A) (w : List ℕ) (l m : List A) (from n : ℕ) : Type 0 where
+    pub passed : List A
+    pub count : length passed ≡ n
+    pub fits : n ≤ length l
+    pub within : from ≤ length w
+    pub list : same (bytes "none") w ≡ false
+    pub stored : m ≡ sets l 0 passed
+    pub lead : leadingOf f (split w) ≡ passed ++ leadingOf f (split (drop from w))
+    pub says : each f (split w) ≡ prefixed passed (each f (split (drop from w)))
+
+  module _ (f : List ℕ → Option A) (w : List ℕ) (l : List A) {b : Bool} (d : b ≡ same (bytes "none") w) where
+    pub none-answer : b ≡ true → Is 0 ≡ countOf (saidItems (length l) f w)
+    unfolding saidItems
+    none-answer e = rw (← d, e, le-leb 0 (length l) (omega arith))
+
+    pub none-list : b ≡ true → l ≡ sets l 0 (leading f w)
+    none-list e = rw (← d, e)
+
+    pub taking-start : b ≡ false → Taking f w l l 0 0
+    taking-start e = record
+        { passed = []; count = refl; fits = omega arith; within = omega arith; list = sym d ∙ e; stored = refl; lead = refl; says = prefixed-none (each f (split w)) }
+
+  module _ {f : List ℕ → Option A} {w : List ℕ} {l m : List A} {from n : ℕ} (a : Taking f w l m from n) where
+    pub taking-same : length m ≡ length l
+    taking-same = ap length (a .stored) ∙ length-sets l 0 (a .passed)
+
+    answer : (o : Option (List A)) → each f (split w) ≡ o → countOf (saidItems (length l) f w) ≡ countOf (kept (λ xs. leb (length xs) (length l)) o)
+    unfolding saidItems
+    answer o e = rw (a .list, e)
+
+    lead-is : (xs : List A) → leadingOf f (split w) ≡ xs → leading f w ≡ xs
+    lead-is xs e = rw (a .list) e
+
+    module _ {to : ℕ} (c : CommaAt w from to) where
+      -- an item that says nothing
+      pub bad-answer : f (part w from to) ≡ none → Not ≡ countOf (saidItems (length l) f w)
+      unfolding each
+      bad-answer e = sym (answer none (a .says ∙ rw (comma-split c, e)))
+
+      pub bad-list : f (part w from to) ≡ none → m ≡ sets l 0 (leading f w)
+      unfolding leadingOf
+      bad-list e = a .stored ∙ ap (sets l 0) (sym (lead-is (a .passed) (a .lead ∙ rw (comma-split c, e) (append-nil (a .passed)))))
+
+      module _ {x : A} (e : f (part w from to) ≡ some x) where
+        lead-more : leadingOf f (split w) ≡ a .passed ++ (x ∷ leadingOf f (more w to))
+        unfolding leadingOf
+        lead-more = a .lead ∙ rw (comma-split c, e)
+
+        says-more : each f (split w) ≡ prefixed (a .passed ++ (x ∷ [])) (each f (more w to))
+        unfolding each
+        says-more = a .says ∙ rw (comma-split c, e) (prefixed-more (a .passed) x (each f (more w to)))
+
+        longer : length (a .passed ++ (x ∷ [])) ≡ n + 1
+        longer = length-append (a .passed) (x ∷ []) ∙ ap (λ (k : ℕ). k + 1) (a .count)
+
+        -- an item more than the list has places
+        pub full-answer : length l ≤ n → Not ≡ countOf (saidItems (length l) f w)
+        full-answer h = sym (answer _ says-more ∙ go (each f (more w to)))
+          where
+            go : (o : Option (List A)) → countOf (kept (λ xs. leb (length xs) (length l)) (prefixed (a .passed ++ (x ∷ [])) o)) ≡ Not
+            go none = refl
+            go (some ys) = rw (lt-leb (length ((a .passed ++ (x ∷ [])) ++ ys)) (length l) (omega (arith, length-append (a .passed ++ (x ∷ [])) ys, longer)))
+
+        pub full-list : length l ≤ n → m ≡ sets l 0 (leading f w)
+        full-list h =
+            let z : 0 + length (a .passed) ≡ n = omega (arith, a .count) in
+            let r = leadingOf f (more w to) in
+            a .stored ∙ sym (ap (sets l 0) (lead-is _ lead-more) ∙ sets-append (a .passed) (x ∷ r) l 0
+            ∙ sets-out (x ∷ r) (sets l 0 (a .passed)) (0 + length (a .passed)) (omega (arith, length-sets l 0 (a .passed))))
+
+        stores : set m n x ≡ sets l 0 (a .passed ++ (x ∷ []))
+        stores =
+            let z : 0 + length (a .passed) ≡ n = omega (arith, a .count) in
+            rw (sets-append (a .passed) (x ∷ []) l 0, z, a .stored)
+
+        -- the last item
+        module _ (h : n < length l) (k : length w ≤ to) where
+          no-more : more w to ≡ []
+          no-more = rw (le-ltb to (length w) k)
+
+          pub last-answer : Is (n + 1) ≡ countOf (saidItems (length l) f w)
+          unfolding each
+          last-answer =
+              let q : each f (split w) ≡ some (a .passed ++ (x ∷ [])) = says-more ∙ ap (λ (s : List (List ℕ)). prefixed (a .passed ++ (x ∷ [])) (each f s)) no-more ∙ ap some (append-nil (a .passed ++ (x ∷ []))) in
+              sym (answer _ q ∙ rw (le-leb (length (a .passed ++ (x ∷ []))) (length l) (omega (arith, longer))) (ap Is longer))
+
+          pub last-list : set m n x ≡ sets l 0 (leading f w)
+          unfolding leadingOf
+          last-list = stores ∙ ap (sets l 0) (sym (lead-is _ (lead-more ∙ ap (λ (s : List (List ℕ)). a .passed ++ (x ∷ leadingOf f s)) no-more)))
+
+        -- one more item
+        pub taking-turn : n < length l → to < length w → Taking f w l (set m n x) (to + 1) (n + 1)
+        taking-turn h k =
+            let s : more w to ≡ split (drop (to + 1) w) = rw (add-one to, lt-ltb to (length w) k) in
+            record {
+              passed = a .passed ++ (x ∷ []);
+              count = longer;
+              fits = omega arith;
+              within = omega arith;
+              list = a .list;
+              stored = stores;
+              lead = lead-more ∙ sym (append-assoc (a .passed) (x ∷ []) _) ∙ ap (λ (r : List (List ℕ)). (a .passed ++ (x ∷ [])) ++ leadingOf f r) s;
+              says = says-more ∙ ap (λ (r : List (List ℕ)). prefixed (a .passed ++ (x ∷ [])) (each f r)) s;
+            }

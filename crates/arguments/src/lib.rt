@@ -1,0 +1,150 @@
+// The words of the program `run`, each read into a number or a lent list.
+
+ghost use mathlib.Core.Path.{_≡_};
+ghost use lib.ListN.{length};
+ghost use lib.Seq.{sets};
+ghost use Rattle.machine.specs.Program.{saidUpTo, saidValue, saidItems, mostNodes, mostBytes};
+ghost use Rattle.arguments.specs.Answers.{digitsUpTo, numberOf, valueOf, countOf, leading};
+
+// A number, or the word says none.
+pub enum Number {
+    Is(usize),
+    Not,
+}
+
+// A value, or the bytes say none.
+enum Value {
+    Is(i32),
+    Not,
+}
+
+// ---- numbers
+
+// The number that digits say, if it is at most m.
+fn digits_up_to(t: &[u8], m: usize) -> Number
+    ensures { λ r. ⌜ r ≡ digitsUpTo m (now (t .entry)) ⌝ }
+{
+    let mut v: usize = 0;
+    let mut i = 0;
+    while i < t.len() {
+        let b = t[i];
+        if b < 48 {
+            return Number::Not;
+        }
+        if 57 < b {
+            return Number::Not;
+        }
+        let d = (b - 48) as usize;
+        if m < d {
+            return Number::Not;
+        }
+        if (m - d) / 10 < v {
+            return Number::Not;
+        }
+        v = v * 10 + d;
+        i += 1;
+    }
+    Number::Is(v)
+}
+
+// The number that bytes spell, if it is at most m.
+fn up_to(t: &[u8], m: usize) -> Number
+    ensures { λ r. ⌜ r ≡ numberOf (saidUpTo m (now (t .entry))) ⌝ }
+{
+    let n = t.len();
+    if n == 0 {
+        return Number::Not;
+    }
+    if n == 1 {
+        return digits_up_to(t, m);
+    }
+    let b = t[0];
+    if b == 48 {
+        return Number::Not;
+    }
+    digits_up_to(t, m)
+}
+
+// A signed 32-bit number.
+fn signed(t: &[u8]) -> Value
+    ensures { λ r. ⌜ r ≡ valueOf (saidValue (now (t .entry))) ⌝ }
+{
+    let scan::Operand::Is(o, _) = scan::operand_value(t, 0, 0) else {
+        return Value::Not;
+    };
+    let table::Operand::Const(z) = o else {
+        return Value::Not;
+    };
+    Value::Is(z)
+}
+
+// ---- the words
+
+// SCHEDULE: its task numbers are put into a lent list, those before the first that can't be read, as far as the list reaches. The answer is their
+// count.
+pub fn schedule(word: &[u8], out: &mut [u8]) -> Number
+    ensures answer { λ r. ⌜ r ≡ countOf (saidItems (length (now (out .entry))) (saidUpTo 255) (now (word .entry))) ⌝ }
+    ensures list { λ _. ⌜ now (out .exit) ≡ sets (now (out .entry)) 0 (leading (saidUpTo 255) (now (word .entry))) ⌝ }
+{
+    if scan::is_word(word, b"none") {
+        return Number::Is(0);
+    }
+    let mut from = 0;
+    let mut n = 0;
+    loop {
+        let to = lists::comma(word, from);
+        let Number::Is(k) = up_to(&word[from..to], 255) else {
+            return Number::Not;
+        };
+        if out.len() <= n {
+            return Number::Not;
+        }
+        out[n] = k as u8;
+        n += 1;
+        if word.len() <= to {
+            return Number::Is(n);
+        }
+        from = to + 1;
+    }
+}
+
+// VALUES: the same of values.
+pub fn values(word: &[u8], out: &mut [i32]) -> Number
+    ensures answer { λ r. ⌜ r ≡ countOf (saidItems (length (now (out .entry))) saidValue (now (word .entry))) ⌝ }
+    ensures list { λ _. ⌜ now (out .exit) ≡ sets (now (out .entry)) 0 (leading saidValue (now (word .entry))) ⌝ }
+{
+    if scan::is_word(word, b"none") {
+        return Number::Is(0);
+    }
+    let mut from = 0;
+    let mut n = 0;
+    loop {
+        let to = lists::comma(word, from);
+        let Value::Is(z) = signed(&word[from..to]) else {
+            return Number::Not;
+        };
+        if out.len() <= n {
+            return Number::Not;
+        }
+        out[n] = z;
+        n += 1;
+        if word.len() <= to {
+            return Number::Is(n);
+        }
+        from = to + 1;
+    }
+}
+
+// MOST: a number of dropped nodes.
+pub fn most(word: &[u8]) -> Number
+    ensures { λ r. ⌜ r ≡ numberOf (saidUpTo mostNodes (now (word .entry))) ⌝ }
+{
+    up_to(word, 18446744073709551615)
+}
+
+// LOG: a number of bytes.
+pub fn log(word: &[u8]) -> Number
+    ensures { λ r. ⌜ r ≡ numberOf (saidUpTo mostBytes (now (word .entry))) ⌝ }
+{
+    up_to(word, 524288)
+}
