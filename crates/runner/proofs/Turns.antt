@@ -28,7 +28,7 @@ use Rattle.machine.specs.declared.State.{State}
 use Rattle.machine.specs.State.{noFrame, openFrames, isLost, place, frameAt, topmost, semCount, entriesAt, standsBefore, withFrames, blockedAt, blocked}
 use Rattle.machine.specs.Step.{noTask, logFull, taskLost, taskBlocked, stopNumber, Memory, assign, oldest, shown, Choice, choose, Did, keptIn, Walk, along, onward, walk, Step, stopped, settled, called, entering, memory, entryOf, landed}
 use Rattle.machine.specs.Run.{word, flagged, entryBytes, Ran, runFrom}
-use Rattle.steps.specs.Cut.{stopOf, Named, choiceOf, Sound, Arrived, halting, haltsAt, stuckOf, showing, shownOf, actOf, triedOf, sidesOf, queueAfter, underOf}
+use Rattle.steps.specs.Cut.{stopOf, Named, choiceOf, Sound, Arrived, halting, haltsAt, stuckOf, showing, shownOf, actOf, triedOf, passOf, sidesOf, queueAfter, underOf}
 use Rattle.steps.specs.declared.Acted.{Acted}
 use Rattle.steps.specs.declared.Chosen.{Chosen}
 use Rattle.steps.specs.declared.Shown.{Shown}
@@ -36,7 +36,7 @@ use Rattle.steps.specs.declared.Sides.{Sides}
 use Rattle.starts.specs.Ready.{Placed, Ready}
 use Rattle.starts.specs.Begins.{Row, frameIn, Good}
 use Rattle.starts.specs.GoodLaws.{FrameGood, good-frame, good-depth}
-use Rattle.runner.proofs.Walks.{Met, halted, arrived, met, metOf, withVars, walking, walk-over, walk-spent, walk-halts, act-named, named-stop}
+use Rattle.runner.proofs.Walks.{Met, halted, arrived, met, metOf, withVars, walking, heading, walk-over, walk-spent, walk-halts, walk-goes, act-named, named-stop}
 use Rattle.runner.proofs.Runs.{stuck-is, doing, storedIn, didIn, doing-is, true-false, back-free, logged-is, unshown, few-back, few-how, closes, opens, step-calls, goesOn, step-goes, landed-is, flagged-is, runs, stopsAt, at-end, after, runs-turn, turn-none, turn-full, turn-lost, turn-blocked, turn-goes, after-halted, after-arrived}
 
 -- ---- the small numbers that go with a node
@@ -72,6 +72,24 @@ back-below (Recv q v to) d c len cap f = omega arith
 back-below (Assert v to) d c len cap f = omega arith
 back-below (Out v to) d c len cap f = omega arith
 back-below Return d c len cap f = omega (arith, leb-false d 1 f)
+
+-- few nodes go by the call's arc or a queue
+pub few-free : (x : Node) → sidesOf x .few ≡ false → (l : List ℤ) (d c back len cap : ℕ) (y : ℤ) (vs : List ℤ) (used : ℕ)
+    → triedOf x 0 l d c 0 0 (pos 0) vs used ≡ triedOf x back l d c len cap y vs used
+unfolding sidesOf stuckOf actOf
+few-free Absent e l d c back len cap y vs used = refl
+few-free (Start to) e l d c back len cap y vs used = refl
+few-free (Set v o a b to) e l d c back len cap y vs used = refl
+few-free (Test o a b k z) e l d c back len cap y vs used = refl
+few-free (Read v to) e l d c back len cap y vs used = refl
+few-free (Call q xs to) e l d c back len cap y vs used = refl
+few-free (Wait i to) e l d c back len cap y vs used = refl
+few-free (Signal i to) e l d c back len cap y vs used = refl
+few-free (Send q v to) e l d c back len cap y vs used = absurd (true-false e)
+few-free (Recv q v to) e l d c back len cap y vs used = absurd (true-false e)
+few-free (Assert v to) e l d c back len cap y vs used = refl
+few-free (Out v to) e l d c back len cap y vs used = refl
+few-free Return e l d c back len cap y vs used = absurd (true-false e)
 
 pub under-le : (f b d : ℕ) → underOf f b d ≤ f
 under-le f b d = go (ltb b d)
@@ -117,26 +135,37 @@ unfolding stuckOf
 call-below q xs to d c len cap f = leb-false 8 d f
 
 module _ (t : Table) (keep : List ℕ) (ready : Ready t keep) (most : ℕ) (vs : List ℤ) where
-  -- ---- where the walk over dropped nodes ends
+  -- ---- where the walk over dropped nodes ends, from an arc on
 
-  pub record Ends (p d : ℕ) (l : List ℤ) (w z : Chosen) : Type 0 where
-    pub is : (mm : Memory) → met (walking t vs p d (withVars mm l) w) ≡ metOf vs (withVars mm l) z
+  pub record Ends (p d : ℕ) (l : List ℤ) (arc us : ℕ) (z : Chosen) : Type 0 where
+    pub is : (mm : Memory) → met (heading t vs p d (withVars mm l) arc us) ≡ metOf vs (withVars mm l) z
     pub within : z .used ≤ length vs
     pub place : z .node < 32
     pub gone : pick (z .lost) (z .node) 0 ≡ 0
 
-  module _ (p d : ℕ) (inside : p < 8) (l : List ℤ) (long : length l ≡ 16) (w : Chosen) (sound : Sound (getD keep p 0) vs w) where
-    pub ends-over : (z : Chosen) → w .over ≡ true → z ≡ w → Ends p d l w z
-    ends-over z o e = rw e (record { is = λ mm. walk-over t keep ready vs p inside d (withVars mm l) w sound o; within = sound .within; place = sound .place; gone = sound .gone })
+  module _ (p d : ℕ) (inside : p < 8) (l : List ℤ) (long : length l ≡ 16) (arc us : ℕ) (w : Chosen) (arrives : Arrived arc (getD keep p 0) vs us w) where
+    abbrev sound : Sound (getD keep p 0) vs w
+    sound = arrives .sound
 
-    ends-at : (c : ℕ) → ((mm : Memory) → met (walking t vs p d (withVars mm l) w) ≡ metOf vs (withVars mm l) (halting c (w .used))) → Ends p d l w (halting c (w .used))
-    ends-at c h = record { is = h; within = sound .within; place = omega arith; gone = refl }
+    heads : (mm : Memory) (r : Met) → met (walking t vs p d (withVars mm l) w) ≡ r → met (heading t vs p d (withVars mm l) arc us) ≡ r
+    heads mm r e = ap (λ (c : Choice). met (along (λ n m ws. walk t (keptIn t) p d n m ws) (withVars mm l) c)) (arrives .choice) ∙ e
 
-    pub ends-spent : (z r : Chosen) → w .over ≡ false → d ≡ 0 → r ≡ halting 14 (w .used) → z ≡ r → Ends p d l w z
+    pub ends-over : (z : Chosen) → w .over ≡ true → z ≡ w → Ends p d l arc us z
+    ends-over z o e = rw e (record { is = λ mm. heads mm _ (walk-over t keep ready vs p inside d (withVars mm l) w sound o); within = sound .within; place = sound .place; gone = sound .gone })
+
+    ends-at : (c : ℕ) → ((mm : Memory) → met (walking t vs p d (withVars mm l) w) ≡ metOf vs (withVars mm l) (halting c (w .used))) → Ends p d l arc us (halting c (w .used))
+    ends-at c h = record { is = λ mm. heads mm _ (h mm); within = sound .within; place = omega arith; gone = refl }
+
+    pub ends-spent : (z r : Chosen) → w .over ≡ false → d ≡ 0 → r ≡ halting 14 (w .used) → z ≡ r → Ends p d l arc us z
     ends-spent z r o e h i = rw (i, h) (ends-at 14 (λ mm. walk-spent t keep ready vs p inside d (withVars mm l) w sound o e))
 
-    pub ends-halts : (z r : Chosen) (a : Acted) → w .over ≡ false → (d ≡ 0 → ⊥) → a ≡ triedOf (nodeAt t p (w .node)) 0 l 0 0 0 0 (pos 0) vs (w .used) → (a .stop ≡ 0 → ⊥) → r ≡ halting (a .stop) (w .used) → z ≡ r → Ends p d l w z
+    pub ends-halts : (z r : Chosen) (a : Acted) → w .over ≡ false → (d ≡ 0 → ⊥) → a ≡ passOf (nodeAt t p (w .node)) l vs (w .used) → (a .stop ≡ 0 → ⊥) → r ≡ halting (a .stop) (w .used) → z ≡ r → Ends p d l arc us z
     ends-halts z r a o e k n h i = rw (i, h) (ends-at (a .stop) (λ mm. walk-halts t keep ready vs p inside d (withVars mm l) w a sound o e long k n))
+
+    -- a dropped node is executed, and the walk goes on
+    pub goes-on : (a : Acted) → w .over ≡ false → (d ≡ 0 → ⊥) → a ≡ passOf (nodeAt t p (w .node)) l vs (w .used) → a .stop ≡ 0
+        → (mm : Memory) → met (heading t vs p d (withVars mm l) arc us) ≡ met (heading t vs p (d - 1) (withVars mm (set l (a .var) (a .value))) (a .arc) (a .used))
+    goes-on a o e k n mm = heads mm _ (walk-goes t keep ready vs p inside d (withVars mm l) w a sound o e long k n)
 
   -- ---- a turn, by the first task number
 
@@ -217,6 +246,19 @@ module _ (t : Table) (keep : List ℕ) (ready : Ready t keep) (most : ℕ) (vs :
 
       abbrev top : Frame
       top = frameIn (s .frames) f
+
+      -- most nodes close no frame and have no queue
+      pub few-none : v .few ≡ false → v .back ≡ 0
+      few-none e = ap (λ (v : Sides). v .back) (st .sides) ∙ few-back x (ap (λ (v : Sides). v .few) (sym (st .sides)) ∙ e)
+
+      pub stays-here : v .few ≡ false → f ≡ underOf f (v .back) d
+      stays-here e =
+          let b = few-none e in
+          let l : v .back < d = omega (arith, b, st .good .opened k (st .task)) in
+          rw (lt-ltb (v .back) d l) (omega (arith, b))
+
+      pub few-tries : v .few ≡ false → (l : List ℤ) (back : ℕ) → triedOf x 0 l d (getD (s .sems) (v .sem) 0) 0 0 (pos 0) vs used ≡ triedOf x back l d (getD (s .sems) (v .sem) 0) (entriesAt (s .queues) (v .queue) .len) (queueAt t (v .queue) .cap) (getD (entriesAt (s .queues) (v .queue) .items) 0 (pos 0)) vs used
+      few-tries e l back = few-free x (ap (λ (v : Sides). v .few) (sym (st .sides)) ∙ e) l d (getD (s .sems) (v .sem) 0) back _ _ _ vs used
 
       -- ---- the node tried, in the frame at place g; back is the call's arc where it matters
 
@@ -376,16 +418,15 @@ module _ (t : Table) (keep : List ℕ) (ready : Ready t keep) (most : ℕ) (vs :
               let i : Named (o .stop) = rw acts (act-named x (arcTo y) (fr .vars) _ _ vs used) in
               kept-is ∙ after-halted t most vs n s used log rest (entryOf k (topmost s k) x) (closes (v .back) s k) k j p (ways (didIn vs (memory s fr) v o)) (o .stop) (rw (ne-eqb (o .stop) 0 h) (ap halted (named-stop (o .stop) i h)))
 
-          module _ (on : o .stop ≡ 0) (w : Chosen) (arrives : Arrived (o .arc) (getD keep p 0) vs (o .used) w) (l₀ : List ℤ) (sets-var : l₀ ≡ set (fr .vars) (o .var) (o .value))
-              (z : Chosen) (l : List ℤ) (ends : (mm : Memory) → met (walking t vs p most (withVars mm l₀) w) ≡ metOf vs (withVars mm l) z) where
+          module _ (on : o .stop ≡ 0) (l₀ : List ℤ) (sets-var : l₀ ≡ set (fr .vars) (o .var) (o .value))
+              (z : Chosen) (l : List ℤ) (ends : (mm : Memory) → met (heading t vs p most (withVars mm l₀) (o .arc) (o .used)) ≡ metOf vs (withVars mm l) z) where
             abbrev mem : Memory
             mem = storedIn (memory s fr) v o
 
             met-is : met (ways (didIn vs (memory s fr) v o)) ≡ metOf vs (withVars mem l) z
             met-is =
                 rw (eq-eqb (o .stop) 0 on)
-                (ap (λ (c : Choice). met (along (λ n m ws. walk t (keptIn t) p most n m ws) mem c)) (arrives .choice) ∙
-                ap (λ (l : List ℤ). met (walking t vs p most (withVars mem l) w)) (sym sets-var) ∙ ends mem)
+                (ap (λ (l : List ℤ). met (heading t vs p most (withVars mem l) (o .arc) (o .used))) (sym sets-var) ∙ ends mem)
 
             pub stop-walking : (z .stop ≡ 0 → ⊥) → going ≡ ending (z .stop)
             stop-walking h = kept-is ∙ after-halted t most vs n s used log rest (entryOf k (topmost s k) x) (closes (v .back) s k) k j p (ways (didIn vs (memory s fr) v o)) (z .stop) (met-is ∙ rw (ne-eqb (z .stop) 0 h) refl)

@@ -19,7 +19,7 @@ use Rattle.table.specs.declared.Table.{Table}
 use Rattle.closing.specs.Dirty.{Fact}
 use Rattle.closing.specs.Closing.{dirty, keptBy, kept}
 use Rattle.machine.specs.Step.{Stop, tooMany, stopNumber, Memory, operandIn, assign, Did, stops, goes, exec, Choice, nowhere, node, bad, choose, keptOf, keptIn, Walk, halts, arrives, along, onward, noting, walk}
-use Rattle.steps.specs.Cut.{stopOf, Named, choiceOf, overIn, Sound, halting, goesTo, haltsAt, readAt, stuckOf, actOf, triedOf}
+use Rattle.steps.specs.Cut.{stopOf, Named, choiceOf, overIn, Sound, halting, goesTo, haltsAt, readAt, stuckOf, actOf, triedOf, passOf}
 use Rattle.steps.specs.declared.Chosen.{Chosen}
 use Rattle.steps.specs.declared.Acted.{Acted}
 use Rattle.starts.specs.Ready.{Ready}
@@ -76,9 +76,8 @@ read-did v to c m vs used = go (leb (length vs) used) refl
     go true e = rw (drop-of-length-le vs (leb-true (length vs) used e)) refl
     go false e = let s : used + 1 ≡ suc used = omega arith in rw (drop-cons vs used (pos 0) (leb-false (length vs) used e), s) refl
 
-pub dropped-did : (x : Node) (m : Memory) (vs : List ℤ) (used : ℕ) → sometimes x → length (m .vars) ≡ 16
-    → exec x m (drop used vs) ≡ didOf vs m (actOf x 0 (m .vars) 0 (pos 0) vs used)
-unfolding exec actOf keeping
+pub dropped-did : (x : Node) (m : Memory) (vs : List ℤ) (used : ℕ) → sometimes x → length (m .vars) ≡ 16 → exec x m (drop used vs) ≡ didOf vs m (passOf x (m .vars) vs used)
+unfolding exec passOf keeping
 dropped-did Absent m vs used s h = ap (λ (y : Memory). goes 0 y (drop used vs)) (sym (unset m (pos 0) h))
 dropped-did (Start to) m vs used s h = absurd (s refl)
 dropped-did (Set v o a b to) m vs used s h = refl
@@ -92,22 +91,6 @@ dropped-did (Recv q v to) m vs used s h = absurd (s refl)
 dropped-did (Assert v to) m vs used s h = absurd (s refl)
 dropped-did (Out v to) m vs used s h = absurd (s refl)
 dropped-did Return m vs used s h = absurd (s refl)
-
-pub dropped-tried : (x : Node) (l vs : List ℤ) (used : ℕ) → sometimes x → triedOf x 0 l 0 0 0 0 (pos 0) vs used ≡ actOf x 0 l 0 (pos 0) vs used
-unfolding stuckOf keeping
-dropped-tried Absent l vs used s = refl
-dropped-tried (Start to) l vs used s = refl
-dropped-tried (Set v o a b to) l vs used s = refl
-dropped-tried (Test o a b y n) l vs used s = refl
-dropped-tried (Read v to) l vs used s = refl
-dropped-tried (Call q xs to) l vs used s = absurd (s refl)
-dropped-tried (Wait i to) l vs used s = absurd (s refl)
-dropped-tried (Signal i to) l vs used s = absurd (s refl)
-dropped-tried (Send q v to) l vs used s = absurd (s refl)
-dropped-tried (Recv q v to) l vs used s = absurd (s refl)
-dropped-tried (Assert v to) l vs used s = refl
-dropped-tried (Out v to) l vs used s = refl
-dropped-tried Return l vs used s = absurd (s refl)
 
 -- an answer's stop is 0 or the number of a stop
 pub act-named : (x : Node) (back : ℕ) (l : List ℤ) (c : ℕ) (y : ℤ) (vs : List ℤ) (used : ℕ) → Named (actOf x back l c y vs used .stop)
@@ -157,6 +140,46 @@ tried-within x back l d c len cap y vs used h = go (stuckOf x d c len cap)
     go true = h
     go false = act-within x back l c y vs used h
 
+pub pass-named : (x : Node) (l vs : List ℤ) (used : ℕ) → Named (passOf x l vs used .stop)
+unfolding passOf stopNumber
+pass-named Absent l vs used = refl
+pass-named (Start to) l vs used = refl
+pass-named (Set v o a b to) l vs used = refl
+pass-named (Test o a b k z) l vs used = refl
+pass-named (Read v to) l vs used = go (leb (length vs) used)
+  where
+    go : (b : Bool) → Named ((pick b (haltsAt 15 used 0) (goesTo v (getD vs used (pos 0)) (used + 1) to 0)) .stop)
+    go true = refl
+    go false = refl
+pass-named (Call q xs to) l vs used = refl
+pass-named (Wait i to) l vs used = refl
+pass-named (Signal i to) l vs used = refl
+pass-named (Send q v to) l vs used = refl
+pass-named (Recv q v to) l vs used = refl
+pass-named (Assert v to) l vs used = refl
+pass-named (Out v to) l vs used = refl
+pass-named Return l vs used = refl
+
+pub pass-within : (x : Node) (l vs : List ℤ) (used : ℕ) → used ≤ length vs → passOf x l vs used .used ≤ length vs
+unfolding passOf
+pass-within Absent l vs used h = h
+pass-within (Start to) l vs used h = h
+pass-within (Set v o a b to) l vs used h = h
+pass-within (Test o a b k z) l vs used h = h
+pass-within (Read v to) l vs used h = go (leb (length vs) used) refl
+  where
+    go : (b : Bool) → leb (length vs) used ≡ b → (pick b (haltsAt 15 used 0) (goesTo v (getD vs used (pos 0)) (used + 1) to 0)) .used ≤ length vs
+    go true e = h
+    go false e = omega (arith, leb-false (length vs) used e)
+pass-within (Call q xs to) l vs used h = h
+pass-within (Wait i to) l vs used h = h
+pass-within (Signal i to) l vs used h = h
+pass-within (Send q v to) l vs used h = h
+pass-within (Recv q v to) l vs used h = h
+pass-within (Assert v to) l vs used h = h
+pass-within (Out v to) l vs used h = h
+pass-within Return l vs used h = h
+
 pub named-stop : (n : ℕ) → Named n → (n ≡ 0 → ⊥) → stopNumber (stopOf n) ≡ n
 named-stop n h z = let e = ne-eqb n 0 z in rw e at h
 
@@ -165,6 +188,10 @@ named-stop n h z = let e = ne-eqb n 0 z in rw e at h
 -- from an arc's answer on, at most d dropped nodes of procedure p
 abbrev pub walking : Table → List ℤ → ℕ → ℕ → Memory → Chosen → Walk
 walking t vs p d m r = along (λ n m ws. walk t (keptIn t) p d n m ws) m (choiceOf vs r)
+
+-- the same from an arc on
+abbrev pub heading : Table → List ℤ → ℕ → ℕ → Memory → ℕ → ℕ → Walk
+heading t vs p d m arc used = along (λ n m ws. walk t (keptIn t) p d n m ws) m (choose arc (drop used vs))
 
 module _ (t : Table) (keep : List ℕ) (ready : Ready t keep) (vs : List ℤ) (p : ℕ) (inside : p < 8) where
   abbrev kp : ℕ
@@ -214,29 +241,25 @@ module _ (t : Table) (keep : List ℕ) (ready : Ready t keep) (vs : List ℤ) (p
   walk-spent (suc d) m r s o z = absurd (omega arith)
 
   -- a dropped node is executed: the walk halts, or goes on by its arc
-  tried-is : (m : Memory) (r : Chosen) (a : Acted) → On r → a ≡ triedOf (nodeAt t p (r .node)) 0 (m .vars) 0 0 0 0 (pos 0) vs (r .used) → a ≡ actOf (nodeAt t p (r .node)) 0 (m .vars) 0 (pos 0) vs (r .used)
-  tried-is m r a n e = e ∙ dropped-tried (nodeAt t p (r .node)) (m .vars) vs (r .used) (unkept t (t .closed) p (r .node) (n .unkept))
-
   step-on : (d : ℕ) (m : Memory) (r : Chosen) (a : Acted) → Sound kp vs r → r .over ≡ false → (d ≡ 0 → ⊥) → length (m .vars) ≡ 16
-      → a ≡ triedOf (nodeAt t p (r .node)) 0 (m .vars) 0 0 0 0 (pos 0) vs (r .used)
+      → a ≡ passOf (nodeAt t p (r .node)) (m .vars) vs (r .used)
       → met (walking t vs p d m r) ≡ met (onward (λ n m ws. walk t (keptIn t) p (d - 1) n m ws) (didOf vs m a))
   unfolding walk
   step-on zero m r a s o z h e = absurd (z refl)
   step-on (suc d) m r a s o z h e =
       let n = walk-on r s o in
       let k : suc d - 1 ≡ d = omega arith in
-      let x : exec (nodeAt t p (r .node)) m (drop (r .used) vs) ≡ didOf vs m a = dropped-did (nodeAt t p (r .node)) m vs (r .used) (unkept t (t .closed) p (r .node) (n .unkept)) h ∙ ap (didOf vs m) (sym (tried-is m r a n e)) in
+      let x : exec (nodeAt t p (r .node)) m (drop (r .used) vs) ≡ didOf vs m a = dropped-did (nodeAt t p (r .node)) m vs (r .used) (unkept t (t .closed) p (r .node) (n .unkept)) h ∙ ap (didOf vs m) (sym e) in
       rw (k, n .choice, walk, n .unkept) (met-noting (r .node) (onward (λ n m ws. walk t (keptIn t) p d n m ws) (exec (nodeAt t p (r .node)) m (drop (r .used) vs))) ∙ ap (λ (y : Did). met (onward (λ n m ws. walk t (keptIn t) p d n m ws) y)) x)
 
   pub walk-halts : (d : ℕ) (m : Memory) (r : Chosen) (a : Acted) → Sound kp vs r → r .over ≡ false → (d ≡ 0 → ⊥) → length (m .vars) ≡ 16
-      → a ≡ triedOf (nodeAt t p (r .node)) 0 (m .vars) 0 0 0 0 (pos 0) vs (r .used) → (a .stop ≡ 0 → ⊥) → met (walking t vs p d m r) ≡ metOf vs m (halting (a .stop) (r .used))
+      → a ≡ passOf (nodeAt t p (r .node)) (m .vars) vs (r .used) → (a .stop ≡ 0 → ⊥) → met (walking t vs p d m r) ≡ metOf vs m (halting (a .stop) (r .used))
   walk-halts d m r a s o z h e n =
       let f = ne-eqb (a .stop) 0 n in
-      let i : Named (a .stop) = rw (tried-is m r a (walk-on r s o) e) (act-named (nodeAt t p (r .node)) 0 (m .vars) 0 (pos 0) vs (r .used)) in
+      let i : Named (a .stop) = rw e (pass-named (nodeAt t p (r .node)) (m .vars) vs (r .used)) in
       step-on d m r a s o z h e ∙ rw f (ap halted (named-stop (a .stop) i n))
 
-  pub walk-goes : (d : ℕ) (m : Memory) (r : Chosen) (a : Acted) (r′ : Chosen) → Sound kp vs r → r .over ≡ false → (d ≡ 0 → ⊥) → length (m .vars) ≡ 16
-      → a ≡ triedOf (nodeAt t p (r .node)) 0 (m .vars) 0 0 0 0 (pos 0) vs (r .used) → a .stop ≡ 0 → choose (a .arc) (drop (a .used) vs) ≡ choiceOf vs r′
-      → met (walking t vs p d m r) ≡ met (walking t vs p (d - 1) (assign (a .var) (a .value) m) r′)
-  walk-goes d m r a r′ s o z h e n c =
-      step-on d m r a s o z h e ∙ rw (eq-eqb (a .stop) 0 n) (ap (λ (y : Choice). met (along (λ n m ws. walk t (keptIn t) p (d - 1) n m ws) (assign (a .var) (a .value) m) y)) c)
+  pub walk-goes : (d : ℕ) (m : Memory) (r : Chosen) (a : Acted) → Sound kp vs r → r .over ≡ false → (d ≡ 0 → ⊥) → length (m .vars) ≡ 16
+      → a ≡ passOf (nodeAt t p (r .node)) (m .vars) vs (r .used) → a .stop ≡ 0
+      → met (walking t vs p d m r) ≡ met (heading t vs p (d - 1) (assign (a .var) (a .value) m) (a .arc) (a .used))
+  walk-goes d m r a s o z h e n = step-on d m r a s o z h e ∙ rw (eq-eqb (a .stop) 0 n) refl

@@ -125,7 +125,26 @@ actOf (Assert v to) back l c x vs used = logsTo used to c (shownOf (valueOf l v)
 actOf (Out v to) back l c x vs used = logsTo used to c (shownOf (valueOf l v))
 actOf Return back l c x vs used = goesTo 255 (pos 0) used back c
 
--- the same, where a node may be blocked: by the frames open, the semaphore's count, the queue's length and capacity
+-- a dropped node executed; others are not met on the way
+abbrev pub passing : ℕ → Acted
+passing used = goesTo 255 (pos 0) used 0 0
+
+unfoldable pub passOf : Node → List ℤ → List ℤ → ℕ → Acted
+passOf Absent l vs used = passing used
+passOf (Start to) l vs used = passing used
+passOf (Set v o a b to) l vs used = goesTo v (apply o (operandIn l a) (operandIn l b)) used to 0
+passOf (Test o a b y n) l vs used = goesTo 255 (pos 0) used (pick (holds (apply o (operandIn l a) (operandIn l b))) y n) 0
+passOf (Read v to) l vs used = readAt v to 0 vs used
+passOf (Call q xs to) l vs used = passing used
+passOf (Wait i to) l vs used = passing used
+passOf (Signal i to) l vs used = passing used
+passOf (Send q v to) l vs used = passing used
+passOf (Recv q v to) l vs used = passing used
+passOf (Assert v to) l vs used = passing used
+passOf (Out v to) l vs used = passing used
+passOf Return l vs used = passing used
+
+-- a node executed, where it may be blocked: by the frames open, the semaphore's count, the queue's length and capacity
 abbrev pub triedOf : Node → ℕ → List ℤ → ℕ → ℕ → ℕ → ℕ → ℤ → List ℤ → ℕ → Acted
 triedOf x back l d c len cap y vs used = unless (stuckOf x d c len cap) used c (actOf x back l c y vs used)
 

@@ -11,7 +11,7 @@ ghost use Rattle.table.specs.Table.{arcTo};
 ghost use Rattle.machine.specs.State.{varAt, noFrame};
 ghost use Rattle.machine.specs.Step.{operandIn, valueOf, entering, appended, shortened};
 ghost use Rattle.machine.specs.Run.{word};
-ghost use Rattle.steps.specs.Cut.{Arrived, meeting, halting, tossed, goesTo, haltsAt, logsTo, unless, readAt, triedOf, siding, sidesOf, queueAfter, underOf, showing, shownOf};
+ghost use Rattle.steps.specs.Cut.{Arrived, meeting, halting, tossed, goesTo, haltsAt, logsTo, unless, readAt, triedOf, passOf, siding, sidesOf, queueAfter, underOf, showing, shownOf};
 ghost use Rattle.table.specs.Values.{holds};
 use table::Node;
 
@@ -349,6 +349,48 @@ pub fn act<'a>(
     }
 }
 
+// A dropped node executed: a read, a set or a test.
+pub fn pass<'a>(x: Node, vars: &'a [i32; 16], values: &'a [i32], used: usize) -> Acted
+    requires { ⌜ (length (now vars) ≡ 16) × (used ≤ length (now values)) ⌝ }
+    ensures { λ r. ⌜ r ≡ passOf x (now (vars .entry)) (now (values .entry)) used ⌝ }
+{
+    match x {
+        Node::Absent => goes(255, 0, used, 0, 0),
+        Node::Start { to: _ } => goes(255, 0, used, 0, 0),
+        Node::Set { var, op, a, b, to } => {
+            let p = operand(vars, a);
+            let q = operand(vars, b);
+            goes(var, values::apply(op, p, q), used, to, 0)
+        }
+        Node::Test { op, a, b, yes, no } => {
+            let p = operand(vars, a);
+            let q = operand(vars, b);
+            goes(255, 0, used, branch(values::apply(op, p, q), yes, no), 0)
+        }
+        Node::Read { var, to } => read(var, to, 0, values, used),
+        Node::Call {
+            callee: _,
+            args: _,
+            to: _,
+        } => goes(255, 0, used, 0, 0),
+        Node::Wait { sem: _, to: _ } => goes(255, 0, used, 0, 0),
+        Node::Signal { sem: _, to: _ } => goes(255, 0, used, 0, 0),
+        Node::Send {
+            queue: _,
+            var: _,
+            to: _,
+        } => goes(255, 0, used, 0, 0),
+        Node::Recv {
+            queue: _,
+            var: _,
+            to: _,
+        } => goes(255, 0, used, 0, 0),
+        Node::Assert { var: _, to: _ } => goes(255, 0, used, 0, 0),
+        Node::Out { var: _, to: _ } => goes(255, 0, used, 0, 0),
+        Node::Return => goes(255, 0, used, 0, 0),
+    }
+}
+
 pub fn arc_to(x: Node) -> u32
     ensures { λ r. ⌜ r ≡ arcTo x ⌝ }
 {
@@ -447,6 +489,17 @@ pub fn beside(x: Node) -> Sides
         Node::Out { var: _, to: _ } => with(0, 0, 0, 0, false),
         Node::Return => with(0, 0, 0, 1, true),
     }
+}
+
+// ---- values
+
+// A count, at most n. The compiler does not see that it stays as it is: else it makes the steps that use no value a loop of their own,
+// and every other step enters that loop anew.
+pub fn at_most(used: usize, n: usize) -> usize
+    requires { ⌜ used ≤ n ⌝ }
+    ensures { λ r. ⌜ r ≡ used ⌝ }
+{
+    if used < n { used } else { n }
 }
 
 // ---- the log
