@@ -54,11 +54,13 @@ closed-calls t c e ok vs ks most most′ log log′ long r left m stop =
     let ok′ : close t .number ≡ 0 = rw e at ok in
     let stop′ : run t ks vs most log .answer .stop ≡ 0 = rw (ran-is m) stop in
     let d = demand-3 t ok′ vs ks most most′ log log′ long stop′ in
-    let p = d .1 in
-    (d .0, rw e (record {
-      completes = λ x l u. (rw (ran-is u) at (p .completes), rw (ran-is u) at (p .used-up));
-      agree = λ n h x y l l′ u w. rw (ran-is u, ran-is w) at (p .agree n h);
-      at-standstill = λ n h x y l l′ u w. rw (ran-is u, ran-is w) at (same-standstill t ok′ vs ks most most′ log log′ long stop′ (d .0) p n h);
-      at-failure = λ n h x y l l′ u w k v to i b g.
-          rw (ran-is u, ran-is w) at (same-failure t ok′ vs ks most most′ log log′ long stop′ (d .0) p n k v to h i (rw (ran-is w) b) g);
-    }))
+    let p = d .1 in (
+      d .0,
+      rw e (record {
+        completes = λ x l u. (rw (ran-is u) at (p .completes), rw (ran-is u) at (p .used-up));
+        agree = λ n h x y l l′ u w. rw (ran-is u, ran-is w) at (p .agree n h);
+        at-standstill = λ n h x y l l′ u w. rw (ran-is u, ran-is w) at (same-standstill t ok′ vs ks most most′ log log′ long stop′ (d .0) p n h);
+        at-failure = λ n h x y l l′ u w k v to i b g.
+            rw (ran-is u, ran-is w) at (same-failure t ok′ vs ks most most′ log log′ long stop′ (d .0) p n k v to h i (rw (ran-is w) b) g);
+      }),
+    )

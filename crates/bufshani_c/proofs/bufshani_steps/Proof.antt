@@ -1,0 +1,53 @@
+use mathlib.Core.Path.{_∙_, ap}
+use Rattle.machine.specs.declared.Running.{Running}
+use Rattle.bufshani_c.specs.Texts.{Coded, packed}
+use Rattle.bufshani_c.specs.TextLaws.{stepped-refused, stepped-good}
+use native.Mathlib.Omega.{arith}
+use borrow.Author.Needs.{needs}
+use Rattle.bufshani_c.proofs.bufshani_steps.Statement.{statement}
+use Rattle.bufshani_c.proofs.bufshani_steps.Tie as tie
+use Rattle.bufshani_c.proofs.bufshani_steps.Reads as reads
+use Rattle.bufshani_c.proofs.bufshani_steps.Lts as lts
+use Rattle.bufshani.proofs.run.Reads as run-reads
+use Rattle.bufshani_c.proofs.pack.Reads as pack-reads
+use Rattle.reader.proofs.read.Reads as read-reads
+
+-- src/lib.rt:58:9
+read-requires : tie.Need-read-requires
+read-requires c κs = search needs
+
+-- src/lib.rt:60:9
+pack-requires : tie.Need-pack-requires
+pack-requires c κs = search needs
+
+-- src/lib.rt:60:9
+returns : tie.Need-returns
+returns c = let e = stepped-refused _ _ _ _ _ _ (c .before .before .before .read .ensures) (c .before .if1 .taken) in (c .pack .ensures ∙ ap (λ (x : Coded). x .answer) e, ap (λ (x : Coded). x .buffer) e)
+
+-- src/lib.rt:63:9
+run-requires : tie.Need-run-requires
+run-requires c κs = search needs
+
+-- src/lib.rt:64:5
+pack-requires-2 : tie.Need-pack-requires-2
+pack-requires-2 c κs = search needs
+
+-- src/lib.rt:47:1
+same-length : tie.Need-same-length
+same-length c = search needs
+
+-- src/lib.rt:47:1
+returns-2 : tie.Need-returns-2
+returns-2 c = let e = stepped-good _ _ _ _ _ _ (c .before .before .before .before .before .before .before .before .read .ensures) (c .before .before .before .before .before .before .if1 .left) in let w = (c .before .before .before .run .ensures) in (c .pack2 .ensures ∙ ap (λ (x : Running). packed (x .stop) (x .steps)) (w .0) ∙ ap (λ (x : Coded). x .answer) e, w .1 ∙ ap (λ (x : Coded). x .buffer) e)
+
+pub bufshani-steps-spec : {M : Type 1} → statement M
+bufshani-steps-spec =
+    tie.close
+    (tie.spec
+    read-requires
+    pack-requires
+    returns
+    run-requires
+    pack-requires-2
+    same-length
+    returns-2)
