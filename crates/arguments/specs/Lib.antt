@@ -2,3 +2,4 @@ pub mod Answers
 pub mod NumberLaws
 pub mod ItemLaws
 pub mod ListLaws
+pub mod OperandLaws

@@ -15,7 +15,7 @@ pick-bad : (b : Bool) (x : ℕ) → pickNum b x ≡ Bad → b ≡ false
 pick-bad true x e = absurd (let z : _≡_ {A = ℕ} 0 1 = cc in omega arith)
 pick-bad false x e = refl
 
-pick-good : (b : Bool) (x : ℕ) {v : ℕ} → pickNum b x ≡ Good v → (b ≡ true) × (x ≡ v)
+pub pick-good : (b : Bool) (x : ℕ) {v : ℕ} → pickNum b x ≡ Good v → (b ≡ true) × (x ≡ v)
 pick-good true x e = (refl, cc)
 pick-good false x e = absurd (let z : _≡_ {A = ℕ} 0 1 = cc in omega arith)
 

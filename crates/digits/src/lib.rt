@@ -3,13 +3,27 @@ ghost use mathlib.Core.Path.{_≡_};
 ghost use mathlib.Core.Bool.{true};
 ghost use lib.Dec.{ltb};
 ghost use Prim.Native.Nat.{_+_, _-_, _*_, _≤_};
+ghost use lib.ListN.{length};
 ghost use Rattle.text.specs.Number.{spelt, value};
-ghost use Rattle.digits.specs.Read.{digitsOf, numberOf, capped};
+ghost use Rattle.digits.specs.Read.{digitsOf, numberOf, capped, LeadAt};
 
 // The number, or 2^32 for any that is larger; or none is spelt.
 pub enum Num {
     Good(u64),
     Bad,
+}
+
+// The number that the digits at a place say, at most 2^32, and where they end.
+pub struct Lead {
+    pub value: u64,
+    pub end: usize,
+}
+
+// A digit's number; more than 9 for any other byte.
+pub fn digit(b: u8) -> u8
+    ensures { λ r. ⌜ (r ≤ 9 → r + 48 ≡ b) ⌝ }
+{
+    std::num::wrapping_sub_u8(b, 48)
 }
 
 // One digit more, at most 2^32.
@@ -39,6 +53,25 @@ pub fn digit_run(t: &[u8]) -> Num
         i += 1;
     }
     Num::Good(v)
+}
+
+// The digits at a place.
+pub fn digits_at(s: &[u8], at: usize) -> Lead
+    requires { ⌜ at ≤ length (now s) ⌝ }
+    ensures { λ r. ⌜ LeadAt (now (s .entry)) at (r .value) (r .end) ⌝ }
+{
+    let mut v: u64 = 0;
+    let mut i = at;
+    while i < s.len() {
+        let b = s[i];
+        let d = digit(b);
+        if 9 < d {
+            return Lead { value: v, end: i };
+        }
+        v = push(v, b);
+        i += 1;
+    }
+    Lead { value: v, end: i }
 }
 
 // The number that bytes spell.

@@ -4,5 +4,7 @@ pub mod Sets
 pub mod TotalLaws
 pub mod SetLaws
 pub mod ListLaws
+pub mod Short
+pub mod ShortLaws
 pub mod Passing
 pub mod PassingLaws

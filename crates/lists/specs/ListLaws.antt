@@ -1,5 +1,5 @@
 -- Laws of whole lists of numbers: each says what a step of the code shows.
-use Prim.Native.Nat.{ℕ, suc, _-_, _^_, _≤_}
+use Prim.Native.Nat.{ℕ, suc, _-_, _^_, _≤_, _<_}
 use mathlib.Core.Path.{_≡_, refl, sym, _∙_, ap}
 use mathlib.Core.Bool.{Bool, true, false, _&&_}
 use mathlib.Core.List.{List, [], _∷_}
@@ -11,11 +11,11 @@ use lib.ListN.{length, take, drop}
 use lib.Seq.{take-all, take-length}
 use borrow.Author.Tests.{le-ltb, ltb-false, ne-eqb}
 use Rattle.text.specs.declared.Fault.{Fault}
-use Rattle.text.specs.declared.Fault.the-variants.{Misspelt, Reference}
+use Rattle.text.specs.declared.Fault.the-variants.{Form, Misspelt, Ended, Reference}
 use Rattle.text.specs.Number.{bytes, allDigits, spelt, value}
 use Rattle.text.specs.NumberLaws.{cases, all-head, all-tail, spelt-all}
 use Rattle.text.specs.Value.{ascending, same, numeral, split, followed, each, saidList, ascends, within, said, unsaid, check}
-use Rattle.text.specs.Line.{refused, judged}
+use Rattle.text.specs.Line.{refused, judged, fieldOf}
 use Rattle.text.specs.Format.{elem, setOf}
 use Rattle.digits.specs.declared.Num.{Num}
 use Rattle.digits.specs.declared.Num.the-variants.{Good, Bad}
@@ -23,14 +23,15 @@ use Rattle.digits.specs.Read.{numberOf}
 use Rattle.digits.specs.NumeralLaws.{spelt-bad, spelt-good}
 use Rattle.scan.specs.declared.Token.{Token}
 use Rattle.scan.specs.declared.Token.the-variants.{At as Between, Not as Refused}
-use Rattle.scan.specs.Place.{TokenAt, refusalOf}
-use Rattle.scan.specs.PlaceLaws.{token-within}
+use Rattle.scan.specs.declared.Found.{Found}
+use Rattle.scan.specs.declared.Found.the-variants.{At, Differs, Broken}
+use Rattle.scan.specs.Place.{AfterKey, ValueAt, refusalOf}
 use Rattle.scan.specs.Answer.{mapped}
 use Rattle.lists.specs.declared.Set.{Set}
 use Rattle.lists.specs.declared.Set.the-variants.{Is, Not}
 use Rattle.lists.specs.Items.{upTo, more, inside, bitOf}
 use Rattle.lists.specs.ItemLaws.{split-first, bit-capped}
-use Rattle.lists.specs.Sets.{setEnds, setWithin, SetJudged, SetSaid, SetAt}
+use Rattle.lists.specs.Sets.{setEnds, setWithin, SetJudged, SetSaid, OneSaid, SetIn, SetAt}
 use Rattle.lists.specs.TotalLaws.{total, total-is, mask-none}
 use Rattle.lists.specs.SetLaws.{bit-inside}
 
@@ -87,13 +88,13 @@ module _ (t : List ℕ) (e lo n : ℕ) {w : Num} (d : w ≡ numberOf t) where
     bit-said : b ≡ bitOf lo n (value t)
     bit-said = k ∙ bit-capped lo n (value t) v (spelt-good t d h .1) u
 
-    pub single-outside : b ≡ 0 → SetSaid true lo n t e (Not Reference)
+    single-outside : b ≡ 0 → SetSaid true lo n t e (Not Reference)
     unfolding said check ascends within
     single-outside z =
         let i : inside lo n (value t) ≡ false = sym (bit-inside lo n (value t) b bit-said) ∙ rw z in
         record { judged = record { same = λ l s. rw (one-said t (spelt-good t d h .0), i); ends = tt } }
 
-    pub single-is : (b ≡ 0 → ⊥) → SetSaid true lo n t e (Is b e)
+    single-is : (b ≡ 0 → ⊥) → SetSaid true lo n t e (Is b e)
     unfolding said check ascends within total
     single-is z =
         let i : inside lo n (value t) ≡ true = sym (bit-inside lo n (value t) b bit-said) ∙ rw (ne-eqb b 0 z) in
@@ -101,6 +102,15 @@ module _ (t : List ℕ) (e lo n : ℕ) {w : Num} (d : w ≡ numberOf t) where
         let j : within lo n (value t ∷ []) ≡ true = rw i in
         let f : setOf (value t ∷ []) ≡ b = total-is lo n (value t ∷ []) u refl j ∙ add-zero (2 ^ value t) ∙ sym m in
         record { judged = record { same = λ l s. rw (one-said t (spelt-good t d h .0), i, f); ends = refl } }
+
+pub one-outside : {lo n v b : ℕ} (e : ℕ) → n ≤ 32 → b ≡ bitOf lo n v → b ≡ 0 → OneSaid lo n v e (Not Reference)
+one-outside {lo} {n} e u k z = record { is = λ t d. single-outside t e lo n d refl u k z }
+
+pub one-is : {lo n v b : ℕ} (e : ℕ) → n ≤ 32 → b ≡ bitOf lo n v → (b ≡ 0 → ⊥) → OneSaid lo n v e (Is b e)
+one-is {lo} {n} e u k z = record { is = λ t d. single-is t e lo n d refl u k z }
+
+pub single-one : {lo n : ℕ} (t : List ℕ) {v e : ℕ} {w : Num} {r : Set} → w ≡ numberOf t → w ≡ Good v → OneSaid lo n v e r → SetSaid true lo n t e r
+single-one t d h a = a .is t (sym h ∙ d)
 
 -- ---- a list
 pub list-single : {one : Bool} {lo n : ℕ} {t : List ℕ} {e : ℕ} {r : Set} → one ≡ true → SetSaid true lo n t e r → SetSaid one lo n t e r
@@ -117,14 +127,43 @@ pub list-rising : {one : Bool} {lo n : ℕ} {t : List ℕ} {e : ℕ} {r : Set} {
 unfolding said
 list-rising h p k a = rw h (record { judged = rw (← p, k) a })
 
-module _ {key s : List ℕ} {at : ℕ} {r : Token} (m : TokenAt key s at r) where
-  pub set-stop : (one : Bool) (lo n : ℕ) {x y : Fault} → r ≡ Refused y → x ≡ refusalOf r → SetAt one lo n key s at (Not x)
+-- ---- from a list to its place, and to its field
+module _ {s : List ℕ} {at : ℕ} {r : Token} (m : ValueAt s at r) where
+  pub set-stop : (one : Bool) (lo n : ℕ) {x y : Fault} → r ≡ Refused y → x ≡ refusalOf r → SetIn one lo n s at (Not x)
   set-stop one lo n q z = record { same = λ l. rw (z, q) (ap (mapped setOf) (rw q at (m .same (ascending one lo n) l))); within = tt }
 
-  pub set-step : {one : Bool} {lo n b e : ℕ} {v : Set} → r ≡ Between b e → SetSaid one lo n (take (e - b) (drop b s)) e v → SetAt one lo n key s at v
+  value-within : {b e : ℕ} → r ≡ Between b e → (b ≤ e) × (e < length s)
+  value-within q = rw q at (m .within)
+
+  pub set-from : {b e : ℕ} → r ≡ Between b e → b ≤ e
+  set-from q = value-within q .0
+
+  pub set-to : {b e : ℕ} → r ≡ Between b e → e ≤ length s
+  set-to q = omega (arith, value-within q .1)
+
+  pub set-step : {one : Bool} {lo n b e : ℕ} {v : Set} → r ≡ Between b e → SetSaid one lo n (take (e - b) (drop b s)) e v → SetIn one lo n s at v
   set-step {one} {lo} {n} {b} {e} {v} q d =
       record { same = λ l. d .judged .same l s ∙ ap (mapped setOf) (rw q at (m .same (ascending one lo n) l)); within = reach v (d .judged .ends) }
     where
       reach : (v : Set) → setEnds e v → setWithin s v
-      reach (Is k p) h = rw h (token-within m q .1)
+      reach (Is k p) h = rw h (value-within q .1)
       reach (Not f) h = tt
+
+pub set-one : {one : Bool} {lo n : ℕ} {s : List ℕ} {at : ℕ} {r : Set} → one ≡ true → SetIn true lo n s at r → SetIn one lo n s at r
+set-one h a = rw h a
+
+pub set-many : {one : Bool} {lo n : ℕ} {s : List ℕ} {at : ℕ} {r : Set} → one ≡ false → SetIn false lo n s at r → SetIn one lo n s at r
+set-many h a = rw h a
+
+module _ {key s : List ℕ} {at : ℕ} {r : Found} (m : AfterKey key s at r) where
+  pub set-found : {one : Bool} {lo n b : ℕ} {v : Set} → r ≡ At b → SetIn one lo n s b v → SetAt one lo n key s at v
+  unfolding fieldOf
+  set-found q u = record { same = λ l. u .same l ∙ rw (← m .same, q); within = u .within }
+
+  pub set-differs : (one : Bool) (lo n : ℕ) → r ≡ Differs → SetAt one lo n key s at (Not Form)
+  unfolding fieldOf
+  set-differs one lo n e = record { same = λ l. rw (← m .same, e); within = tt }
+
+  pub set-broken : (one : Bool) (lo n : ℕ) → r ≡ Broken → SetAt one lo n key s at (Not Ended)
+  unfolding fieldOf
+  set-broken one lo n e = record { same = λ l. rw (← m .same, e); within = tt }

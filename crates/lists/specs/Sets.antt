@@ -1,13 +1,15 @@
 -- What the readers of sets answer.
 use Prim.Native.Nat.{ℕ, _<_}
 use mathlib.Core.Path.{_≡_}
-use mathlib.Core.Bool.{Bool}
+use mathlib.Core.Bool.{Bool, true}
 use mathlib.Core.List.{List}
 use mathlib.Core.Option.{Option}
 use lib.ListN.{length, drop}
 use Rattle.text.specs.Value.{ascending, said}
-use Rattle.text.specs.Line.{Outcome, took, refused, judged, fieldOf}
+use Rattle.text.specs.Line.{Outcome, took, refused, judged, valueOf, fieldOf}
 use Rattle.text.specs.Format.{setOf}
+use Rattle.digits.specs.declared.Num.the-variants.{Good}
+use Rattle.digits.specs.Read.{numberOf}
 use Rattle.scan.specs.Answer.{mapped}
 use Rattle.lists.specs.declared.Set.{Set}
 use Rattle.lists.specs.declared.Set.the-variants.{Is, Not}
@@ -32,6 +34,16 @@ pub record SetJudged (one : Bool) (lo n : ℕ) (o : Option (List ℕ)) (e : ℕ)
 pub record SetSaid (one : Bool) (lo n : ℕ) (t : List ℕ) (e : ℕ) (r : Set) : Type 0 where
   pub judged : SetJudged one lo n (said (ascending one lo n) t) e r
 
+-- the answer for a list of one number v
+pub record OneSaid (lo n v e : ℕ) (r : Set) : Type 0 where
+  pub is : (t : List ℕ) → Good v ≡ numberOf t → SetSaid true lo n t e r
+
+-- the answer for the list at a place
+pub record SetIn (one : Bool) (lo n : ℕ) (s : List ℕ) (at : ℕ) (r : Set) : Type 0 where
+  pub same : (l : ℕ) → setIn l s r ≡ mapped setOf (valueOf (ascending one lo n) l (drop at s))
+  pub within : setWithin s r
+
+-- and for the list behind a key
 pub record SetAt (one : Bool) (lo n : ℕ) (key s : List ℕ) (at : ℕ) (r : Set) : Type 0 where
   pub same : (l : ℕ) → setIn l s r ≡ mapped setOf (fieldOf key (ascending one lo n) l (drop at s))
   pub within : setWithin s r

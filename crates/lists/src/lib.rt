@@ -9,7 +9,8 @@ ghost use Rattle.table.specs.Mask.{pick};
 ghost use Rattle.text.specs.Value.{numeral, saidVariable, split, each};
 ghost use Rattle.text.specs.Format.{argsOf};
 ghost use Rattle.lists.specs.Items.{CommaAt, bitOf, ItemAt};
-ghost use Rattle.lists.specs.Sets.{SetJudged, SetSaid, SetAt};
+ghost use Rattle.lists.specs.Sets.{SetJudged, SetSaid, OneSaid, SetIn, SetAt};
+ghost use Rattle.lists.specs.Short.{PieceAt, QuickAt};
 ghost use Rattle.lists.specs.Passing.{pushedOf, ArgumentSaid, ArgumentAt, PassedJudged, PassedSaid, PassedAt};
 
 // One item of a list of numbers: where it ends, and its bit, 0 for one that is outside.
@@ -22,6 +23,18 @@ enum Item {
 pub enum Set {
     Is(u32, usize),
     Not(text::Fault),
+}
+
+// A number of one or two digits, and where it ends.
+enum Short {
+    Is(u64, usize),
+    Not,
+}
+
+// A set and where its list ends; or the list is read another way.
+enum ShortList {
+    Is(u32, usize),
+    Not,
 }
 
 // One of a call's variables: where it ends, the variable, and whether it is declared.
@@ -123,6 +136,18 @@ fn rising(t: &[u8], e: usize, lo: u64, below: u64) -> Set
     Set::Not(text::Fault::Reference)
 }
 
+// A list of one number v.
+fn one_of(v: u64, e: usize, lo: u64, below: u64) -> Set
+    requires { ⌜ below ≤ 32 ⌝ }
+    ensures { λ r. ⌜ OneSaid lo below v e r ⌝ }
+{
+    let b = bit(v, lo, below);
+    if b == 0 {
+        return Set::Not(text::Fault::Reference);
+    }
+    Set::Is(b, e)
+}
+
 // A list of one number.
 fn single(t: &[u8], e: usize, lo: u64, below: u64) -> Set
     requires { ⌜ below ≤ 32 ⌝ }
@@ -131,11 +156,7 @@ fn single(t: &[u8], e: usize, lo: u64, below: u64) -> Set
     let digits::Num::Good(v) = digits::number(t) else {
         return Set::Not(text::Fault::Misspelt);
     };
-    let b = bit(v, lo, below);
-    if b == 0 {
-        return Set::Not(text::Fault::Reference);
-    }
-    Set::Is(b, e)
+    one_of(v, e, lo, below)
 }
 
 fn ascending_value(t: &[u8], e: usize, one: bool, lo: u64, below: u64) -> Set
@@ -151,16 +172,119 @@ fn ascending_value(t: &[u8], e: usize, one: bool, lo: u64, below: u64) -> Set
     rising(t, e, lo, below)
 }
 
+// ---- short numbers that ascend, in one pass
+
+// A number of one or two digits, where the text goes on behind it.
+fn short_number(u: &[u8], at: usize) -> Short
+    requires { ⌜ at ≤ length (now u) ⌝ }
+    ensures { λ r. ⌜ PieceAt (now (u .entry)) at r ⌝ }
+{
+    if u.len() - at < 3 {
+        return Short::Not;
+    }
+    let a = digits::digit(u[at]);
+    if 9 < a {
+        return Short::Not;
+    }
+    let next = at + 1;
+    let b = digits::digit(u[next]);
+    if 9 < b {
+        return Short::Is(a as u64, next);
+    }
+    if a == 0 {
+        return Short::Not;
+    }
+    Short::Is((a as u64) * 10 + (b as u64), next + 1)
+}
+
+// The list at a text's start, if its numbers are short, inside and ascend.
+fn short_list(u: &[u8], lo: u64, below: u64) -> ShortList
+    requires { ⌜ below ≤ 32 ⌝ }
+    ensures { λ r. ⌜ QuickAt lo below (now (u .entry)) r ⌝ }
+{
+    let mut from = 0;
+    let mut mask = 0u32;
+    while from < u.len() {
+        let item = short_number(u, from);
+        let Short::Is(v, to) = item else {
+            return ShortList::Not;
+        };
+        let b = bit(v, lo, below);
+        if b <= mask {
+            return ShortList::Not;
+        }
+        mask += b;
+        let c = u[to];
+        if scan::stops(c) {
+            return ShortList::Is(mask, to);
+        }
+        if c != 44 {
+            return ShortList::Not;
+        }
+        from = to + 1;
+    }
+    ShortList::Not
+}
+
+// ---- lists at a place
+
+// Any list.
+fn any_list(s: &[u8], at: usize, one: bool, lo: u64, below: u64) -> Set
+    requires { ⌜ (at ≤ length (now s)) × (below ≤ 32) ⌝ }
+    ensures { λ r. ⌜ SetIn one lo below (now (s .entry)) at r ⌝ }
+{
+    let found = scan::value_at(s, at);
+    let scan::Token::At(b, e) = found else {
+        return Set::Not(scan::refusal(found));
+    };
+    ascending_value(&s[b..e], e, one, lo, below)
+}
+
+fn many(s: &[u8], at: usize, lo: u64, below: u64) -> Set
+    requires { ⌜ (at ≤ length (now s)) × (below ≤ 32) ⌝ }
+    ensures { λ r. ⌜ SetIn false lo below (now (s .entry)) at r ⌝ }
+{
+    let list = short_list(&s[at..], lo, below);
+    let ShortList::Is(m, n) = list else {
+        return any_list(s, at, false, lo, below);
+    };
+    Set::Is(m, at + n)
+}
+
+fn single_at(s: &[u8], at: usize, lo: u64, below: u64) -> Set
+    requires { ⌜ (at ≤ length (now s)) × (below ≤ 32) ⌝ }
+    ensures { λ r. ⌜ SetIn true lo below (now (s .entry)) at r ⌝ }
+{
+    let item = short_number(s, at);
+    let Short::Is(v, to) = item else {
+        return any_list(s, at, true, lo, below);
+    };
+    if scan::stops(s[to]) {
+        return one_of(v, to, lo, below);
+    }
+    any_list(s, at, true, lo, below)
+}
+
+fn ascending_at(s: &[u8], at: usize, one: bool, lo: u64, below: u64) -> Set
+    requires { ⌜ (at ≤ length (now s)) × (below ≤ 32) ⌝ }
+    ensures { λ r. ⌜ SetIn one lo below (now (s .entry)) at r ⌝ }
+{
+    if one {
+        return single_at(s, at, lo, below);
+    }
+    many(s, at, lo, below)
+}
+
 // A list that ascends strictly, of numbers at least lo and below the next; of one number or of any count.
 pub fn ascending_field(s: &[u8], at: usize, key: &[u8], one: bool, lo: u64, below: u64) -> Set
     requires { ⌜ (at ≤ length (now s)) × (below ≤ 32) ⌝ }
     ensures { λ r. ⌜ SetAt one lo below (now (key .entry)) (now (s .entry)) at r ⌝ }
 {
-    let found = scan::token_at(s, at, key);
-    let scan::Token::At(b, e) = found else {
-        return Set::Not(scan::refusal(found));
-    };
-    ascending_value(&s[b..e], e, one, lo, below)
+    match scan::after(s, at, key) {
+        scan::Found::At(b) => ascending_at(s, b, one, lo, below),
+        scan::Found::Differs => Set::Not(text::Fault::Form),
+        scan::Found::Broken => Set::Not(text::Fault::Ended),
+    }
 }
 
 // ---- a call's variables

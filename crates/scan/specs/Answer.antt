@@ -4,13 +4,18 @@ use mathlib.Core.Path.{_≡_}
 use mathlib.Core.Bool.{Bool}
 use mathlib.Core.List.{List}
 use mathlib.Core.Option.{Option}
-use lib.ListN.{length, drop}
+use lib.Dec.{ltb}
+use lib.ListN.{length, take, drop}
+use Rattle.table.specs.Mask.{pick}
 use Rattle.text.specs.declared.Fault.{Fault}
+use Rattle.text.specs.declared.Fault.the-variants.{Ended}
 use Rattle.table.specs.declared.Operand.{Operand}
 use Rattle.table.specs.declared.Operand.the-variants.{Var, Const}
 use Rattle.text.specs.Number.{bytes}
-use Rattle.text.specs.Value.{number, operand, variable, said}
-use Rattle.text.specs.Line.{Outcome, took, refused, judged, fieldOf}
+use Rattle.text.specs.Value.{number, operand, variable, numeral, said}
+use Rattle.text.specs.Line.{Outcome, Parser, took, refused, run, judged, valueOf, fieldOf}
+use Rattle.digits.specs.declared.Num.the-variants.{Good}
+use Rattle.digits.specs.Read.{numberOf}
 use Rattle.scan.specs.declared.Number.{Number}
 use Rattle.scan.specs.declared.Number.the-variants.{Is, Not}
 use Rattle.text.specs.Format.{variableOf}
@@ -61,6 +66,23 @@ operandWithin n s (NotOperand f) = Unit {0}
 pub record OperandJudged (n : ℕ) (o : Option Operand) (e : ℕ) (r : OperandAnswer) : Type 0 where
   pub same : (l : ℕ) (s : List ℕ) → operandIn l s r ≡ judged (operand n) o l (drop e s)
   pub ends : operandEnds n e r
+
+-- the answer for the number x behind `v`, behind `-` or alone
+pub record Judged (kind : Option ℕ → Option Operand) (n x e : ℕ) (r : OperandAnswer) : Type 0 where
+  pub is : (t : List ℕ) → Good x ≡ numberOf t → OperandJudged n (kind (numeral t)) e r
+
+-- the answer for the digits at a place
+abbrev pub valueAs : (Option ℕ → Option Operand) → ℕ → Parser Operand
+valueAs kind n = λ l s. pick (ltb (run s) (length s)) (judged (operand n) (kind (numeral (take (run s) s))) l (drop (run s) s)) (refused Ended l)
+
+pub record OperandAs (kind : Option ℕ → Option Operand) (n : ℕ) (s : List ℕ) (at : ℕ) (r : OperandAnswer) : Type 0 where
+  pub same : (l : ℕ) → operandIn l s r ≡ valueAs kind n l (drop at s)
+  pub within : operandWithin n s r
+
+-- and for the operand at a place
+pub record OperandIn (n : ℕ) (s : List ℕ) (at : ℕ) (r : OperandAnswer) : Type 0 where
+  pub same : (l : ℕ) → operandIn l s r ≡ valueOf (operand n) l (drop at s)
+  pub within : operandWithin n s r
 
 pub record OperandAt (n : ℕ) (key s : List ℕ) (at : ℕ) (r : OperandAnswer) : Type 0 where
   pub same : (l : ℕ) → operandIn l s r ≡ fieldOf key (operand n) l (drop at s)

@@ -1,5 +1,6 @@
 pub mod Place
 pub mod PlaceLaws
+pub mod NumeralLaws
 pub mod Answer
 pub mod ValueLaws
 pub mod WordLaws

@@ -1,36 +1,46 @@
 -- Laws of the readers of operands and variables: each says what a step of the code shows.
-use Prim.Native.Nat.{ℕ, zero, suc, _-_, _≤_, _<_}
-use mathlib.Core.Path.{_≡_, refl, _∙_, ap}
-use mathlib.Core.List.{List, [], _∷_}
+use Prim.Native.Nat.{ℕ, zero, suc, _+_, _-_, _≤_, _<_}
+use mathlib.Core.Path.{_≡_, refl, sym, _∙_, ap}
+use mathlib.Core.List.{List, _∷_}
+use mathlib.Core.Option.{Option, none}
 use mathlib.Core.Bool.{Bool, true, false}
 use native.Mathlib.Omega.{arith}
 use native.Mathlib.Nat.{zero-add}
+use native.Mathlib.Numerals.{add-one}
 use lib.IntN.{ℤ, pos, negsuc, _-ℤ_}
-use lib.ListN.{length, take, drop, getD}
-use lib.Seq.{take-all}
+use lib.Dec.{ltb}
+use lib.ListN.{length, take, drop, getD, drop-of-length-le, length-drop}
+use lib.Seq.{drop-cons, drop-drop}
 use borrow.Author.Tests.{lt-ltb, le-ltb, le-leb, lt-leb, ne-eqb}
 use mir.Syntax.{w32}
 use mir.Val.{toZ, ofZ, SFits}
 use mir.ValLaws.{toZ-pos, toZ-ofZ}
+use Rattle.table.specs.declared.Operand.{Operand}
 use Rattle.table.specs.declared.Operand.the-variants.{Var, Const}
 use Rattle.text.specs.declared.Fault.{Fault}
-use Rattle.text.specs.declared.Fault.the-variants.{Misspelt, Range, Reference}
-use Rattle.text.specs.Number.{bytes, value}
+use Rattle.text.specs.declared.Fault.the-variants.{Form, Misspelt, Ended, Range, Reference}
+use Rattle.text.specs.Number.{bytes, spelt, value}
+use Rattle.text.specs.NumberLaws.{byOrder}
+use Rattle.text.specs.Line.{run, stops, judged, valueOf, fieldOf}
 use Rattle.text.specs.Value.{operand, variable, numeral, asVar, asConst, asNegative, saidOperand, same, said, unsaid, check}
 use Rattle.text.specs.Format.{variableOf}
 use Rattle.digits.specs.declared.Num.{Num}
 use Rattle.digits.specs.declared.Num.the-variants.{Good, Bad}
 use Rattle.digits.specs.Read.{numberOf}
 use Rattle.digits.specs.NumeralLaws.{spelt-good, numeral-bad, numeral-good}
+use Rattle.scan.specs.declared.Found.{Found}
+use Rattle.scan.specs.declared.Found.the-variants.{At, Differs, Broken}
+use Rattle.scan.specs.declared.Numeral.{Numeral}
+use Rattle.scan.specs.declared.Numeral.the-variants.{Is as IsNumeral, Bad as BadNumeral, Over}
 use Rattle.scan.specs.declared.Token.{Token}
 use Rattle.scan.specs.declared.Token.the-variants.{At as Between, Not as Refused}
 use Rattle.scan.specs.declared.Number.{Number}
 use Rattle.scan.specs.declared.Number.the-variants.{Is, Not}
 use Rattle.scan.specs.declared.Operand.{Operand as OperandAnswer}
 use Rattle.scan.specs.declared.Operand.the-variants.{Is as IsOperand, Not as NotOperand}
-use Rattle.scan.specs.Place.{TokenAt, refusalOf}
-use Rattle.scan.specs.PlaceLaws.{token-within}
-use Rattle.scan.specs.Answer.{operandEnds, operandWithin, OperandJudged, OperandAt, mapped, variableEnds, variableWithin, VariableSaid, VariableAt}
+use Rattle.scan.specs.Place.{AfterKey, RunEnd, NumeralTo, NumeralAt, TokenAt, refusalOf}
+use Rattle.scan.specs.PlaceLaws.{count-more, token-within}
+use Rattle.scan.specs.Answer.{operandEnds, operandWithin, OperandJudged, Judged, valueAs, OperandAs, OperandIn, OperandAt, mapped, variableEnds, variableWithin, VariableSaid, VariableAt}
 
 -- ---- signed numbers
 pub positive-is : (x : ℕ) → x ≤ 2147483647 → toZ w32 x ≡ pos x
@@ -48,48 +58,36 @@ negative-is x p h = toZ-ofZ w32 _ (negative-fits x p h) ∙ rw (positive-is (x -
 
 module _ (t : List ℕ) (e : ℕ) {w : Num} (d : w ≡ numberOf t) where
   -- ---- a variable
-  pub var-bad : (n : ℕ) → w ≡ Bad → OperandJudged n (asVar (numeral t)) e (NotOperand Misspelt)
-  unfolding unsaid
-  var-bad n h = record { same = λ l s. rw (numeral-bad t d h); ends = tt }
-
-  pub var-good : {n v : ℕ} → w ≡ Good v → n ≤ 256 → v < n → OperandJudged n (asVar (numeral t)) e (IsOperand (Var v) e)
+  var-good : {n v : ℕ} → w ≡ Good v → n ≤ 256 → v < n → OperandJudged n (asVar (numeral t)) e (IsOperand (Var v) e)
   unfolding check
   var-good {n} {v} h u l =
       let x : value t ≡ v = omega (arith, spelt-good t d h .1) in
       record { same = λ k s. rw (numeral-good t d h, x, lt-ltb v n l); ends = (refl, l) }
 
-  pub var-high : {n v : ℕ} → w ≡ Good v → n ≤ 256 → n ≤ v → OperandJudged n (asVar (numeral t)) e (NotOperand Reference)
+  var-high : {n v : ℕ} → w ≡ Good v → n ≤ 256 → n ≤ v → OperandJudged n (asVar (numeral t)) e (NotOperand Reference)
   unfolding check
   var-high {n} {v} h u l = record { same = λ k s. rw (numeral-good t d h, le-ltb (value t) n (omega (arith, spelt-good t d h .1))); ends = tt }
 
   -- ---- a constant
-  pub const-bad : (n : ℕ) → w ≡ Bad → OperandJudged n (asConst (numeral t)) e (NotOperand Misspelt)
-  unfolding unsaid
-  const-bad n h = record { same = λ l s. rw (numeral-bad t d h); ends = tt }
-
-  pub const-good : (n : ℕ) {v : ℕ} {z : ℤ} → w ≡ Good v → v ≤ 2147483647 → z ≡ pos v
+  const-good : (n : ℕ) {v : ℕ} {z : ℤ} → w ≡ Good v → v ≤ 2147483647 → z ≡ pos v
       → OperandJudged n (asConst (numeral t)) e (IsOperand (Const (toZ w32 (ofZ w32 z))) e)
   unfolding check
   const-good n {v} h l q =
       let x : value t ≡ v = omega (arith, spelt-good t d h .1) in
       record { same = λ k s. rw (numeral-good t d h, x, q, positive-is v l, le-leb v 2147483647 l); ends = (refl, tt) }
 
-  pub const-high : (n : ℕ) {v : ℕ} → w ≡ Good v → 2147483647 < v → OperandJudged n (asConst (numeral t)) e (NotOperand Range)
+  const-high : (n : ℕ) {v : ℕ} → w ≡ Good v → 2147483647 < v → OperandJudged n (asConst (numeral t)) e (NotOperand Range)
   unfolding check
   const-high n {v} h l = record { same = λ k s. rw (numeral-good t d h, lt-leb (value t) 2147483647 (omega (arith, spelt-good t d h .1))); ends = tt }
 
   -- ---- a constant below 0
-  pub neg-bad : (n : ℕ) → w ≡ Bad → OperandJudged n (asNegative (numeral t)) e (NotOperand Misspelt)
-  unfolding unsaid
-  neg-bad n h = record { same = λ l s. rw (numeral-bad t d h); ends = tt }
-
-  pub neg-zero : (n : ℕ) {v : ℕ} → w ≡ Good v → v ≡ 0 → OperandJudged n (asNegative (numeral t)) e (NotOperand Misspelt)
+  neg-zero : (n : ℕ) {v : ℕ} → w ≡ Good v → v ≡ 0 → OperandJudged n (asNegative (numeral t)) e (NotOperand Misspelt)
   unfolding unsaid
   neg-zero n {v} h l =
       let x : value t ≡ 0 = omega (arith, spelt-good t d h .1) in
       record { same = λ k s. rw (numeral-good t d h, x); ends = tt }
 
-  pub neg-good : (n : ℕ) {v : ℕ} {z : ℤ} → w ≡ Good v → (v ≡ 0 → ⊥) → v ≤ 2147483648 → z ≡ negsuc (v - 1)
+  neg-good : (n : ℕ) {v : ℕ} {z : ℤ} → w ≡ Good v → (v ≡ 0 → ⊥) → v ≤ 2147483648 → z ≡ negsuc (v - 1)
       → OperandJudged n (asNegative (numeral t)) e (IsOperand (Const (toZ w32 (ofZ w32 z))) e)
   unfolding check
   neg-good n {v} h k l q =
@@ -97,50 +95,129 @@ module _ (t : List ℕ) (e : ℕ) {w : Num} (d : w ≡ numberOf t) where
       let f : SFits w32 (negsuc (v - 1)) = record { sfits = omega arith } in
       record { same = λ m s. rw (numeral-good t d h, x, q, toZ-ofZ w32 (negsuc (v - 1)) f, le-leb (v - 1) 2147483647 (omega arith)); ends = (refl, tt) }
 
-  pub neg-high : (n : ℕ) {v : ℕ} → w ≡ Good v → 2147483648 < v → OperandJudged n (asNegative (numeral t)) e (NotOperand Range)
+  neg-high : (n : ℕ) {v : ℕ} → w ≡ Good v → 2147483648 < v → OperandJudged n (asNegative (numeral t)) e (NotOperand Range)
   unfolding check
   neg-high n {v} h l =
       let x : value t ≡ suc (value t - 1) = omega (arith, spelt-good t d h .1) in
       record { same = λ m s. rw (numeral-good t d h, x, lt-leb (value t - 1) 2147483647 (omega (arith, spelt-good t d h .1))); ends = tt }
 
--- ---- an operand
-pub operand-none : (t : List ℕ) (n e : ℕ) → length t ≡ 0 → OperandJudged n (saidOperand t) e (NotOperand Misspelt)
-unfolding saidOperand unsaid
-operand-none [] n e h = record { same = λ l s. refl; ends = tt }
-operand-none (b ∷ t) n e h = absurd (omega arith)
+-- ---- the number behind `v`, behind `-` or alone
+pub named-good : {n v : ℕ} (e : ℕ) → n ≤ 256 → v < n → Judged asVar n v e (IsOperand (Var v) e)
+named-good e u l = record { is = λ t d. var-good t e d refl u l }
 
-whole : (t : List ℕ) → take (suc (length t) - 1) t ≡ t
-whole t = take-all (suc (length t) - 1) t (omega arith)
+pub named-high : {n v : ℕ} (e : ℕ) → n ≤ 256 → n ≤ v → Judged asVar n v e (NotOperand Reference)
+named-high e u l = record { is = λ t d. var-high t e d refl u l }
 
-pub operand-var : (t : List ℕ) {n e : ℕ} {r : OperandAnswer} → (length t ≡ 0 → ⊥) → getD t 0 0 ≡ 118
-    → OperandJudged n (asVar (numeral (take (length t - 1) (drop 1 t)))) e r → OperandJudged n (saidOperand t) e r
-unfolding saidOperand
-operand-var [] h p j = absurd (h refl)
-operand-var (b ∷ t) h p j = rw p (rw (whole t) at j)
+pub constant-good : (n : ℕ) {v : ℕ} (e : ℕ) {z : ℤ} → v ≤ 2147483647 → z ≡ pos v → Judged asConst n v e (IsOperand (Const (toZ w32 (ofZ w32 z))) e)
+constant-good n e l q = record { is = λ t d. const-good t e d n refl l q }
 
-pub operand-negative : (t : List ℕ) {n e : ℕ} {r : OperandAnswer} → (length t ≡ 0 → ⊥) → (getD t 0 0 ≡ 118 → ⊥) → getD t 0 0 ≡ 45
-    → OperandJudged n (asNegative (numeral (take (length t - 1) (drop 1 t)))) e r → OperandJudged n (saidOperand t) e r
-unfolding saidOperand
-operand-negative [] h k p j = absurd (h refl)
-operand-negative (b ∷ t) h k p j = rw p (rw (whole t) at j)
+pub constant-high : (n : ℕ) {v : ℕ} (e : ℕ) → 2147483647 < v → Judged asConst n v e (NotOperand Range)
+constant-high n e l = record { is = λ t d. const-high t e d n refl l }
 
-pub operand-const : (t : List ℕ) {n e : ℕ} {r : OperandAnswer} → (length t ≡ 0 → ⊥) → (getD t 0 0 ≡ 118 → ⊥) → (getD t 0 0 ≡ 45 → ⊥)
-    → OperandJudged n (asConst (numeral t)) e r → OperandJudged n (saidOperand t) e r
-unfolding saidOperand
-operand-const [] h k p j = absurd (h refl)
-operand-const (b ∷ t) h k p j = rw (ne-eqb b 118 k, ne-eqb b 45 p) j
+pub negative-zero : (n : ℕ) {v : ℕ} (e : ℕ) → v ≡ 0 → Judged asNegative n v e (NotOperand Misspelt)
+negative-zero n e l = record { is = λ t d. neg-zero t e d n refl l }
 
-module _ {key s : List ℕ} {at : ℕ} {r : Token} (m : TokenAt key s at r) where
-  pub operand-stop : (n : ℕ) {x y : Fault} → r ≡ Refused y → x ≡ refusalOf r → OperandAt n key s at (NotOperand x)
-  operand-stop n q z = record { same = λ l. rw (z, q) (rw q at (m .same (operand n) l)); within = tt }
+pub negative-good : (n : ℕ) {v : ℕ} (e : ℕ) {z : ℤ} → (v ≡ 0 → ⊥) → v ≤ 2147483648 → z ≡ negsuc (v - 1)
+    → Judged asNegative n v e (IsOperand (Const (toZ w32 (ofZ w32 z))) e)
+negative-good n e k l q = record { is = λ t d. neg-good t e d n refl k l q }
 
-  pub operand-step : {n b e : ℕ} {v : OperandAnswer} → r ≡ Between b e → OperandJudged n (saidOperand (take (e - b) (drop b s))) e v → OperandAt n key s at v
-  unfolding said
-  operand-step {n} {b} {e} {v} q d = record { same = λ l. d .same l s ∙ rw q at (m .same (operand n) l); within = reach v (d .ends) }
+pub negative-high : (n : ℕ) {v : ℕ} (e : ℕ) → 2147483648 < v → Judged asNegative n v e (NotOperand Range)
+negative-high n e l = record { is = λ t d. neg-high t e d n refl l }
+
+module _ {s : List ℕ} {at : ℕ} {r : Numeral} (m : NumeralAt s at r) where
+  -- the value of the digits at a place, where it ends
+  value-to : (kind : Option ℕ → Option Operand) (n : ℕ) {e : ℕ} → RunEnd s at e → e < length s → (l : ℕ)
+      → judged (operand n) (kind (numeral (take (e - at) (drop at s)))) l (drop e s) ≡ valueAs kind n l (drop at s)
+  value-to kind n {e} u h l =
+      let z : run (drop at s) ≡ e - at = omega (arith, u .same) in
+      let k : e - at < length (drop at s) = simp length-drop (omega (arith, u .from)) in
+      let d : at + (e - at) ≡ e = omega (arith, u .from) in
+      rw (z, lt-ltb (e - at) (length (drop at s)) k, drop-drop (e - at) at s, d)
+
+  pub as-is : {kind : Option ℕ → Option Operand} {n x e : ℕ} {v : OperandAnswer} → r ≡ IsNumeral x e → Judged kind n x e v → OperandAs kind n s at v
+  as-is {kind} {n} {x} {e} {v} q j =
+      let i : NumeralTo s at e (Good x) = rw q at (m .is) in
+      let d = j .is (take (e - at) (drop at s)) (i .same) in
+      record { same = λ l. d .same l s ∙ value-to kind n (i .run) (i .inside) l; within = reach v (d .ends) (i .inside) }
     where
-      reach : (v : OperandAnswer) → operandEnds n e v → operandWithin n s v
-      reach (IsOperand v p) h = (rw (h .0) (token-within m q .1), h .1)
-      reach (NotOperand f) h = tt
+      reach : (v : OperandAnswer) → operandEnds n e v → e < length s → operandWithin n s v
+      reach (IsOperand v p) h g = (rw (h .0) g, h .1)
+      reach (NotOperand f) h g = tt
+
+  as-bad : (kind : Option ℕ → Option Operand) (n : ℕ) → kind none ≡ none → r ≡ BadNumeral → OperandAs kind n s at (NotOperand Misspelt)
+  unfolding unsaid
+  as-bad kind n z q =
+      let i : (e : ℕ) × NumeralTo s at e Bad = rw q at (m .is) in
+      let t = take (i .0 - at) (drop at s) in
+      let d : kind (numeral t) ≡ none = rw (numeral-bad t (i .1 .same) refl) z in
+      record { same = λ l. rw d at (value-to kind n (i .1 .run) (i .1 .inside) l); within = tt }
+
+  pub named-bad : (n : ℕ) → r ≡ BadNumeral → OperandAs asVar n s at (NotOperand Misspelt)
+  named-bad n q = as-bad asVar n refl q
+
+  pub negative-bad : (n : ℕ) → r ≡ BadNumeral → OperandAs asNegative n s at (NotOperand Misspelt)
+  negative-bad n q = as-bad asNegative n refl q
+
+  pub constant-bad : (n : ℕ) → r ≡ BadNumeral → OperandAs asConst n s at (NotOperand Misspelt)
+  constant-bad n q = as-bad asConst n refl q
+
+  pub as-over : (kind : Option ℕ → Option Operand) (n : ℕ) → r ≡ Over → OperandAs kind n s at (NotOperand Ended)
+  as-over kind n q =
+      let i : (e : ℕ) × RunEnd s at e × (length s ≤ e) = rw q at (m .is) in
+      let k : length (drop at s) ≤ run (drop at s) = simp length-drop (omega (arith, i .1 .same, i .2)) in
+      record { same = λ l. rw (le-ltb (run (drop at s)) (length (drop at s)) k); within = tt }
+
+-- ---- an operand, by its first byte
+suc-ltb : (a b : ℕ) → ltb (suc a) (suc b) ≡ ltb a b
+suc-ltb a b = byOrder a b (λ l. lt-ltb (suc a) (suc b) (omega arith) ∙ sym (lt-ltb a b l)) (λ l. le-ltb (suc a) (suc b) (omega arith) ∙ sym (le-ltb a b l))
+
+-- behind a first byte that ends no value
+behind : (b : ℕ) (s : List ℕ) (kind : Option ℕ → Option Operand) (n l : ℕ) → stops b ≡ false → ((t : List ℕ) → saidOperand (b ∷ t) ≡ kind (numeral t))
+    → valueAs kind n l s ≡ valueOf (operand n) l (b ∷ s)
+unfolding said
+behind b s kind n l h d = rw (count-more b s h, suc-ltb (run s) (length s), d (take (run s) s))
+
+module _ (s : List ℕ) (at : ℕ) (h : at < length s) where
+  rest : drop at s ≡ getD s at 0 ∷ drop (at + 1) s
+  rest = rw (add-one at) (drop-cons s at 0 h)
+
+  pub operand-named : {n : ℕ} {r : OperandAnswer} → getD s at 0 ≡ 118 → OperandAs asVar n s (at + 1) r → OperandIn n s at r
+  unfolding saidOperand
+  operand-named {n} q a = record { same = λ l. a .same l ∙ rw (rest, q) (behind 118 (drop (at + 1) s) asVar n l refl (λ t. refl)); within = a .within }
+
+  pub operand-minus : {n : ℕ} {r : OperandAnswer} → getD s at 0 ≡ 45 → OperandAs asNegative n s (at + 1) r → OperandIn n s at r
+  unfolding saidOperand
+  operand-minus {n} q a = record { same = λ l. a .same l ∙ rw (rest, q) (behind 45 (drop (at + 1) s) asNegative n l refl (λ t. refl)); within = a .within }
+
+plain-said : (b : ℕ) (s : List ℕ) (k : ℕ) → (b ≡ 118 → ⊥) → (b ≡ 45 → ⊥) → asConst (numeral (take k (b ∷ s))) ≡ saidOperand (take k (b ∷ s))
+unfolding saidOperand spelt
+plain-said b s zero h g = refl
+plain-said b s (suc k) h g = rw (ne-eqb b 118 h, ne-eqb b 45 g)
+
+pub operand-plain : {n : ℕ} {s : List ℕ} {at : ℕ} {r : OperandAnswer} → at < length s → (getD s at 0 ≡ 118 → ⊥) → (getD s at 0 ≡ 45 → ⊥)
+    → OperandAs asConst n s at r → OperandIn n s at r
+unfolding said
+operand-plain {n} {s} {at} h p g a =
+    let u = drop at s in
+    let d : asConst (numeral (take (run u) u)) ≡ saidOperand (take (run u) u) = rw (rest s at h) (plain-said (getD s at 0) (drop (at + 1) s) (run (getD s at 0 ∷ drop (at + 1) s)) p g) in
+    record { same = λ l. rw d at (a .same l); within = a .within }
+
+pub operand-none : (n : ℕ) {s : List ℕ} {at : ℕ} → length s ≤ at → OperandIn n s at (NotOperand Ended)
+unfolding run
+operand-none n {s} h = record { same = λ l. rw (drop-of-length-le s h); within = tt }
+
+module _ {key s : List ℕ} {at : ℕ} {r : Found} (m : AfterKey key s at r) where
+  pub operand-found : {n b : ℕ} {v : OperandAnswer} → r ≡ At b → OperandIn n s b v → OperandAt n key s at v
+  unfolding fieldOf
+  operand-found q u = record { same = λ l. u .same l ∙ rw (← m .same, q); within = u .within }
+
+  pub operand-differs : (n : ℕ) → r ≡ Differs → OperandAt n key s at (NotOperand Form)
+  unfolding fieldOf
+  operand-differs n e = record { same = λ l. rw (← m .same, e); within = tt }
+
+  pub operand-broken : (n : ℕ) → r ≡ Broken → OperandAt n key s at (NotOperand Ended)
+  unfolding fieldOf
+  operand-broken n e = record { same = λ l. rw (← m .same, e); within = tt }
 
 -- ---- a variable that may be `-`
 module _ (c : Bool) (n : ℕ) (t : List ℕ) (e : ℕ) {x : Bool} (p : x ≡ same (bytes "-") t) where

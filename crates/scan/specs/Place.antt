@@ -11,6 +11,11 @@ use Rattle.scan.specs.declared.Found.{Found}
 use Rattle.scan.specs.declared.Found.the-variants.{At, Differs, Broken}
 use Rattle.scan.specs.declared.Token.{Token}
 use Rattle.scan.specs.declared.Token.the-variants.{At as Between, Not}
+use Rattle.digits.specs.declared.Num.{Num}
+use Rattle.digits.specs.declared.Num.the-variants.{Good, Bad as NoNumber}
+use Rattle.digits.specs.Read.{digitsOf, numberOf}
+use Rattle.scan.specs.declared.Numeral.{Numeral}
+use Rattle.scan.specs.declared.Numeral.the-variants.{Is, Bad, Over}
 use Rattle.scan.specs.declared.Ended.{Ended as LineEnd}
 use Rattle.scan.specs.declared.Ended.the-variants.{Is as Fed, Not as Unfed}
 
@@ -57,6 +62,27 @@ pub record TokenAt (key s : List ℕ) (at : ℕ) (r : Token) : Type 0 where
 abbrev pub refusalOf : Token → Fault
 refusalOf (Between b e) = Form
 refusalOf (Not f) = f
+
+-- ---- the number that a value spells
+
+-- a value that is digits, and what they say
+pub record DigitsTo (s : List ℕ) (at e v : ℕ) : Type 0 where
+  pub run : RunEnd s at e
+  pub inside : e < length s
+  pub same : digitsOf (take (e - at) (drop at s)) ≡ Good v
+
+pub record NumeralTo (s : List ℕ) (at e : ℕ) (w : Num) : Type 0 where
+  pub run : RunEnd s at e
+  pub inside : e < length s
+  pub same : w ≡ numberOf (take (e - at) (drop at s))
+
+abbrev pub numeralIs : List ℕ → ℕ → Numeral → Type 0
+numeralIs s at (Is v e) = NumeralTo s at e (Good v)
+numeralIs s at Bad = (e : ℕ) × NumeralTo s at e NoNumber
+numeralIs s at Over = (e : ℕ) × RunEnd s at e × (length s ≤ e)
+
+pub record NumeralAt (s : List ℕ) (at : ℕ) (r : Numeral) : Type 0 where
+  pub is : numeralIs s at r
 
 -- ---- the end of a line
 

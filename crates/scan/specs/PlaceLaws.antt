@@ -1,17 +1,19 @@
 -- Laws of keys and places: each says what a step of the code shows.
-use Prim.Native.Nat.{ℕ, suc, _+_, _-_, _≤_, _<_}
-use mathlib.Core.Path.{_≡_, refl, _∙_}
+use Prim.Native.Nat.{ℕ, zero, suc, _+_, _-_, _≤_, _<_}
+use mathlib.Core.Path.{_≡_, refl, sym, _∙_, ap}
 use mathlib.Core.List.{List, [], _∷_}
-use mathlib.Core.Bool.{false}
+use mathlib.Core.Bool.{true, false}
 use native.Mathlib.Omega.{arith}
-use native.Mathlib.Nat.{add-zero}
+use native.Mathlib.Nat.{add-zero, zero-add}
 use native.Mathlib.Numerals.{add-one}
 use lib.Dec.{eqb}
-use lib.ListN.{length, drop, getD, drop-of-length-le, length-drop}
+use lib.ListN.{length, take, drop, getD, drop-of-length-le, length-drop}
 use lib.Seq.{drop-cons, drop-drop}
 use borrow.Author.Tests.{lt-ltb, le-ltb, eq-eqb, ne-eqb}
 use Rattle.table.specs.Mask.{pick}
 use Rattle.text.specs.declared.Fault.the-variants.{Form, Ended}
+use Rattle.text.specs.Number.{allDigits}
+use Rattle.text.specs.NumberLaws.{all-head, all-tail}
 use Rattle.text.specs.Line.{differs, after, run as count, stops, fieldOf}
 use Rattle.scan.specs.declared.Found.{Found}
 use Rattle.scan.specs.declared.Found.the-variants.{At, Differs, Broken}
@@ -61,9 +63,30 @@ pub record Running (s : List ℕ) (at i : ℕ) : Type 0 where
 pub running-start : (s : List ℕ) (at : ℕ) → at ≤ length s → Running s at at
 running-start s at h = record { from = omega arith; within = h; same = refl }
 
-count-more : (b : ℕ) (s : List ℕ) → stops b ≡ false → count (b ∷ s) ≡ suc (count s)
+pub count-more : (b : ℕ) (s : List ℕ) → stops b ≡ false → count (b ∷ s) ≡ suc (count s)
 unfolding count
 count-more b s h = rw (h, count)
+
+pub count-none : (b : ℕ) (s : List ℕ) → stops b ≡ true → count (b ∷ s) ≡ 0
+unfolding count
+count-none b s h = rw (h, count)
+
+-- digits end no value
+pub digits-run : (k : ℕ) (s : List ℕ) → k ≤ length s → allDigits (take k s) ≡ true → count s ≡ k + count (drop k s)
+digits-run zero s h a = sym (zero-add (count s))
+digits-run (suc k) [] h a = absurd (omega arith)
+digits-run (suc k) (b ∷ s) h a =
+    let d = all-head b (take k s) a in
+    let g : stops b ≡ false = rw (ne-eqb b 32 (λ q. omega arith), ne-eqb b 10 (λ q. omega arith)) in
+    count-more b s g ∙ ap suc (digits-run k s (omega arith) (all-tail b (take k s) a)) ∙ omega arith
+
+pub running-digits : {s : List ℕ} {at from to : ℕ} → Running s at from → from ≤ to → to ≤ length s → allDigits (take (to - from) (drop from s)) ≡ true
+    → Running s at to
+running-digits {s} {at} {from} {to} m l h a =
+    let k : to - from ≤ length (drop from s) = simp length-drop (omega arith) in
+    let e : from + (to - from) ≡ to = omega arith in
+    let d : count (drop from s) ≡ (to - from) + count (drop to s) = digits-run (to - from) (drop from s) k a ∙ rw (drop-drop (to - from) from s, e) in
+    record { from = omega (arith, m .from); within = h; same = omega (arith, d, m .same) }
 
 module _ {s : List ℕ} {at i : ℕ} (m : Running s at i) where
   run-none : count (drop i s) ≡ 0 → RunEnd s at i
@@ -76,6 +99,9 @@ module _ {s : List ℕ} {at i : ℕ} (m : Running s at i) where
   pub run-feed : i < length s → getD s i 0 ≡ 10 → RunEnd s at i
   unfolding count
   run-feed h e = run-none (rw (drop-cons s i 0 h, e))
+
+  pub run-stops : i < length s → stops (getD s i 0) ≡ true → RunEnd s at i
+  run-stops h e = run-none (rw (drop-cons s i 0 h) (count-none (getD s i 0) (drop (suc i) s) e))
 
   pub run-over : length s ≤ i → RunEnd s at i
   unfolding count
@@ -128,6 +154,13 @@ module _ {key s : List ℕ} {at : ℕ} {r : Token} (m : TokenAt key s at r) wher
 
   pub token-from : {b e : ℕ} → r ≡ Between b e → b ≤ e
   token-from q = token-within q .0
+
+-- ---- the end of a value
+pub stops-space : (b : ℕ) → b ≡ 32 → true ≡ stops b
+stops-space b h = rw h
+
+pub stops-feed : (b : ℕ) → (b ≡ 32 → ⊥) → eqb b 10 ≡ stops b
+stops-feed b h = rw (ne-eqb b 32 h)
 
 -- ---- the end of a line
 module _ {s : List ℕ} {at : ℕ} {r : Found} (m : AfterKey (10 ∷ []) s at r) where

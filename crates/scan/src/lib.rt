@@ -3,9 +3,10 @@ ghost use Prim.Native.Nat.{_-_, _≤_, _<_};
 ghost use mathlib.Core.Path.{_≡_};
 ghost use lib.IntN.{pos, negsuc};
 ghost use lib.ListN.{length};
-ghost use Rattle.text.specs.Value.{same, numeral, asVar, asConst, asNegative, saidOperand};
-ghost use Rattle.scan.specs.Place.{AfterKey, RunEnd, ValueAt, TokenAt, refusalOf, FeedAt};
-ghost use Rattle.scan.specs.Answer.{NumberSaid, NumberAt, OperandJudged, OperandAt, VariableSaid, VariableAt};
+ghost use Rattle.text.specs.Value.{same, asVar, asConst, asNegative};
+ghost use Rattle.text.specs.Line.{stops as stopsAt};
+ghost use Rattle.scan.specs.Place.{AfterKey, RunEnd, ValueAt, TokenAt, refusalOf, FeedAt, DigitsTo, NumeralAt};
+ghost use Rattle.scan.specs.Answer.{NumberSaid, NumberAt, Judged, OperandAs, OperandIn, OperandAt, VariableSaid, VariableAt};
 
 // Where the text goes on after a key; or something else stands there, or the text ends first.
 pub enum Found {
@@ -18,6 +19,13 @@ pub enum Found {
 pub enum Token {
     At(usize, usize),
     Not(text::Fault),
+}
+
+// The number that a value spells, at most 2^32, and the value's end; or it spells none, or the text's end breaks it off.
+pub enum Numeral {
+    Is(u64, usize),
+    Bad,
+    Over,
 }
 
 // The place after LF, or the fault.
@@ -78,7 +86,7 @@ pub fn run(s: &[u8], at: usize) -> usize
 }
 
 // The value at a place: where it begins and ends. One that the text's end breaks off is an early end.
-fn value_at(s: &[u8], at: usize) -> Token
+pub fn value_at(s: &[u8], at: usize) -> Token
     requires { ⌜ at ≤ length (now s) ⌝ }
     ensures { λ r. ⌜ ValueAt (now (s .entry)) at r ⌝ }
 {
@@ -159,6 +167,68 @@ pub fn number_field(
     number_value(&s[b..e], e, lo, below, fault)
 }
 
+// ---- numbers of any range
+
+// The end of a value.
+pub fn stops(b: u8) -> bool
+    ensures { λ r. ⌜ r ≡ stopsAt b ⌝ }
+{
+    if b == 32 {
+        return true;
+    }
+    b == 10
+}
+
+// Digits that are a whole value: "no needless leading zero".
+fn spelt(s: &[u8], at: usize, e: usize, v: u64) -> Numeral
+    requires { ⌜ DigitsTo (now s) at e v ⌝ }
+    ensures { λ r. ⌜ NumeralAt (now (s .entry)) at r ⌝ }
+{
+    let n = e - at;
+    if n == 0 {
+        return Numeral::Bad;
+    }
+    if n == 1 {
+        return Numeral::Is(v, e);
+    }
+    let b = s[at];
+    if b == 48 {
+        return Numeral::Bad;
+    }
+    Numeral::Is(v, e)
+}
+
+// The number that any value spells.
+fn any_numeral(s: &[u8], at: usize) -> Numeral
+    requires { ⌜ at ≤ length (now s) ⌝ }
+    ensures { λ r. ⌜ NumeralAt (now (s .entry)) at r ⌝ }
+{
+    let e = run(s, at);
+    if s.len() <= e {
+        return Numeral::Over;
+    }
+    let digits::Num::Good(v) = digits::number(&s[at..e]) else {
+        return Numeral::Bad;
+    };
+    Numeral::Is(v, e)
+}
+
+// The number that the value at a place spells: digits up to its end are read in one pass.
+pub fn numeral_at(s: &[u8], at: usize) -> Numeral
+    requires { ⌜ at ≤ length (now s) ⌝ }
+    ensures { λ r. ⌜ NumeralAt (now (s .entry)) at r ⌝ }
+{
+    let d = digits::digits_at(s, at);
+    let e = d.end;
+    if s.len() <= e {
+        return any_numeral(s, at);
+    }
+    if stops(s[e]) {
+        return spelt(s, at, e, d.value);
+    }
+    any_numeral(s, at)
+}
+
 // ---- words
 
 pub fn is_word(t: &[u8], word: &[u8]) -> bool
@@ -193,39 +263,30 @@ fn positive(x: u64) -> i32
     x as i32
 }
 
-// The digits behind `v`.
-fn named_operand(t: &[u8], e: usize, vars: u64) -> Operand
+// A variable: the number x behind `v`.
+pub fn named_operand(x: u64, e: usize, vars: u64) -> Operand
     requires { ⌜ vars ≤ 256 ⌝ }
-    ensures { λ r. ⌜ OperandJudged vars (asVar (numeral (now (t .entry)))) e r ⌝ }
+    ensures { λ r. ⌜ Judged asVar vars x e r ⌝ }
 {
-    let digits::Num::Good(x) = digits::number(t) else {
-        return Operand::Not(text::Fault::Misspelt);
-    };
     if x < vars {
         return Operand::Is(table::Operand::Var(x as u8), e);
     }
     Operand::Not(text::Fault::Reference)
 }
 
-fn constant_operand(t: &[u8], e: usize, vars: u64) -> Operand
-    ensures { λ r. ⌜ OperandJudged vars (asConst (numeral (now (t .entry)))) e r ⌝ }
+pub fn constant_operand(x: u64, e: usize, vars: u64) -> Operand
+    ensures { λ r. ⌜ Judged asConst vars x e r ⌝ }
 {
-    let digits::Num::Good(x) = digits::number(t) else {
-        return Operand::Not(text::Fault::Misspelt);
-    };
     if x <= 2147483647 {
         return Operand::Is(table::Operand::Const(positive(x)), e);
     }
     Operand::Not(text::Fault::Range)
 }
 
-// The digits behind `-`.
-fn negative_operand(t: &[u8], e: usize, vars: u64) -> Operand
-    ensures { λ r. ⌜ OperandJudged vars (asNegative (numeral (now (t .entry)))) e r ⌝ }
+// The number x behind `-`.
+pub fn negative_operand(x: u64, e: usize, vars: u64) -> Operand
+    ensures { λ r. ⌜ Judged asNegative vars x e r ⌝ }
 {
-    let digits::Num::Good(x) = digits::number(t) else {
-        return Operand::Not(text::Fault::Misspelt);
-    };
     if x == 0 {
         return Operand::Not(text::Fault::Misspelt);
     }
@@ -235,21 +296,54 @@ fn negative_operand(t: &[u8], e: usize, vars: u64) -> Operand
     Operand::Not(text::Fault::Range)
 }
 
-pub fn operand_value(t: &[u8], e: usize, vars: u64) -> Operand
-    requires { ⌜ vars ≤ 256 ⌝ }
-    ensures { λ r. ⌜ OperandJudged vars (saidOperand (now (t .entry))) e r ⌝ }
+fn named_at(s: &[u8], at: usize, vars: u64) -> Operand
+    requires { ⌜ (at ≤ length (now s)) × (vars ≤ 256) ⌝ }
+    ensures { λ r. ⌜ OperandAs asVar vars (now (s .entry)) at r ⌝ }
 {
-    if t.len() == 0 {
-        return Operand::Not(text::Fault::Misspelt);
+    match numeral_at(s, at) {
+        Numeral::Is(x, e) => named_operand(x, e, vars),
+        Numeral::Bad => Operand::Not(text::Fault::Misspelt),
+        Numeral::Over => Operand::Not(text::Fault::Ended),
     }
-    let b = t[0];
+}
+
+fn negative_at(s: &[u8], at: usize, vars: u64) -> Operand
+    requires { ⌜ at ≤ length (now s) ⌝ }
+    ensures { λ r. ⌜ OperandAs asNegative vars (now (s .entry)) at r ⌝ }
+{
+    match numeral_at(s, at) {
+        Numeral::Is(x, e) => negative_operand(x, e, vars),
+        Numeral::Bad => Operand::Not(text::Fault::Misspelt),
+        Numeral::Over => Operand::Not(text::Fault::Ended),
+    }
+}
+
+fn constant_at(s: &[u8], at: usize, vars: u64) -> Operand
+    requires { ⌜ at ≤ length (now s) ⌝ }
+    ensures { λ r. ⌜ OperandAs asConst vars (now (s .entry)) at r ⌝ }
+{
+    match numeral_at(s, at) {
+        Numeral::Is(x, e) => constant_operand(x, e, vars),
+        Numeral::Bad => Operand::Not(text::Fault::Misspelt),
+        Numeral::Over => Operand::Not(text::Fault::Ended),
+    }
+}
+
+fn operand_at(s: &[u8], at: usize, vars: u64) -> Operand
+    requires { ⌜ (at ≤ length (now s)) × (vars ≤ 256) ⌝ }
+    ensures { λ r. ⌜ OperandIn vars (now (s .entry)) at r ⌝ }
+{
+    if s.len() <= at {
+        return Operand::Not(text::Fault::Ended);
+    }
+    let b = s[at];
     if b == 118 {
-        return named_operand(&t[1..], e, vars);
+        return named_at(s, at + 1, vars);
     }
     if b == 45 {
-        return negative_operand(&t[1..], e, vars);
+        return negative_at(s, at + 1, vars);
     }
-    constant_operand(t, e, vars)
+    constant_at(s, at, vars)
 }
 
 // A variable or a constant, with so many variables declared.
@@ -257,11 +351,11 @@ pub fn operand_field(s: &[u8], at: usize, key: &[u8], vars: u64) -> Operand
     requires { ⌜ (at ≤ length (now s)) × (vars ≤ 256) ⌝ }
     ensures { λ r. ⌜ OperandAt vars (now (key .entry)) (now (s .entry)) at r ⌝ }
 {
-    let found = token_at(s, at, key);
-    let Token::At(b, e) = found else {
-        return Operand::Not(refusal(found));
-    };
-    operand_value(&s[b..e], e, vars)
+    match after(s, at, key) {
+        Found::At(b) => operand_at(s, b, vars),
+        Found::Differs => Operand::Not(text::Fault::Form),
+        Found::Broken => Operand::Not(text::Fault::Ended),
+    }
 }
 
 // ---- variables

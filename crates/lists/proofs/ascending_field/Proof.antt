@@ -1,50 +1,42 @@
-use Rattle.scan.specs.PlaceLaws.{token-from, token-to}
-use Rattle.lists.specs.ListLaws.{set-stop, set-step}
+use Rattle.scan.specs.PlaceLaws.{found-within}
+use Rattle.lists.specs.ListLaws.{set-found, set-differs, set-broken}
 use borrow.Author.Needs.{needs}
 use Rattle.lists.proofs.ascending_field.Statement.{statement}
 use Rattle.lists.proofs.ascending_field.Tie as tie
 
-token-at-requires : tie.Need-token-at-requires
-token-at-requires c κs = search needs
+after-requires : tie.Need-after-requires
+after-requires c κs = search needs
 
-enum-known-found : tie.Need-enum-known-found
-enum-known-found c = search needs
+enum-known-b : tie.Need-enum-known-b
+enum-known-b c = search needs
+
+ascending-at-requires : tie.Need-ascending-at-requires
+ascending-at-requires c κs = search (needs, found-within)
 
 enum-told : tie.Need-enum-told
 enum-told c = search needs
 
-refusal-requires : tie.Need-refusal-requires
-refusal-requires c κs = search needs
+enum-told-2 : tie.Need-enum-told-2
+enum-told-2 c = search needs
 
 returns : tie.Need-returns
-returns c = search (needs, set-stop)
-
-sub-ascending-value : tie.Need-sub-ascending-value
-sub-ascending-value c = search (needs, token-from)
-
-part-ascending-value-start : tie.Need-part-ascending-value-start
-part-ascending-value-start c = search (needs, token-from)
-
-part-ascending-value-end : tie.Need-part-ascending-value-end
-part-ascending-value-end c = search (needs, token-to)
-
-ascending-value-requires : tie.Need-ascending-value-requires
-ascending-value-requires c κs = search needs
+returns c = search (needs, set-found)
 
 returns-2 : tie.Need-returns-2
-returns-2 c = search (needs, set-step)
+returns-2 c = search (needs, set-differs)
+
+returns-3 : tie.Need-returns-3
+returns-3 c = search (needs, set-broken)
 
 pub ascending-field-spec : {M : Type 1} → statement M
 ascending-field-spec =
     tie.close
     (tie.spec
-    token-at-requires
-    enum-known-found
+    after-requires
+    enum-known-b
+    ascending-at-requires
     enum-told
-    refusal-requires
+    enum-told-2
     returns
-    sub-ascending-value
-    part-ascending-value-start
-    part-ascending-value-end
-    ascending-value-requires
-    returns-2)
+    returns-2
+    returns-3)

@@ -1,4 +1,4 @@
-use Rattle.lists.specs.ListLaws.{single-bad, single-outside, single-is}
+use Rattle.lists.specs.ListLaws.{single-bad, single-one}
 use borrow.Author.Needs.{needs}
 use Rattle.lists.proofs.single.Statement.{statement}
 use Rattle.lists.proofs.single.Tie as tie
@@ -15,16 +15,13 @@ enum-told c = search needs
 returns : tie.Need-returns
 returns c = search (needs, single-bad)
 
-bit-requires : tie.Need-bit-requires
-bit-requires c κs = search needs
+one-of-requires : tie.Need-one-of-requires
+one-of-requires c κs = search needs
 
 returns-2 : tie.Need-returns-2
-returns-2 c = search (needs, single-outside)
-
-returns-3 : tie.Need-returns-3
-returns-3 c = search (needs, single-is)
+returns-2 c = search (needs, single-one)
 
 pub single-spec : {M : Type 1} → statement M
 single-spec =
     tie.close
-    (tie.spec number-requires enum-known-v enum-told returns bit-requires returns-2 returns-3)
+    (tie.spec number-requires enum-known-v enum-told returns one-of-requires returns-2)

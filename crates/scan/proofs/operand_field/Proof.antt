@@ -1,50 +1,42 @@
-use Rattle.scan.specs.PlaceLaws.{token-from, token-to}
-use Rattle.scan.specs.OperandLaws.{operand-stop, operand-step}
+use Rattle.scan.specs.PlaceLaws.{found-within}
+use Rattle.scan.specs.OperandLaws.{operand-found, operand-differs, operand-broken}
 use borrow.Author.Needs.{needs}
 use Rattle.scan.proofs.operand_field.Statement.{statement}
 use Rattle.scan.proofs.operand_field.Tie as tie
 
-token-at-requires : tie.Need-token-at-requires
-token-at-requires c κs = search needs
+after-requires : tie.Need-after-requires
+after-requires c κs = search needs
 
-enum-known-found : tie.Need-enum-known-found
-enum-known-found c = search needs
+enum-known-b : tie.Need-enum-known-b
+enum-known-b c = search needs
+
+operand-at-requires : tie.Need-operand-at-requires
+operand-at-requires c κs = search (needs, found-within)
 
 enum-told : tie.Need-enum-told
 enum-told c = search needs
 
-refusal-requires : tie.Need-refusal-requires
-refusal-requires c κs = search needs
+enum-told-2 : tie.Need-enum-told-2
+enum-told-2 c = search needs
 
 returns : tie.Need-returns
-returns c = search (needs, operand-stop)
-
-sub-operand-value : tie.Need-sub-operand-value
-sub-operand-value c = search (needs, token-from)
-
-part-operand-value-start : tie.Need-part-operand-value-start
-part-operand-value-start c = search (needs, token-from)
-
-part-operand-value-end : tie.Need-part-operand-value-end
-part-operand-value-end c = search (needs, token-to)
-
-operand-value-requires : tie.Need-operand-value-requires
-operand-value-requires c κs = search needs
+returns c = search (needs, operand-found)
 
 returns-2 : tie.Need-returns-2
-returns-2 c = search (needs, operand-step)
+returns-2 c = search (needs, operand-differs)
+
+returns-3 : tie.Need-returns-3
+returns-3 c = search (needs, operand-broken)
 
 pub operand-field-spec : {M : Type 1} → statement M
 operand-field-spec =
     tie.close
     (tie.spec
-    token-at-requires
-    enum-known-found
+    after-requires
+    enum-known-b
+    operand-at-requires
     enum-told
-    refusal-requires
+    enum-told-2
     returns
-    sub-operand-value
-    part-operand-value-start
-    part-operand-value-end
-    operand-value-requires
-    returns-2)
+    returns-2
+    returns-3)

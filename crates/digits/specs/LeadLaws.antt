@@ -1,0 +1,63 @@
+-- The digits at a place, one by one.
+use Prim.Native.Nat.{ℕ, suc, _+_, _-_, _*_, _≤_, _<_}
+use mathlib.Core.Path.{_≡_, refl, _∙_}
+use mathlib.Core.List.{List, [], _∷_, _++_}
+use mathlib.Core.Bool.{true}
+use native.Mathlib.Omega.{arith}
+use lib.ListN.{length, take, drop, getD, length-drop}
+use lib.Seq.{take-suc, getD-drop}
+use borrow.Author.Tests.{le-leb}
+use Rattle.text.specs.Number.{allDigits, isDigit, value, valueFrom}
+use Rattle.text.specs.NumberLaws.{and-left, and-right}
+use Rattle.digits.specs.declared.Num.the-variants.{Good}
+use Rattle.digits.specs.NumeralLaws.{pick-good}
+use Rattle.digits.specs.Read.{capped, digitsOf, LeadAt}
+
+all-snoc : (s : List ℕ) (b : ℕ) → allDigits s ≡ true → isDigit b ≡ true → allDigits (s ++ (b ∷ [])) ≡ true
+unfolding allDigits
+all-snoc [] b h k = rw k
+all-snoc (c ∷ s) b h k = rw (and-left (isDigit c) (allDigits s) h) (all-snoc s b (and-right (isDigit c) (allDigits s) h) k)
+
+value-snoc : (v : ℕ) (s : List ℕ) (b : ℕ) → valueFrom v (s ++ (b ∷ [])) ≡ valueFrom v s * 10 + (b - 48)
+unfolding valueFrom
+value-snoc v [] b = refl
+value-snoc v (c ∷ s) b = value-snoc (v * 10 + (c - 48)) s b
+
+digits-snoc : (s : List ℕ) (b : ℕ) {v : ℕ} → digitsOf s ≡ Good v → 48 ≤ b → b ≤ 57 → digitsOf (s ++ (b ∷ [])) ≡ Good (capped (v * 10 + (b - 48)))
+unfolding digitsOf value
+digits-snoc s b {v} h k l =
+    let p = pick-good (allDigits s) (capped (valueFrom 0 s)) h in
+    let i : isDigit b ≡ true = rw (le-leb 48 b k, le-leb b 57 l) in
+    let e : capped (valueFrom 0 s * 10 + (b - 48)) ≡ capped (v * 10 + (b - 48)) = let z = p .1 in omega arith in
+    rw (all-snoc s b (p .0) i, value-snoc 0 s b, e)
+
+pub lead-start : (s : List ℕ) (at : ℕ) → at ≤ length s → LeadAt s at 0 at
+unfolding digitsOf allDigits value valueFrom
+lead-start s at h =
+    let e : at - at ≡ 0 = omega arith in
+    record { from = omega arith; within = h; small = omega arith; same = rw e }
+
+pub digit-low : {b d : ℕ} → (d ≤ 9 → d + 48 ≡ b) → d ≤ 9 → 48 ≤ b
+digit-low f k = let e = f k in omega arith
+
+pub digit-high : {b d : ℕ} → (d ≤ 9 → d + 48 ≡ b) → d ≤ 9 → b ≤ 57
+digit-high f k = let e = f k in omega arith
+
+pub lead-small : {s : List ℕ} {at v e : ℕ} → LeadAt s at v e → v ≤ 4294967296
+lead-small m = m .small
+
+pub lead-turn : {s : List ℕ} {at v i d w : ℕ} → LeadAt s at v i → i < length s → d ≤ 9 → (d ≤ 9 → d + 48 ≡ getD s i 0)
+    → w ≡ capped (v * 10 + (getD s i 0 - 48)) → LeadAt s at w (i + 1)
+lead-turn {s} {at} {v} {i} {d} {w} m h k f q =
+    let b = getD s i 0 in
+    let x : d + 48 ≡ b = f k in
+    let n : i + 1 - at ≡ suc (i - at) = omega (arith, m .from) in
+    let l : i - at < length (drop at s) = simp length-drop (omega (arith, m .from)) in
+    let y : at + (i - at) ≡ i = omega (arith, m .from) in
+    let g : getD (drop at s) (i - at) 0 ≡ b = getD-drop at s (i - at) 0 ∙ rw y in
+    record {
+      from = omega (arith, m .from);
+      within = omega arith;
+      small = omega arith;
+      same = rw (n, take-suc (drop at s) (i - at) 0 l, g, q) (digits-snoc (take (i - at) (drop at s)) b (m .same) (omega arith) (omega arith));
+    }
