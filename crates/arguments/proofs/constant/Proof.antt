@@ -1,0 +1,39 @@
+use Rattle.text.specs.Value.{asConst}
+use Rattle.arguments.specs.OperandLaws.{const-bad, by-number}
+use native.Mathlib.Omega.{arith}
+use borrow.Author.Needs.{needs}
+use Rattle.arguments.proofs.constant.Statement.{statement}
+use Rattle.arguments.proofs.constant.Tie as tie
+use Rattle.arguments.proofs.constant.Reads as reads
+use Rattle.arguments.proofs.constant.Lts as lts
+use Rattle.digits.proofs.number.Reads as number-reads
+use Rattle.scan.proofs.constant_operand.Reads as constant-operand-reads
+
+-- src/lib.rt:92:32
+number-requires : tie.Need-number-requires
+number-requires c κs = search needs
+
+-- src/lib.rt:92:27
+enum-known-x : tie.Need-enum-known-x
+enum-known-x c = search needs
+
+-- src/lib.rt:93:35
+enum-told : tie.Need-enum-told
+enum-told c = search needs
+
+-- src/lib.rt:93:9
+returns : tie.Need-returns
+returns c = search (needs, const-bad)
+
+-- src/lib.rt:95:5
+constant-operand-requires : tie.Need-constant-operand-requires
+constant-operand-requires c κs = search needs
+
+-- src/lib.rt:89:1
+returns-2 : tie.Need-returns-2
+returns-2 c = by-number _ {kind = asConst} (c .constant-operand .ensures) (c .before .before .before .before .number .ensures) (c .before .before .x .given .1)
+
+pub constant-spec : {M : Type 1} → statement M
+constant-spec =
+    tie.close
+    (tie.spec number-requires enum-known-x enum-told returns constant-operand-requires returns-2)
