@@ -1,4 +1,4 @@
-// A table's control-flow graphs in the language DOT, written into a lent buffer, and what the graph program prints. Each function that
+// A table's control-flow graphs in the language DOT, written into a lent buffer, and what the graph program prints. A function that
 // writes at a place does so as far as the buffer reaches, and gives the place after what it wrote.
 
 use dot::put_node;
