@@ -68,7 +68,7 @@ fn no_state() -> State
 }
 
 // Which nodes of a table without a fault count as kept: bit n of mask p for node n of procedure p.
-fn kept(t: Table) -> [u32; 8]
+pub fn kept(t: Table) -> [u32; 8]
     requires { ⌜ fault t ≡ 0 ⌝ }
     ensures { λ r. ⌜ Keeps t r ⌝ }
 {

@@ -1,0 +1,97 @@
+-- A table's graphs drawn by masks, and what the graph program prints, case by case.
+use Prim.Native.Nat.{ℕ, zero, suc, _+_, _*_, _%_, _≤_, _<_}
+use mathlib.Core.Path.{_≡_, refl, sym, _∙_, ap}
+use mathlib.Core.Bool.{Bool}
+use mathlib.Core.List.{List, [], _∷_, _++_}
+use native.Mathlib.Omega.{arith}
+use lib.ListN.{length, getD}
+use lib.Seq.{sets}
+use Rattle.table.specs.Mask.{bit}
+use Rattle.table.specs.Table.{procAt, noSlot}
+use Rattle.table.specs.declared.Slot.{Slot}
+use Rattle.table.specs.declared.Task.{Task}
+use Rattle.table.specs.declared.Proc.{Proc}
+use Rattle.table.specs.declared.Table.{Table}
+use Rattle.text.specs.declared.Reading.{Reading}
+use Rattle.text.specs.Number.{bytes}
+use Rattle.text.specs.Reader.{concat, read}
+use Rattle.text.specs.Writer.{fault}
+use Rattle.text.specs.RoundTrip.{read-good, read-fault}
+use Rattle.closing.specs.Program.{refusedLine}
+use Rattle.machine.specs.Step.{keptIn}
+use Rattle.put.specs.Put.{Put}
+use Rattle.put.specs.PutLaws.{put-after, put-more}
+use Rattle.writer.specs.Table.{ProcsIn}
+use Rattle.writer.specs.CountsLaws.{counts}
+use Rattle.bufshani.specs.RunLaws.{Keeps}
+use Rattle.dot.specs.Graph.{nodeText, slotText, procText, opening, graph, afterReading, graphPrinted}
+use Rattle.graphs.specs.Graphs.{maskKept, maskNodes, maskProc, maskProcs, Drawable}
+
+-- ---- rows that agree where they stand
+
+concat-below : (f g : ℕ → List ℕ) (n i : ℕ) → ((k : ℕ) → k < i + n → f k ≡ g k) → concat f n i ≡ concat g n i
+unfolding concat
+concat-below f g zero i h = refl
+concat-below f g (suc n) i h = rw (h i (omega arith), concat-below f g n (suc i) (λ k l. h k (omega arith)))
+
+-- ---- the nodes that count as kept, by masks or not
+
+proc-kept : (closed : Bool) (tasks : List Task) (n p : ℕ) (f g : ℕ → Bool) (q : Proc) → q .nodes ≤ 32 → ((j : ℕ) → j < 32 → f j ≡ g j) → procText closed tasks n p f q ≡ procText closed tasks n p g q
+proc-kept closed tasks n p f g q u h = rw (concat-below (slotText p f (q .slots)) (slotText p g (q .slots)) (q .nodes) 0 (λ j l. ap (λ (b : Bool). nodeText p j b (getD (q .slots) j noSlot .node)) (h j (omega arith))))
+
+pub graph-kept : (t : Table) (keep : List ℕ) → Drawable t → Keeps t keep → graph t (maskKept keep) ≡ graph t (keptIn t)
+unfolding graph
+graph-kept t keep d k = rw (concat-below
+    (λ p. procText (t .closed) (t .task) (t .tasks) p (maskKept keep p) (procAt t p))
+    (λ p. procText (t .closed) (t .task) (t .tasks) p (keptIn t p) (procAt t p))
+    (t .procs)
+    0
+    (λ p l. proc-kept (t .closed) (t .task) (t .tasks) p (maskKept keep p) (keptIn t p) (procAt t p) (d .procs .each p (omega arith) .within .count) (λ j m. k .keeps p j (omega (arith, d .procs .count)) m)))
+
+-- ---- a node's bit
+
+pub node-put : {l o : List ℕ} {at a : ℕ} {b : Bool} (p keep : ℕ) (slots : List Slot) (j : ℕ) → j < 32 → b ≡ bit (j % 32) keep → Put 3576 l at (nodeText p j b (getD slots j noSlot .node)) o a
+    → Put 3576 l at (maskNodes p keep slots j) o a
+node-put p keep slots j h e w =
+    let z : j % 32 ≡ j = omega arith in
+    rw (e ∙ ap (λ (i : ℕ). bit i keep) z) at w
+
+-- ---- the whole
+
+pub graph-put : {l m n o : List ℕ} {a b r : ℕ} (t : Table) (keep : List ℕ) → Drawable t → Put 104 l 0 opening m a → Put (114553 * t .procs) m a (concat (maskProcs (t .closed) (t .task) (t .tasks) keep (t .proc)) (t .procs) 0) n b
+    → Put 2 n b (bytes "}\n") o r → Put 917000 l 0 (graph t (maskKept keep)) o r
+unfolding graph
+graph-put t keep d x y z = put-more (omega (arith, d .procs .count)) (put-after x (put-after y z))
+
+-- a table without a fault can be drawn
+pub drawable : (t : Table) → fault t ≡ 0 → Drawable t
+drawable t e = record { tasks = counts t e .tasks; procs = counts t e .procs }
+
+-- an accepted text's table has no fault
+pub read-sound : (s : List ℕ) {r : Reading} → r ≡ read s → r .number ≡ 0 → fault (r .table) ≡ 0
+read-sound s e h = let z = rw e at h in rw e (read-fault s (read s .table) (read-good s z))
+
+-- the answer: the length, its bound, and the buffer
+abbrev pub Printed : List ℕ → List ℕ → List ℕ → ℕ → Type 0
+Printed s l o r = (r ≡ length (graphPrinted s)) × ((r ≤ 917000) × (o ≡ sets l 0 (graphPrinted s)))
+
+printed-put : {l o u : List ℕ} {r : ℕ} (s : List ℕ) → u ≡ graphPrinted s → Put 917000 l 0 u o r → Printed s l o r
+printed-put s e w =
+    let z = rw e at w in
+    (omega (arith, z .next), (omega (arith, z .few, z .next), z .bytes))
+
+after-refused : (n : ℕ) (r : Reading) → (n ≡ 0 → ⊥) → refusedLine n (r .line) ≡ afterReading n r
+after-refused zero r h = absurd (h refl)
+after-refused (suc n) r h = refl
+
+printed-is : (s : List ℕ) (r : Reading) → r ≡ read s → afterReading (r .number) r ≡ graphPrinted s
+unfolding graphPrinted
+printed-is s r e = rw e
+
+pub refused-printed : {l o : List ℕ} {a : ℕ} (s : List ℕ) {r : Reading} → r ≡ read s → (r .number ≡ 0 → ⊥) → Put 38 l 0 (refusedLine (r .number) (r .line)) o a → Printed s l o a
+refused-printed s {r} e h w = printed-put s (after-refused (r .number) r h ∙ printed-is s r e) (put-more (omega arith) w)
+
+pub graph-printed : {l o keep : List ℕ} {a : ℕ} (s : List ℕ) {r : Reading} → r ≡ read s → r .number ≡ 0 → Keeps (r .table) keep → Put 917000 l 0 (graph (r .table) (maskKept keep)) o a → Printed s l o a
+graph-printed {keep = keep} s {r} e h k w =
+    let good : afterReading 0 r ≡ afterReading (r .number) r = ap (λ (n : ℕ). afterReading n r) (sym h) in
+    printed-put s (graph-kept (r .table) keep (drawable (r .table) (read-sound s e h)) k ∙ good ∙ printed-is s r e) w
