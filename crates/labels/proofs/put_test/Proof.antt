@@ -1,8 +1,8 @@
 use Rattle.put.specs.PutLaws.{put-after, put-more, field-then}
 use native.Mathlib.Omega.{arith}
 use borrow.Author.Needs.{needs}
-use Rattle.dot.proofs.put_test.Statement.{statement}
-use Rattle.dot.proofs.put_test.Tie as tie
+use Rattle.labels.proofs.put_test.Statement.{statement}
+use Rattle.labels.proofs.put_test.Tie as tie
 
 slice-aggregate-put-text : tie.Need-slice-aggregate-put-text
 slice-aggregate-put-text c = search needs

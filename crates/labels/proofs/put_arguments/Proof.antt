@@ -1,10 +1,10 @@
 use Rattle.put.specs.RowLaws.{PutRows, rows-start, rows-turn, rows-end}
 use Prim.Native.Nat.{_-_, _≤_}
-use Rattle.dot.specs.Graph.{argumentText}
+use Rattle.labels.specs.Label.{argumentText}
 use native.Mathlib.Omega.{arith}
 use borrow.Author.Needs.{needs}
-use Rattle.dot.proofs.put_arguments.Statement.{statement}
-use Rattle.dot.proofs.put_arguments.Tie as tie
+use Rattle.labels.proofs.put_arguments.Statement.{statement}
+use Rattle.labels.proofs.put_arguments.Tie as tie
 
 abbrev Inv-loop : tie.InvT-loop
 Inv-loop out₀ at x n p₀ i₀ out p i = (PutRows 12 (argumentText x) out₀ at out p i) × (i ≤ n)

@@ -1,8 +1,8 @@
 use Rattle.put.specs.PutLaws.{put-after, put-more, field-then}
 use native.Mathlib.Omega.{arith}
 use borrow.Author.Needs.{needs}
-use Rattle.dot.proofs.put_operation.Statement.{statement}
-use Rattle.dot.proofs.put_operation.Tie as tie
+use Rattle.labels.proofs.put_operation.Statement.{statement}
+use Rattle.labels.proofs.put_operation.Tie as tie
 
 put-operand-value-requires : tie.Need-put-operand-value-requires
 put-operand-value-requires c κs = search needs

@@ -1,8 +1,8 @@
 use Rattle.put.specs.PutLaws.{put-after, put-more, field-then}
 use native.Mathlib.Omega.{arith}
 use borrow.Author.Needs.{needs}
-use Rattle.dot.proofs.put_use.Statement.{statement}
-use Rattle.dot.proofs.put_use.Tie as tie
+use Rattle.labels.proofs.put_use.Statement.{statement}
+use Rattle.labels.proofs.put_use.Tie as tie
 
 put-text-requires : tie.Need-put-text-requires
 put-text-requires c κs = search needs

@@ -1,9 +1,9 @@
-use Rattle.dot.specs.Graph.{nodeSays}
+use Rattle.labels.specs.Label.{nodeSays}
 use mathlib.Core.Path.{refl}
 use native.Mathlib.Omega.{arith}
 use borrow.Author.Needs.{needs}
-use Rattle.dot.proofs.put_says.Statement.{statement}
-use Rattle.dot.proofs.put_says.Tie as tie
+use Rattle.labels.proofs.put_says.Statement.{statement}
+use Rattle.labels.proofs.put_says.Tie as tie
 
 enum-told : tie.Need-enum-told
 enum-told c = search needs

@@ -1,8 +1,8 @@
 use Rattle.put.specs.PutLaws.{put-after, put-more, field-then}
 use native.Mathlib.Omega.{arith}
 use borrow.Author.Needs.{needs}
-use Rattle.dot.proofs.put_set.Statement.{statement}
-use Rattle.dot.proofs.put_set.Tie as tie
+use Rattle.labels.proofs.put_set.Statement.{statement}
+use Rattle.labels.proofs.put_set.Tie as tie
 
 slice-aggregate-put-count : tie.Need-slice-aggregate-put-count
 slice-aggregate-put-count c = search needs

@@ -1,8 +1,8 @@
 use Rattle.put.specs.PutLaws.{put-after, put-more, field-then}
 use native.Mathlib.Omega.{arith}
 use borrow.Author.Needs.{needs}
-use Rattle.dot.proofs.put_pass.Statement.{statement}
-use Rattle.dot.proofs.put_pass.Tie as tie
+use Rattle.labels.proofs.put_pass.Statement.{statement}
+use Rattle.labels.proofs.put_pass.Tie as tie
 
 put-count-requires : tie.Need-put-count-requires
 put-count-requires c κs = search needs

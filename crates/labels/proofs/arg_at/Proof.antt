@@ -1,8 +1,8 @@
-use Rattle.dot.specs.EdgeLaws.{arg-last}
+use Rattle.labels.specs.LabelLaws.{arg-last}
 use native.Mathlib.Omega.{arith}
 use borrow.Author.Needs.{needs}
-use Rattle.dot.proofs.arg_at.Statement.{statement}
-use Rattle.dot.proofs.arg_at.Tie as tie
+use Rattle.labels.proofs.arg_at.Statement.{statement}
+use Rattle.labels.proofs.arg_at.Tie as tie
 
 returns : tie.Need-returns
 returns c = search needs
