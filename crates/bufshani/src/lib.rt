@@ -13,9 +13,8 @@ ghost use Rattle.text.specs.Reader.{read};
 ghost use Rattle.text.specs.Writer.{fault, writeTo};
 ghost use Rattle.machine.specs.State.{noState};
 ghost use Rattle.machine.specs.Run.{run};
-ghost use Rattle.bufshani.specs.RunLaws.{Keeps};
 ghost use Rattle.closing.specs.Close.{close, refusal};
-ghost use Rattle.closing.specs.Program.{refusedLine, printed};
+ghost use Rattle.closing.specs.Program.{printed};
 ghost use Rattle.put.specs.Put.{Put};
 
 fn refused(n: u8) -> Closing
@@ -67,17 +66,6 @@ fn no_state() -> State
     }
 }
 
-// Which nodes of a table without a fault count as kept: bit n of mask p for node n of procedure p.
-pub fn kept(t: Table) -> [u32; 8]
-    requires { ⌜ fault t ≡ 0 ⌝ }
-    ensures { λ r. ⌜ Keeps t r ⌝ }
-{
-    if t.closed {
-        return [4294967295; 8];
-    }
-    analysis::kept_masks(t)
-}
-
 // The runner's answer for a table whose fault is n.
 fn run_checked(
     t: Table,
@@ -100,7 +88,7 @@ fn run_checked(
             state,
         };
     }
-    let keep = kept(t);
+    let keep = keeps::kept(t);
     runner::run_ready(t, keep, schedule, values, most, log)
 }
 
@@ -160,27 +148,18 @@ pub fn run(t: Table, schedule: &[u8], values: &[i32], most: usize, log: &mut [u8
     run_checked(t, n, schedule, values, most, log)
 }
 
-// `refused=N line=L` and an LF.
-fn put_refused(out: &mut [u8], n: u8, line: usize) -> usize
-    ensures { λ r. ⌜ Put 65536 (now (out .entry)) 0 (refusedLine n line) (now (out .exit)) r ⌝ }
-{
-    let a = put::put_count(out, 0, b"refused=", n);
-    let b = put::put_size(out, a, b" line=", line);
-    put::put_byte(out, b, 10)
-}
-
 // What the closing program prints for a text: its bytes as far as the buffer reaches, and their number, at most 65,536.
 pub fn close_text(s: &[u8], out: &mut [u8]) -> usize
     ensures { λ r. ⌜ Put 65536 (now (out .entry)) 0 (printed (now (s .entry))) (now (out .exit)) r ⌝ }
 {
     let r = reader::read(s);
     if r.number != 0 {
-        return put_refused(out, r.number, r.line);
+        return refusals::put_refused(out, r.number, r.line);
     }
     let t = r.table;
     let c = close_checked(t, 0);
     if c.number != 0 {
-        return put_refused(out, c.number, c.line);
+        return refusals::put_refused(out, c.number, c.line);
     }
     let u = c.table;
     writer::put_table(out, u)

@@ -9,8 +9,6 @@ use lib.ListN.{length, getD, drop, length-drop}
 use lib.Seq.{drop-cons}
 use lib.Dec.{ltb}
 use borrow.Author.Tests.{ne-eqb}
-use Rattle.table.specs.Table.{argAt}
-use Rattle.table.specs.declared.Args.{Args}
 use Rattle.table.specs.Mask.{pick, bit, also, membersFrom, members}
 use Rattle.text.specs.NumberLaws.{cases}
 use Rattle.text.specs.Reader.{concat}
@@ -137,8 +135,3 @@ pub arc-edges : {l o : List ℕ} {at a k : ℕ} (p n : ℕ) (word : List ℕ) (t
     → Put 1728 l at (arcText p n word to) o a
 unfolding arcText
 arc-edges p n word to e h w = rw (ne-eqb (length (members to)) 0 (λ z. h (e ∙ z))) (rw e at w)
-
--- ---- arguments
-
-pub arg-last : (x : Args) (i : ℕ) → i < 4 → (i ≡ 0 → ⊥) → (i ≡ 1 → ⊥) → (i ≡ 2 → ⊥) → x .a3 ≡ argAt x i
-arg-last x i h a b c = let e : i ≡ 3 = omega arith in rw e

@@ -9,10 +9,7 @@ use Rattle.dot.specs.Graph.{edgeText}
 abbrev pub edgeIf : ℕ → ℕ → List ℕ → Bool → ℕ → ℕ → Bool → List ℕ
 edgeIf p n word toss i m held = pick held (edgeText p n word toss i m) []
 
--- Places so far down that what is written from there ends at a small number: what a node says, an arc, a node.
-abbrev pub SaysAt : ℕ → Type 0
-SaysAt at = at ≤ 1000000300
-
+-- Places so far down that what is written from there ends at a small number: an arc, and all of a node's.
 abbrev pub ArcAt : ℕ → Type 0
 ArcAt at = at ≤ 999000000
 

@@ -23,7 +23,7 @@ use Rattle.put.specs.Put.{Put}
 use Rattle.put.specs.PutLaws.{put-after, put-more}
 use Rattle.writer.specs.Table.{ProcsIn}
 use Rattle.writer.specs.CountsLaws.{counts}
-use Rattle.bufshani.specs.RunLaws.{Keeps}
+use Rattle.keeps.specs.Keeps.{Keeps}
 use Rattle.dot.specs.Graph.{nodeText, slotText, procText, opening, graph, afterReading, graphPrinted}
 use Rattle.graphs.specs.Graphs.{maskKept, maskNodes, maskProc, maskProcs, Drawable}
 

@@ -2,9 +2,7 @@
 // writes at a place does so as far as the buffer reaches, and gives the place after what it wrote.
 
 use dot::put_node;
-use put::put_byte;
 use put::put_count;
-use put::put_size;
 use put::put_text;
 use table::Proc;
 use table::Slot;
@@ -17,7 +15,6 @@ ghost use lib.Seq.{sets};
 ghost use Rattle.text.specs.Number.{bytes, digits};
 ghost use Rattle.text.specs.Value.{chosen};
 ghost use Rattle.text.specs.Reader.{concat};
-ghost use Rattle.closing.specs.Program.{refusedLine};
 ghost use Rattle.put.specs.Put.{Put, PutField, FieldAt, LineAt, LinesAt, TableAt};
 ghost use Rattle.writer.specs.Table.{NodesIn, ProcIn, ProcsIn};
 ghost use Rattle.dot.specs.Graph.{topText, topsText, labelKey, clusterText, opening, graph, graphPrinted};
@@ -152,14 +149,6 @@ pub fn put_graph(out: &mut [u8], t: Table, keep: [u32; 8]) -> usize
     put_text(out, b, b"}\n")
 }
 
-fn put_refused(out: &mut [u8], n: u8, line: usize) -> usize
-    ensures { λ r. ⌜ Put 38 (now (out .entry)) 0 (refusedLine n line) (now (out .exit)) r ⌝ }
-{
-    let a = put_count(out, 0, b"refused=", n);
-    let b = put_size(out, a, b" line=", line);
-    put_byte(out, b, 10)
-}
-
 // What the graph program prints for the bytes s, written from the buffer's start as far as it reaches; the answer is its length.
 pub fn graph_text(s: &[u8], out: &mut [u8]) -> usize
     ensures len { λ r. ⌜ r ≡ length (graphPrinted (now (s .entry))) ⌝ }
@@ -169,9 +158,9 @@ pub fn graph_text(s: &[u8], out: &mut [u8]) -> usize
     let r = reader::read(s);
     let n = r.number;
     if n != 0 {
-        return put_refused(out, n, r.line);
+        return refusals::put_refused(out, n, r.line);
     }
     let t = r.table;
-    let keep = bufshani::kept(t);
+    let keep = keeps::kept(t);
     put_graph(out, t, keep)
 }

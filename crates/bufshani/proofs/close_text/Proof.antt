@@ -1,3 +1,4 @@
+use Rattle.put.specs.PutLaws.{put-more}
 use Rattle.writer.specs.CountsLaws.{counts}
 use Rattle.bufshani.specs.PrintLaws.{sound-read, sound-closed, printed-refused, printed-unclosed, printed-closed}
 use borrow.Author.Needs.{needs}
@@ -7,7 +8,7 @@ use Rattle.bufshani.proofs.close_text.Tie as tie
 use Rattle.bufshani.proofs.close_text.Reads as reads
 use Rattle.bufshani.proofs.close_text.Lts as lts
 use Rattle.bufshani.proofs.close_checked.Reads as close-checked-reads
-use Rattle.bufshani.proofs.put_refused.Reads as put-refused-reads
+use Rattle.refusals.proofs.put_refused.Reads as put-refused-reads
 use Rattle.reader.proofs.read.Reads as read-reads
 use Rattle.writer.proofs.put_table.Reads as put-table-reads
 
@@ -25,7 +26,7 @@ same-length c = search needs
 
 -- src/lib.rt:178:9
 returns : tie.Need-returns
-returns c = rw (← printed-refused _ _ (c .before .before .before .before .before .before .read .ensures) (c .before .before .before .before .if1 .taken)) (c .before .before .put-refused .ensures)
+returns c = rw (← printed-refused _ _ (c .before .before .before .before .before .before .read .ensures) (c .before .before .before .before .if1 .taken)) (put-more (omega arith) (c .before .before .put-refused .ensures))
 
 -- src/lib.rt:181:9
 close-checked-requires : tie.Need-close-checked-requires
@@ -41,7 +42,7 @@ same-length-2 c = search needs
 
 -- src/lib.rt:183:9
 returns-2 : tie.Need-returns-2
-returns-2 c = rw (← printed-unclosed _ _ (c .before .before .before .before .before .before .before .before .before .before .read .ensures) (c .before .before .before .before .before .before .before .before .if1 .left) _ (c .before .before .before .before .before .before .close-checked .ensures) (c .before .before .before .before .if2 .taken)) (c .before .before .put-refused2 .ensures)
+returns-2 c = rw (← printed-unclosed _ _ (c .before .before .before .before .before .before .before .before .before .before .read .ensures) (c .before .before .before .before .before .before .before .before .if1 .left) _ (c .before .before .before .before .before .before .close-checked .ensures) (c .before .before .before .before .if2 .taken)) (put-more (omega arith) (c .before .before .put-refused2 .ensures))
 
 -- src/lib.rt:186:5
 put-table-requires : tie.Need-put-table-requires

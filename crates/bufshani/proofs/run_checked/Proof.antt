@@ -9,7 +9,7 @@ use Rattle.bufshani.proofs.run_checked.Statement.{statement}
 use Rattle.bufshani.proofs.run_checked.Tie as tie
 use Rattle.bufshani.proofs.run_checked.Reads as reads
 use Rattle.bufshani.proofs.run_checked.Lts as lts
-use Rattle.bufshani.proofs.kept.Reads as kept-reads
+use Rattle.keeps.proofs.kept.Reads as kept-reads
 use Rattle.bufshani.proofs.no_state.Reads as no-state-reads
 use Rattle.runner.proofs.run_ready.Reads as run-ready-reads
 
