@@ -161,7 +161,7 @@ pub fn run(t: Table, schedule: &[u8], values: &[i32], most: usize, log: &mut [u8
 }
 
 // `refused=N line=L` and an LF.
-fn put_refused(out: &mut [u8], n: u8, line: usize) -> usize
+pub fn put_refused(out: &mut [u8], n: u8, line: usize) -> usize
     ensures { λ r. ⌜ Put 65536 (now (out .entry)) 0 (refusedLine n line) (now (out .exit)) r ⌝ }
 {
     let a = put::put_count(out, 0, b"refused=", n);
