@@ -8,9 +8,10 @@ use native.Mathlib.Omega.{arith}
 use native.Mathlib.Nat.{add-zero, add-suc, suc-add}
 use native.Mathlib.Numerals.{add-one}
 use lib.Dec.{leb}
-use lib.ListN.{length, set, drop, length-append}
-use lib.Seq.{sets, length-sets, set-out}
-use borrow.Author.Tests.{le-leb, lt-leb, lt-ltb, le-ltb}
+use lib.ListN.{length, set, take, drop, length-append}
+use lib.Seq.{sets, length-sets, set-out, sets-eq, take-append-seam}
+use borrow.Author.Tests.{le-leb, lt-leb, lt-ltb, le-ltb, leb-true}
+use Rattle.text.specs.NumberLaws.{cases}
 use Rattle.table.specs.Mask.{pick}
 use Rattle.text.specs.Number.{bytes}
 use Rattle.text.specs.Value.{same, split, each, followed}
@@ -151,3 +152,54 @@ module _ {A : Type 0} where
               lead = lead-more ∙ sym (append-assoc (a .passed) (x ∷ []) _) ∙ ap (λ (r : List (List ℕ)). (a .passed ++ (x ∷ [])) ++ leadingOf f r) s;
               says = says-more ∙ ap (λ (r : List (List ℕ)). prefixed (a .passed ++ (x ∷ [])) (each f r)) s;
             }
+
+-- ---- what a caller gets
+
+leading-each : {A : Type 0} (f : List ℕ → Option A) (ss : List (List ℕ)) {xs : List A} → each f ss ≡ some xs → leadingOf f ss ≡ xs
+unfolding each leadingOf
+leading-each f [] e = cc
+leading-each {A} f (s ∷ ss) {xs} e = go (f s) (each f ss) (λ ys q. leading-each f ss q) e
+  where
+    go : (x : Option A) (o : Option (List A)) → ((ys : List A) → o ≡ some ys → leadingOf f ss ≡ ys) → followed x o ≡ some xs → before x (leadingOf f ss) ≡ xs
+    go none o h q = absurd (let z : _≡_ {A = ℕ} 0 1 = cc in omega arith)
+    go (some x) none h q = absurd (let z : _≡_ {A = ℕ} 0 1 = cc in omega arith)
+    go (some x) (some ys) h q = let p : x ∷ ys ≡ xs = cc in ap (λ (r : List A). x ∷ r) (h ys refl) ∙ p
+
+kept-is : {A : Type 0} (m : ℕ) (o : Option (List A)) {xs : List A} → kept (λ ys. leb (length ys) m) o ≡ some xs → (o ≡ some xs) × (length xs ≤ m)
+kept-is m none e = absurd (let z : _≡_ {A = ℕ} 0 1 = cc in omega arith)
+kept-is {A} m (some ys) {xs} e =
+    cases (leb (length ys) m)
+    (λ h. let q : some ys ≡ some xs = rw h at e in let p : ys ≡ xs = cc in (q, rw (← p) (leb-true (length ys) m h)))
+    (λ h. absurd (let q : none ≡ some xs = rw h at e in let z : _≡_ {A = ℕ} 0 1 = cc in omega arith))
+
+module _ {A : Type 0} (f : List ℕ → Option A) (w : List ℕ) where
+  leading-said : (m : ℕ) {xs : List A} → saidItems m f w ≡ some xs → (leading f w ≡ xs) × (length xs ≤ m)
+  unfolding saidItems
+  leading-said m {xs} e =
+      let k = kept-is m (pick (same (bytes "none") w) (some []) (each f (split w))) e in (
+        cases (same (bytes "none") w)
+            (λ h. let q : some [] ≡ some xs = rw h at (k .0) in rw h (cc))
+            (λ h. let q : each f (split w) ≡ some xs = rw h at (k .0) in rw h (leading-each f (split w) q)),
+        k .1,
+      )
+
+  -- the list that the word says stands in the buffer, and the answer is its length
+  pub list-read : (l : List A) {m : List A} {r : Number} {n : ℕ} → r ≡ countOf (saidItems (length l) f w) → m ≡ sets l 0 (leading f w) → r ≡ Is n
+      → (saidItems (length l) f w ≡ some (take n m)) × (n ≤ length m)
+  list-read l {m} {r} {n} d e q = go (saidItems (length l) f w) refl (sym d ∙ q)
+    where
+      go : (o : Option (List A)) → saidItems (length l) f w ≡ o → countOf o ≡ Is n → (o ≡ some (take n m)) × (n ≤ length m)
+      go none h c = absurd (let z : _≡_ {A = ℕ} 0 1 = cc in omega arith)
+      go (some xs) h c =
+          let k = leading-said (length l) h in
+          let i : length xs ≡ n = cc in
+          let z : 0 + length xs ≡ n = omega arith in
+          let v : m ≡ xs ++ drop (0 + length xs) l = e ∙ ap (sets l 0) (k .0) ∙ sets-eq xs l 0 (omega (arith, k .1)) in
+          (ap some (sym (rw (v, ← i) (take-append-seam xs _))), omega (arith, ap length v, length-append xs (drop (0 + length xs) l)))
+
+  pub list-unread : (l : List A) {r : Number} → r ≡ countOf (saidItems (length l) f w) → r ≡ Not → saidItems (length l) f w ≡ none
+  list-unread l {r} d q = go (saidItems (length l) f w) (sym d ∙ q)
+    where
+      go : (o : Option (List A)) → countOf o ≡ Not → o ≡ none
+      go none c = refl
+      go (some xs) c = absurd (let z : _≡_ {A = ℕ} 0 1 = cc in omega arith)

@@ -3,20 +3,27 @@ use Prim.Native.Nat.{ℕ, zero, suc, _+_, _*_, _≤_, _<_}
 use mathlib.Core.Path.{_≡_, refl, sym, _∙_, ap}
 use mathlib.Core.List.{List, [], _∷_, _++_}
 use native.Mathlib.Omega.{arith}
-use lib.ListN.{length, getD, set, length-set, List·getD-eq-default}
+use lib.ListN.{length, length-append, getD, set, length-set, List·getD-eq-default}
 use lib.Seq.{getD-set-same, getD-set-other}
 use Rattle.table.specs.Table.{outside}
 use Rattle.table.specs.declared.Proc.{Proc}
 use Rattle.table.specs.declared.Table.{Table}
+use Rattle.text.specs.Number.{digits}
 use Rattle.text.specs.NumberLaws.{byOrder}
 use Rattle.text.specs.Reader.{concat}
-use Rattle.put.specs.Put.{Put}
-use Rattle.put.specs.PutLaws.{put-after, put-more}
+use Rattle.put.specs.Put.{Put, PutField}
+use Rattle.put.specs.PutLaws.{put-after, put-more, digits-few}
 use Rattle.put.specs.RowLaws.{concat-same}
 use Rattle.machine.specs.declared.Running.{Running}
 use Rattle.machine.specs.State.{semCount, entriesAt}
 use Rattle.machine.specs.Report.{answerLine, stepLine, taskLine, frameLineOf, taskLines, semLine, queueLine, report}
 use Rattle.report.specs.Rows.{VariableCounts, frameRow, taskRow, Reportable}
+
+-- ---- a step's number has at most five digits
+pub short : {l m key : List ℕ} {at p k : ℕ} (n : ℕ) → n < 100000 → PutField k l at key (digits n) m p → PutField (length key + 5) l at key (digits n) m p
+short {key = key} n h a = record {
+  put = record { few = omega (arith, length-append key (digits n), digits-few 4 n h); bytes = a .put .bytes; same = a .put .same; next = a .put .next };
+}
 
 -- ---- how many variables each procedure has
 
@@ -63,11 +70,11 @@ module _ (t : Table) (r : Running) (log counts : List ℕ) (v : VariableCounts (
   -- the parts, one after another
   pub report-put : {l m n o i j : List ℕ} {p q u w x : ℕ} → Reportable t r log
       → Put 70 l 0 (answerLine r) m p
-      → Put (80 * r .steps) m p (concat (stepLine log) (r .steps) 0) n q
+      → Put (65 * r .steps) m p (concat (stepLine log) (r .steps) 0) n q
       → Put (24920 * t .tasks) n q (concat tasks (t .tasks) 0) o u
       → Put (40 * t .sems) o u (concat (λ a. semLine a (semCount (r .state .sems) a)) (t .sems) 0) i w
       → Put (3090 * t .queues) i w (concat (λ a. queueLine a (entriesAt (r .state .queues) a)) (t .queues) 0) j x
-      → Put 6000000 l 0 (report t r log) j x
+      → Put 4400000 l 0 (report t r log) j x
   unfolding report
   report-put h a b c d e =
       rw (concat-same (taskLines t (r .state)) tasks task-rows (t .tasks) 0)

@@ -117,8 +117,8 @@ fn put_value_line(out: &mut [u8], at: usize, v: i32) -> usize
 
 // The line of the log's entry i.
 fn put_step_line(out: &mut [u8], at: usize, log: &[u8], i: usize) -> usize
-    requires { ⌜ (LinesAt at) × (8 * i + 8 ≤ length (now log)) ⌝ }
-    ensures { λ r. ⌜ Put 80 (now (out .entry)) at (stepLine (now (log .entry)) i) (now (out .exit)) r ⌝ }
+    requires { ⌜ (LinesAt at) × (8 * i + 8 ≤ length (now log)) × (i < 65536) ⌝ }
+    ensures { λ r. ⌜ Put 65 (now (out .entry)) at (stepLine (now (log .entry)) i) (now (out .exit)) r ⌝ }
 {
     let k = 8 * i;
     let a = put_size(out, at, b"step=", i);
@@ -132,7 +132,7 @@ fn put_step_line(out: &mut [u8], at: usize, log: &[u8], i: usize) -> usize
 
 fn put_steps(out: &mut [u8], at: usize, log: &[u8], n: usize) -> usize
     requires { ⌜ (at ≤ 1000) × (n ≤ 65536) × (8 * n ≤ length (now log)) ⌝ }
-    ensures { λ r. ⌜ Put (80 * n) (now (out .entry)) at (concat (stepLine (now (log .entry))) n 0) (now (out .exit)) r ⌝ }
+    ensures { λ r. ⌜ Put (65 * n) (now (out .entry)) at (concat (stepLine (now (log .entry))) n 0) (now (out .exit)) r ⌝ }
 {
     let mut p = at;
     let mut i = 0;
@@ -304,7 +304,7 @@ fn put_queues(out: &mut [u8], at: usize, queues: [Entries; 8], n: u8) -> usize
 // The report of a run, from the buffer's start.
 pub fn put_report(out: &mut [u8], t: Table, r: Running, log: &[u8]) -> usize
     requires { ⌜ Reportable t r (now log) ⌝ }
-    ensures { λ e. ⌜ Put 6000000 (now (out .entry)) 0 (report t r (now (log .entry))) (now (out .exit)) e ⌝ }
+    ensures { λ e. ⌜ Put 4400000 (now (out .entry)) 0 (report t r (now (log .entry))) (now (out .exit)) e ⌝ }
 {
     let a = put_answer_line(out, 0, r);
     let b = put_steps(out, a, log, r.steps);

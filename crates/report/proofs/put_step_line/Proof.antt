@@ -6,6 +6,7 @@ use mathlib.Core.Path.{_∙_}
 use native.Mathlib.Nat.{add-zero}
 use Rattle.put.specs.PutLaws.{put-more, field-then}
 use Rattle.machine.specs.Report.{loggedValue}
+use Rattle.report.specs.RowsLaws.{short}
 use native.Mathlib.Omega.{arith}
 use borrow.Author.Needs.{needs}
 use Rattle.report.proofs.put_step_line.Statement.{statement}
@@ -75,7 +76,7 @@ same-length : tie.Need-same-length
 same-length c = search needs
 
 returns : tie.Need-returns
-returns c = let e : toZ w32 (ofZ w32 ((c .before .before .before .before .logged-value) .result)) ≡ loggedValue ((c .before .before .before .before .before .before .before .before .before .before .before .before .before .before .before .before .before .before .before .before .before .before .before .before .before .before .before .before .before .before .before .before .before .before .before .before .args) .log .now) ((c .before .before .before .before .before .before .before .before .before .before .before .before .before .before .before .before .before .before .before .before .before .before .before .before .before .before .before .before .before .before .before .before .before .before .before .before .args) .i) = toZ-ofZ {w = w32} (record { sfits = (c .before .before .before .before .logged-value) .ok }) ∙ (c .before .before .before .before .logged-value) .ensures in rw add-zero (put-more (omega arith) (field-then ((c .before .before .before .before .before .before .before .before .before .before .before .before .before .before .before .before .before .before .before .before .before .before .before .before .before .before .before .before .before .before .before .put-size) .ensures) (field-then ((c .before .before .before .before .before .before .before .before .before .before .before .before .before .before .before .before .before .before .before .before .before .before .before .before .before .put-count) .ensures) (field-then ((c .before .before .before .before .before .before .before .before .before .before .before .before .before .before .before .before .before .before .before .put-count2) .ensures) (field-then ((c .before .before .before .before .before .before .before .before .before .before .before .before .before .put-count3) .ensures) (field-then ((c .before .before .before .before .before .before .before .put-count4) .ensures) (rw e at ((c .before .before .put-value-line) .ensures))))))))
+returns c = let e : toZ w32 (ofZ w32 ((c .before .before .before .before .logged-value) .result)) ≡ loggedValue ((c .before .before .before .before .before .before .before .before .before .before .before .before .before .before .before .before .before .before .before .before .before .before .before .before .before .before .before .before .before .before .before .before .before .before .before .before .args) .log .now) ((c .before .before .before .before .before .before .before .before .before .before .before .before .before .before .before .before .before .before .before .before .before .before .before .before .before .before .before .before .before .before .before .before .before .before .before .before .args) .i) = toZ-ofZ {w = w32} (record { sfits = (c .before .before .before .before .logged-value) .ok }) ∙ (c .before .before .before .before .logged-value) .ensures in rw add-zero (put-more (omega arith) (field-then (short ((c .before .before .before .before .before .before .before .before .before .before .before .before .before .before .before .before .before .before .before .before .before .before .before .before .before .before .before .before .before .before .before .before .before .before .before .before .args) .i) (omega (arith, (c .before .before .before .before .before .before .before .before .before .before .before .before .before .before .before .before .before .before .before .before .before .before .before .before .before .before .before .before .before .before .before .before .before .before .before .before .pre) .2)) ((c .before .before .before .before .before .before .before .before .before .before .before .before .before .before .before .before .before .before .before .before .before .before .before .before .before .before .before .before .before .before .before .put-size) .ensures)) (field-then ((c .before .before .before .before .before .before .before .before .before .before .before .before .before .before .before .before .before .before .before .before .before .before .before .before .before .put-count) .ensures) (field-then ((c .before .before .before .before .before .before .before .before .before .before .before .before .before .before .before .before .before .before .before .put-count2) .ensures) (field-then ((c .before .before .before .before .before .before .before .before .before .before .before .before .before .put-count3) .ensures) (field-then ((c .before .before .before .before .before .before .before .put-count4) .ensures) (rw e at ((c .before .before .put-value-line) .ensures))))))))
 
 pub put-step-line-spec : {M : Type 1} → statement M
 put-step-line-spec =

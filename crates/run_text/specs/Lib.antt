@@ -1,0 +1,3 @@
+pub mod RunLaws
+pub mod Text
+pub mod TextLaws
