@@ -1,12 +1,12 @@
 // The values of a text, each read at a place: keys, numbers, operands and variables.
-ghost use Prim.Native.Nat.{_-_, _≤_, _<_};
+ghost use Prim.Native.Nat.{_+_, _-_, _≤_, _<_};
 ghost use mathlib.Core.Path.{_≡_};
 ghost use lib.IntN.{pos, negsuc};
 ghost use lib.ListN.{length};
 ghost use Rattle.text.specs.Value.{same, asVar, asConst, asNegative};
 ghost use Rattle.text.specs.Line.{stops as stopsAt};
 ghost use Rattle.scan.specs.Place.{AfterKey, RunEnd, ValueAt, TokenAt, refusalOf, FeedAt, DigitsTo, NumeralAt};
-ghost use Rattle.scan.specs.Answer.{NumberSaid, NumberAt, Judged, OperandAs, OperandIn, OperandAt, VariableSaid, VariableAt};
+ghost use Rattle.scan.specs.Answer.{NumberSaid, NumberAt, skip, kindOf, Judged, OperandIn, OperandAt, VariableSaid, VariableAt};
 
 // Where the text goes on after a key; or something else stands there, or the text ends first.
 pub enum Found {
@@ -296,37 +296,31 @@ fn negative_operand(x: u64, e: usize, vars: u64) -> Operand
     Operand::Not(text::Fault::Range)
 }
 
-fn named_at(s: &[u8], at: usize, vars: u64) -> Operand
-    requires { ⌜ (at ≤ length (now s)) × (vars ≤ 256) ⌝ }
-    ensures { λ r. ⌜ OperandAs asVar vars (now (s .entry)) at r ⌝ }
+// An operand that begins with the byte b: where its digits begin, and what they say.
+fn digits_from(b: u8, at: usize) -> usize
+    requires { ⌜ at < 18446744073709551615 ⌝ }
+    ensures { λ r. ⌜ r ≡ at + skip b ⌝ }
 {
-    match numeral_at(s, at) {
-        Numeral::Is(x, e) => named_operand(x, e, vars),
-        Numeral::Bad => Operand::Not(text::Fault::Misspelt),
-        Numeral::Over => Operand::Not(text::Fault::Ended),
+    if b == 118 {
+        return at + 1;
     }
+    if b == 45 {
+        return at + 1;
+    }
+    at
 }
 
-fn negative_at(s: &[u8], at: usize, vars: u64) -> Operand
-    requires { ⌜ at ≤ length (now s) ⌝ }
-    ensures { λ r. ⌜ OperandAs asNegative vars (now (s .entry)) at r ⌝ }
+fn any_operand(b: u8, x: u64, e: usize, vars: u64) -> Operand
+    requires { ⌜ vars ≤ 256 ⌝ }
+    ensures { λ r. ⌜ Judged (kindOf b) vars x e r ⌝ }
 {
-    match numeral_at(s, at) {
-        Numeral::Is(x, e) => negative_operand(x, e, vars),
-        Numeral::Bad => Operand::Not(text::Fault::Misspelt),
-        Numeral::Over => Operand::Not(text::Fault::Ended),
+    if b == 118 {
+        return named_operand(x, e, vars);
     }
-}
-
-fn constant_at(s: &[u8], at: usize, vars: u64) -> Operand
-    requires { ⌜ at ≤ length (now s) ⌝ }
-    ensures { λ r. ⌜ OperandAs asConst vars (now (s .entry)) at r ⌝ }
-{
-    match numeral_at(s, at) {
-        Numeral::Is(x, e) => constant_operand(x, e, vars),
-        Numeral::Bad => Operand::Not(text::Fault::Misspelt),
-        Numeral::Over => Operand::Not(text::Fault::Ended),
+    if b == 45 {
+        return negative_operand(x, e, vars);
     }
+    constant_operand(x, e, vars)
 }
 
 fn operand_at(s: &[u8], at: usize, vars: u64) -> Operand
@@ -337,13 +331,12 @@ fn operand_at(s: &[u8], at: usize, vars: u64) -> Operand
         return Operand::Not(text::Fault::Ended);
     }
     let b = s[at];
-    if b == 118 {
-        return named_at(s, at + 1, vars);
+    let from = digits_from(b, at);
+    match numeral_at(s, from) {
+        Numeral::Is(x, e) => any_operand(b, x, e, vars),
+        Numeral::Bad => Operand::Not(text::Fault::Misspelt),
+        Numeral::Over => Operand::Not(text::Fault::Ended),
     }
-    if b == 45 {
-        return negative_at(s, at + 1, vars);
-    }
-    constant_at(s, at, vars)
 }
 
 // A variable or a constant, with so many variables declared.
