@@ -40,6 +40,14 @@ pub record NumberSaid (lo n : ℕ) (f : Fault) (t : List ℕ) (e : ℕ) (r : Num
   pub same : (l : ℕ) (s : List ℕ) → numberIn l s r ≡ judged (number lo n f) (said (number lo n f) t) l (drop e s)
   pub ends : numberEnds lo n e r
 
+-- the answer for a number v, and for the number at a place
+pub record NumberIs (lo n : ℕ) (f : Fault) (v e : ℕ) (r : Number) : Type 0 where
+  pub is : (t : List ℕ) → Good v ≡ numberOf t → NumberSaid lo n f t e r
+
+pub record NumberIn (lo n : ℕ) (f : Fault) (s : List ℕ) (at : ℕ) (r : Number) : Type 0 where
+  pub same : (l : ℕ) → numberIn l s r ≡ valueOf (number lo n f) l (drop at s)
+  pub within : numberWithin lo n s r
+
 pub record NumberAt (lo n : ℕ) (f : Fault) (key s : List ℕ) (at : ℕ) (r : Number) : Type 0 where
   pub same : (l : ℕ) → numberIn l s r ≡ fieldOf key (number lo n f) l (drop at s)
   pub within : numberWithin lo n s r
