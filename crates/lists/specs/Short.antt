@@ -1,32 +1,14 @@
 -- What the readers of short numbers answer.
 use Prim.Native.Nat.{ℕ, _<_}
 use mathlib.Core.Path.{_≡_}
-use mathlib.Core.Bool.{true, false}
+use mathlib.Core.Bool.{false}
 use mathlib.Core.List.{List}
 use lib.ListN.{length, take}
-use Rattle.text.specs.Number.{spelt, value}
 use Rattle.text.specs.Line.{run}
-use Rattle.lists.specs.declared.Short.{Short}
-use Rattle.lists.specs.declared.Short.the-variants.{Is, Not}
 use Rattle.lists.specs.declared.ShortList.{ShortList}
 use Rattle.lists.specs.declared.ShortList.the-variants.{Is as IsQuick, Not as NotQuick}
 use Rattle.lists.specs.declared.Set.the-variants.{Is as IsSet}
-use Rattle.lists.specs.Items.{part}
 use Rattle.lists.specs.Sets.{SetSaid}
-
-pub record Spelt (u : List ℕ) (at to v : ℕ) : Type 0 where
-  pub from : at < to
-  pub within : to < length u
-  pub good : spelt (part u at to) ≡ true
-  pub value : value (part u at to) ≡ v
-  pub small : v < 100
-
-abbrev pub pieceIs : List ℕ → ℕ → Short → Type 0
-pieceIs u at (Is v to) = Spelt u at to v
-pieceIs u at Not = Unit {0}
-
-pub record PieceAt (u : List ℕ) (at : ℕ) (r : Short) : Type 0 where
-  pub is : pieceIs u at r
 
 -- the value at a text's start ends at e, and says the set m
 pub record Listed (lo n : ℕ) (u : List ℕ) (m e : ℕ) : Type 0 where

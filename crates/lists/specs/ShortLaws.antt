@@ -1,5 +1,5 @@
 -- Laws of short numbers that ascend: each says what a step of the code shows.
-use Prim.Native.Nat.{ℕ, zero, suc, _+_, _-_, _*_, _^_, _≤_, _<_}
+use Prim.Native.Nat.{ℕ, zero, suc, _+_, _-_, _^_, _≤_, _<_}
 use mathlib.Core.Path.{_≡_, refl, sym, _∙_, ap}
 use mathlib.Core.Bool.{Bool, true, false, _&&_, not}
 use mathlib.Core.List.{List, [], _∷_}
@@ -12,17 +12,17 @@ use lib.Dec.{ltb, leb, eqb}
 use lib.Pow.{pow-mono}
 use lib.ListN.{length, take, drop, getD, drop-of-length-le, length-drop}
 use lib.Seq.{take-all, drop-cons, drop-drop, take-nil, take-take, getD-take, length-take-le}
-use borrow.Author.Tests.{lt-ltb, le-leb, ltb-true, ne-eqb}
-use Rattle.text.specs.Number.{bytes, spelt, value, valueFrom, allDigits, isDigit}
+use borrow.Author.Tests.{lt-ltb, ltb-true, ne-eqb}
+use Rattle.text.specs.Number.{bytes, value, allDigits}
 use Rattle.text.specs.NumberLaws.{byOrder, and-right, cases, all-head, all-tail, spelt-all}
 use Rattle.text.specs.Value.{same, split, each, said}
 use Rattle.text.specs.Line.{run, stops}
-use Rattle.scan.specs.PlaceLaws.{count-more, count-none, Running, running-start, running-digits, run-stops, run-turn, value-ends}
-use Rattle.digits.specs.Read.{capped, numberOf}
-use Rattle.scan.specs.Place.{RunEnd}
+use Rattle.scan.specs.PlaceLaws.{count-more, count-none, Running, running-start, running-digits, run-turn, value-ends}
+use Rattle.scan.specs.declared.Short.{Short}
+use Rattle.scan.specs.declared.Short.the-variants.{Is}
+use Rattle.scan.specs.Place.{Spelt, ShortAt}
+use Rattle.scan.specs.NumeralLaws.{short-is, short-numeral}
 use Rattle.lists.specs.declared.Item.the-variants.{Is as IsItem}
-use Rattle.lists.specs.declared.Short.{Short}
-use Rattle.lists.specs.declared.Short.the-variants.{Is, Not}
 use Rattle.lists.specs.declared.ShortList.{ShortList}
 use Rattle.lists.specs.declared.ShortList.the-variants.{Is as IsQuick, Not as NotQuick}
 use Rattle.lists.specs.declared.Set.{Set}
@@ -32,72 +32,7 @@ use Rattle.lists.specs.ItemLaws.{comma-split}
 use Rattle.lists.specs.Sets.{OneSaid, SetIn}
 use Rattle.lists.specs.SetLaws.{Rising, rising-start, rising-end, rising-turn}
 use Rattle.lists.specs.ListLaws.{list-rising, set-step}
-use Rattle.lists.specs.Short.{Spelt, PieceAt, Listed, QuickAt}
-
--- ---- a digit, and one or two of them
-pub piece-none : (u : List ℕ) (at : ℕ) → PieceAt u at Not
-piece-none u at = record { is = tt }
-
-one-part : (u : List ℕ) (at : ℕ) → at < length u → part u at (at + 1) ≡ getD u at 0 ∷ []
-one-part u at h =
-    let e : at + 1 - at ≡ 1 = omega arith in
-    rw (e, drop-cons u at 0 h)
-
-two-part : (u : List ℕ) (at : ℕ) → at + 1 < length u → part u at (at + 1 + 1) ≡ getD u at 0 ∷ getD u (at + 1) 0 ∷ []
-two-part u at h =
-    let e : at + 1 + 1 - at ≡ 2 = omega arith in
-    let k : at < length u = omega arith in
-    let g : suc at < length u = omega arith in
-    rw (e, add-one at, drop-cons u at 0 k, drop-cons u (suc at) 0 g)
-
-is-digit : (b : ℕ) → 48 ≤ b → b ≤ 57 → isDigit b ≡ true
-is-digit b h k = rw (le-leb 48 b h, le-leb b 57 k)
-
-pub piece-one : (u : List ℕ) (at : ℕ) {a : ℕ} → 3 ≤ length u - at → a ≤ 9 → (a ≤ 9 → a + 48 ≡ getD u at 0) → PieceAt u at (Is a (at + 1))
-unfolding spelt value valueFrom
-piece-one u at {a} h k d =
-    let x = getD u at 0 in
-    let e : a + 48 ≡ x = d k in
-    record {
-      is = record {
-        from = omega arith;
-        within = omega arith;
-        good = rw (one-part u at (omega arith)) (is-digit x (omega arith) (omega arith));
-        value = rw (one-part u at (omega arith)) (omega arith);
-        small = omega arith;
-      };
-    }
-
-pub piece-two : (u : List ℕ) (at : ℕ) {a b : ℕ} → 3 ≤ length u - at → a ≤ 9 → (a ≤ 9 → a + 48 ≡ getD u at 0) → b ≤ 9 → (b ≤ 9 → b + 48 ≡ getD u (at + 1) 0)
-    → (a ≡ 0 → ⊥) → PieceAt u at (Is (a * 10 + b) (at + 1 + 1))
-unfolding spelt value valueFrom allDigits
-piece-two u at {a} {b} h k d l g z =
-    let x = getD u at 0 in
-    let y = getD u (at + 1) 0 in
-    let e : a + 48 ≡ x = d k in
-    let f : b + 48 ≡ y = g l in
-    record {
-      is = record {
-        from = omega arith;
-        within = omega arith;
-        good = rw (two-part u at (omega arith), ne-eqb x 48 (λ q. z (omega arith)), is-digit x (omega arith) (omega arith), is-digit y (omega arith) (omega arith));
-        value = rw (two-part u at (omega arith)) (omega arith);
-        small = omega arith;
-      };
-    }
-
-module _ {u : List ℕ} {at : ℕ} {r : Short} (p : PieceAt u at r) {v to : ℕ} (q : r ≡ Is v to) where
-  pub piece-is : Spelt u at to v
-  piece-is = rw q at (p .is)
-
-  pub piece-within : to < length u
-  piece-within = piece-is .within
-
-  pub piece-after : length u < 18446744073709551616 → Fits w64 (to + 1)
-  piece-after h = record { fits = omega (arith, piece-is .within) }
-
-  pub piece-less : at < length u → length u - (to + 1) < length u - at
-  piece-less h = omega (arith, piece-is .from)
+use Rattle.lists.specs.Short.{Listed, QuickAt}
 
 -- ---- digits are no commas
 digits-up : (k : ℕ) (s : List ℕ) → k ≤ length s → allDigits (take k s) ≡ true → upTo s ≡ k + upTo (drop k s)
@@ -164,15 +99,11 @@ module _ {u : List ℕ} {from to v : ℕ} (g : Running u 0 from) (p : Spelt u fr
         }
 
 -- ---- one short number
-pub single-at : {s : List ℕ} {at : ℕ} {a : Short} {v to : ℕ} {lo n : ℕ} {z : Bool} {r : Set} → PieceAt s at a → a ≡ Is v to → at ≤ length s
+pub single-at : {s : List ℕ} {at : ℕ} {a : Short} {v to : ℕ} {lo n : ℕ} {z : Bool} {r : Set} → ShortAt s at a → a ≡ Is v to → at ≤ length s
     → z ≡ stops (getD s to 0) → z ≡ true → OneSaid lo n v to r → SetIn true lo n s at r
-unfolding numberOf
 single-at {s} {at} {a} {v} {to} i j h q k d =
-    let p = piece-is i j in
-    let l : allDigits (part s at to) ≡ true = spelt-all (part s at to) (p .good) in
-    let u : RunEnd s at to = run-stops (running-digits (running-start s at h) (omega (arith, p .from)) (omega (arith, p .within)) l) (p .within) (sym q ∙ k) in
-    let c : capped v ≡ v = omega (arith, p .small) in
-    set-step (value-ends u (p .within)) refl (d .is (part s at to) (rw (p .good, p .value, c)))
+    let m = short-numeral i j h (sym q ∙ k) in
+    set-step (value-ends (m .run) (m .inside)) refl (d .is (part s at to) (m .same))
 
 -- ---- what is read so far: nothing; or items, and a comma
 pub data Listing (lo n : ℕ) (u : List ℕ) : ℕ → ℕ → Type 0 where
@@ -230,10 +161,10 @@ running-of {u = u} none = running-start u 0 (omega arith)
 running-of (some g l low w r) = g
 
 -- ---- one item more
-module _ {lo n : ℕ} {u : List ℕ} {from m : ℕ} (s : Listing lo n u from m) {a : Short} (i : PieceAt u from a) {v to : ℕ} (j : a ≡ Is v to) {b : ℕ}
+module _ {lo n : ℕ} {u : List ℕ} {from m : ℕ} (s : Listing lo n u from m) {a : Short} (i : ShortAt u from a) {v to : ℕ} (j : a ≡ Is v to) {b : ℕ}
     (q : b ≡ bitOf lo n v) (h : m < b) (k : n ≤ 32) where
   p : Spelt u from to v
-  p = piece-is i j
+  p = short-is i j
 
   g : Running u 0 to
   g = running-to (running-of s) p

@@ -10,7 +10,7 @@ ghost use Rattle.text.specs.Value.{numeral, saidVariable, split, each};
 ghost use Rattle.text.specs.Format.{argsOf};
 ghost use Rattle.lists.specs.Items.{CommaAt, bitOf, ItemAt};
 ghost use Rattle.lists.specs.Sets.{SetJudged, SetSaid, OneSaid, SetIn, SetAt};
-ghost use Rattle.lists.specs.Short.{PieceAt, QuickAt};
+ghost use Rattle.lists.specs.Short.{QuickAt};
 ghost use Rattle.lists.specs.Passing.{pushedOf, ArgumentSaid, ArgumentAt, PassedJudged, PassedSaid, PassedAt};
 
 // One item of a list of numbers: where it ends, and its bit, 0 for one that is outside.
@@ -23,12 +23,6 @@ enum Item {
 pub enum Set {
     Is(u32, usize),
     Not(text::Fault),
-}
-
-// A number of one or two digits, and where it ends.
-enum Short {
-    Is(u64, usize),
-    Not,
 }
 
 // A set and where its list ends; or the list is read another way.
@@ -174,29 +168,6 @@ fn ascending_value(t: &[u8], e: usize, one: bool, lo: u64, below: u64) -> Set
 
 // ---- short numbers that ascend, in one pass
 
-// A number of one or two digits, where the text goes on behind it.
-fn short_number(u: &[u8], at: usize) -> Short
-    requires { ⌜ at ≤ length (now u) ⌝ }
-    ensures { λ r. ⌜ PieceAt (now (u .entry)) at r ⌝ }
-{
-    if u.len() - at < 3 {
-        return Short::Not;
-    }
-    let a = digits::digit(u[at]);
-    if 9 < a {
-        return Short::Not;
-    }
-    let next = at + 1;
-    let b = digits::digit(u[next]);
-    if 9 < b {
-        return Short::Is(a as u64, next);
-    }
-    if a == 0 {
-        return Short::Not;
-    }
-    Short::Is((a as u64) * 10 + (b as u64), next + 1)
-}
-
 // The list at a text's start, if its numbers are short, inside and ascend.
 fn short_list(u: &[u8], lo: u64, below: u64) -> ShortList
     requires { ⌜ below ≤ 32 ⌝ }
@@ -205,8 +176,8 @@ fn short_list(u: &[u8], lo: u64, below: u64) -> ShortList
     let mut from = 0;
     let mut mask = 0u32;
     while from < u.len() {
-        let item = short_number(u, from);
-        let Short::Is(v, to) = item else {
+        let item = scan::short_number(u, from);
+        let scan::Short::Is(v, to) = item else {
             return ShortList::Not;
         };
         let b = bit(v, lo, below);
@@ -255,8 +226,8 @@ fn single_at(s: &[u8], at: usize, lo: u64, below: u64) -> Set
     requires { ⌜ (at ≤ length (now s)) × (below ≤ 32) ⌝ }
     ensures { λ r. ⌜ SetIn true lo below (now (s .entry)) at r ⌝ }
 {
-    let item = short_number(s, at);
-    let Short::Is(v, to) = item else {
+    let item = scan::short_number(s, at);
+    let scan::Short::Is(v, to) = item else {
         return any_list(s, at, true, lo, below);
     };
     if scan::stops(s[to]) {

@@ -4,7 +4,7 @@ use mathlib.Core.Path.{_≡_}
 use mathlib.Core.Bool.{Bool}
 use mathlib.Core.List.{List}
 use mathlib.Core.Option.{Option}
-use lib.Dec.{ltb}
+use lib.Dec.{ltb, eqb}
 use lib.ListN.{length, take, drop}
 use Rattle.table.specs.Mask.{pick}
 use Rattle.text.specs.declared.Fault.{Fault}
@@ -12,7 +12,7 @@ use Rattle.text.specs.declared.Fault.the-variants.{Ended}
 use Rattle.table.specs.declared.Operand.{Operand}
 use Rattle.table.specs.declared.Operand.the-variants.{Var, Const}
 use Rattle.text.specs.Number.{bytes}
-use Rattle.text.specs.Value.{number, operand, variable, numeral, said}
+use Rattle.text.specs.Value.{number, operand, variable, numeral, asVar, asConst, asNegative, said}
 use Rattle.text.specs.Line.{Outcome, Parser, took, refused, run, judged, valueOf, fieldOf}
 use Rattle.digits.specs.declared.Num.the-variants.{Good}
 use Rattle.digits.specs.Read.{numberOf}
@@ -39,6 +39,14 @@ numberWithin lo n s (Not f) = Unit {0}
 pub record NumberSaid (lo n : ℕ) (f : Fault) (t : List ℕ) (e : ℕ) (r : Number) : Type 0 where
   pub same : (l : ℕ) (s : List ℕ) → numberIn l s r ≡ judged (number lo n f) (said (number lo n f) t) l (drop e s)
   pub ends : numberEnds lo n e r
+
+-- the answer for a number v, and for the number at a place
+pub record NumberIs (lo n : ℕ) (f : Fault) (v e : ℕ) (r : Number) : Type 0 where
+  pub is : (t : List ℕ) → Good v ≡ numberOf t → NumberSaid lo n f t e r
+
+pub record NumberIn (lo n : ℕ) (f : Fault) (s : List ℕ) (at : ℕ) (r : Number) : Type 0 where
+  pub same : (l : ℕ) → numberIn l s r ≡ valueOf (number lo n f) l (drop at s)
+  pub within : numberWithin lo n s r
 
 pub record NumberAt (lo n : ℕ) (f : Fault) (key s : List ℕ) (at : ℕ) (r : Number) : Type 0 where
   pub same : (l : ℕ) → numberIn l s r ≡ fieldOf key (number lo n f) l (drop at s)
@@ -70,6 +78,13 @@ pub record OperandJudged (n : ℕ) (o : Option Operand) (e : ℕ) (r : OperandAn
 -- the answer for the number x behind `v`, behind `-` or alone
 pub record Judged (kind : Option ℕ → Option Operand) (n x e : ℕ) (r : OperandAnswer) : Type 0 where
   pub is : (t : List ℕ) → Good x ≡ numberOf t → OperandJudged n (kind (numeral t)) e r
+
+-- what an operand's first byte says: how many bytes stand before its digits, and what the digits are
+abbrev pub skip : ℕ → ℕ
+skip b = pick (eqb b 118) 1 (pick (eqb b 45) 1 0)
+
+abbrev pub kindOf : ℕ → Option ℕ → Option Operand
+kindOf b = pick (eqb b 118) asVar (pick (eqb b 45) asNegative asConst)
 
 -- the answer for the digits at a place
 abbrev pub valueAs : (Option ℕ → Option Operand) → ℕ → Parser Operand

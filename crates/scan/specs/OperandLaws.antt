@@ -5,13 +5,13 @@ use mathlib.Core.List.{List, _∷_}
 use mathlib.Core.Option.{Option, none}
 use mathlib.Core.Bool.{Bool, true, false}
 use native.Mathlib.Omega.{arith}
-use native.Mathlib.Nat.{zero-add}
+use native.Mathlib.Nat.{zero-add, add-zero}
 use native.Mathlib.Numerals.{add-one}
 use lib.IntN.{ℤ, pos, negsuc, _-ℤ_}
-use lib.Dec.{ltb}
+use lib.Dec.{ltb, eqb}
 use lib.ListN.{length, take, drop, getD, drop-of-length-le, length-drop}
 use lib.Seq.{drop-cons, drop-drop}
-use borrow.Author.Tests.{lt-ltb, le-ltb, le-leb, lt-leb, ne-eqb}
+use borrow.Author.Tests.{lt-ltb, le-ltb, le-leb, lt-leb, ne-eqb, eqb-true, eqb-false}
 use mir.Syntax.{w32}
 use mir.Val.{toZ, ofZ, SFits}
 use mir.ValLaws.{toZ-pos, toZ-ofZ}
@@ -20,7 +20,7 @@ use Rattle.table.specs.declared.Operand.the-variants.{Var, Const}
 use Rattle.text.specs.declared.Fault.{Fault}
 use Rattle.text.specs.declared.Fault.the-variants.{Form, Misspelt, Ended, Range, Reference}
 use Rattle.text.specs.Number.{bytes, spelt, value}
-use Rattle.text.specs.NumberLaws.{byOrder}
+use Rattle.text.specs.NumberLaws.{byOrder, cases}
 use Rattle.text.specs.Line.{run, stops, judged, valueOf, fieldOf}
 use Rattle.text.specs.Value.{operand, variable, numeral, asVar, asConst, asNegative, saidOperand, same, said, unsaid, check}
 use Rattle.text.specs.Format.{variableOf}
@@ -40,7 +40,7 @@ use Rattle.scan.specs.declared.Operand.{Operand as OperandAnswer}
 use Rattle.scan.specs.declared.Operand.the-variants.{Is as IsOperand, Not as NotOperand}
 use Rattle.scan.specs.Place.{AfterKey, RunEnd, NumeralTo, NumeralAt, TokenAt, refusalOf}
 use Rattle.scan.specs.PlaceLaws.{count-more, token-within}
-use Rattle.scan.specs.Answer.{operandEnds, operandWithin, OperandJudged, Judged, valueAs, OperandAs, OperandIn, OperandAt, mapped, variableEnds, variableWithin, VariableSaid, VariableAt}
+use Rattle.scan.specs.Answer.{operandEnds, operandWithin, OperandJudged, skip, kindOf, Judged, valueAs, OperandAs, OperandIn, OperandAt, mapped, variableEnds, variableWithin, VariableSaid, VariableAt}
 
 -- ---- signed numbers
 pub positive-is : (x : ℕ) → x ≤ 2147483647 → toZ w32 x ≡ pos x
@@ -134,7 +134,7 @@ module _ {s : List ℕ} {at : ℕ} {r : Numeral} (m : NumeralAt s at r) where
       let d : at + (e - at) ≡ e = omega (arith, u .from) in
       rw (z, lt-ltb (e - at) (length (drop at s)) k, drop-drop (e - at) at s, d)
 
-  pub as-is : {kind : Option ℕ → Option Operand} {n x e : ℕ} {v : OperandAnswer} → r ≡ IsNumeral x e → Judged kind n x e v → OperandAs kind n s at v
+  as-is : {kind : Option ℕ → Option Operand} {n x e : ℕ} {v : OperandAnswer} → r ≡ IsNumeral x e → Judged kind n x e v → OperandAs kind n s at v
   as-is {kind} {n} {x} {e} {v} q j =
       let i : NumeralTo s at e (Good x) = rw q at (m .is) in
       let d = j .is (take (e - at) (drop at s)) (i .same) in
@@ -152,16 +152,7 @@ module _ {s : List ℕ} {at : ℕ} {r : Numeral} (m : NumeralAt s at r) where
       let d : kind (numeral t) ≡ none = rw (numeral-bad t (i .1 .same) refl) z in
       record { same = λ l. rw d at (value-to kind n (i .1 .run) (i .1 .inside) l); within = tt }
 
-  pub named-bad : (n : ℕ) → r ≡ BadNumeral → OperandAs asVar n s at (NotOperand Misspelt)
-  named-bad n q = as-bad asVar n refl q
-
-  pub negative-bad : (n : ℕ) → r ≡ BadNumeral → OperandAs asNegative n s at (NotOperand Misspelt)
-  negative-bad n q = as-bad asNegative n refl q
-
-  pub constant-bad : (n : ℕ) → r ≡ BadNumeral → OperandAs asConst n s at (NotOperand Misspelt)
-  constant-bad n q = as-bad asConst n refl q
-
-  pub as-over : (kind : Option ℕ → Option Operand) (n : ℕ) → r ≡ Over → OperandAs kind n s at (NotOperand Ended)
+  as-over : (kind : Option ℕ → Option Operand) (n : ℕ) → r ≡ Over → OperandAs kind n s at (NotOperand Ended)
   as-over kind n q =
       let i : (e : ℕ) × RunEnd s at e × (length s ≤ e) = rw q at (m .is) in
       let k : length (drop at s) ≤ run (drop at s) = simp length-drop (omega (arith, i .1 .same, i .2)) in
@@ -181,11 +172,11 @@ module _ (s : List ℕ) (at : ℕ) (h : at < length s) where
   rest : drop at s ≡ getD s at 0 ∷ drop (at + 1) s
   rest = rw (add-one at) (drop-cons s at 0 h)
 
-  pub operand-named : {n : ℕ} {r : OperandAnswer} → getD s at 0 ≡ 118 → OperandAs asVar n s (at + 1) r → OperandIn n s at r
+  operand-named : {n : ℕ} {r : OperandAnswer} → getD s at 0 ≡ 118 → OperandAs asVar n s (at + 1) r → OperandIn n s at r
   unfolding saidOperand
   operand-named {n} q a = record { same = λ l. a .same l ∙ rw (rest, q) (behind 118 (drop (at + 1) s) asVar n l refl (λ t. refl)); within = a .within }
 
-  pub operand-minus : {n : ℕ} {r : OperandAnswer} → getD s at 0 ≡ 45 → OperandAs asNegative n s (at + 1) r → OperandIn n s at r
+  operand-minus : {n : ℕ} {r : OperandAnswer} → getD s at 0 ≡ 45 → OperandAs asNegative n s (at + 1) r → OperandIn n s at r
   unfolding saidOperand
   operand-minus {n} q a = record { same = λ l. a .same l ∙ rw (rest, q) (behind 45 (drop (at + 1) s) asNegative n l refl (λ t. refl)); within = a .within }
 
@@ -194,13 +185,60 @@ unfolding saidOperand spelt
 plain-said b s zero h g = refl
 plain-said b s (suc k) h g = rw (ne-eqb b 118 h, ne-eqb b 45 g)
 
-pub operand-plain : {n : ℕ} {s : List ℕ} {at : ℕ} {r : OperandAnswer} → at < length s → (getD s at 0 ≡ 118 → ⊥) → (getD s at 0 ≡ 45 → ⊥)
+operand-plain : {n : ℕ} {s : List ℕ} {at : ℕ} {r : OperandAnswer} → at < length s → (getD s at 0 ≡ 118 → ⊥) → (getD s at 0 ≡ 45 → ⊥)
     → OperandAs asConst n s at r → OperandIn n s at r
 unfolding said
 operand-plain {n} {s} {at} h p g a =
     let u = drop at s in
     let d : asConst (numeral (take (run u) u)) ≡ saidOperand (take (run u) u) = rw (rest s at h) (plain-said (getD s at 0) (drop (at + 1) s) (run (getD s at 0 ∷ drop (at + 1) s)) p g) in
     record { same = λ l. rw d at (a .same l); within = a .within }
+
+-- by the first byte
+operand-by : {n : ℕ} (s : List ℕ) (at b : ℕ) {r : OperandAnswer} → at < length s → b ≡ getD s at 0 → OperandAs (kindOf b) n s (at + skip b) r → OperandIn n s at r
+operand-by {n} s at b {r} h q a =
+    cases (eqb b 118)
+    (λ e. operand-named s at h (sym q ∙ eqb-true b 118 e) (rw e at a))
+    (λ e. cases (eqb b 45)
+    (λ f. operand-minus s at h (sym q ∙ eqb-true b 45 f) (rw (e, f) at a))
+    (λ f. operand-plain h (λ z. eqb-false b 118 e (q ∙ z)) (λ z. eqb-false b 45 f (q ∙ z)) (rw (e, f, add-zero at) at a)))
+
+kind-none : (b : ℕ) → kindOf b none ≡ none
+kind-none b = cases (eqb b 118) (λ e. rw e) (λ e. cases (eqb b 45) (λ f. rw (e, f)) (λ f. rw (e, f)))
+
+module _ {s : List ℕ} {at b from : ℕ} {r : Numeral} (m : NumeralAt s from r) (h : at < length s) (q : b ≡ getD s at 0) (k : from ≡ at + skip b) where
+  pub by-is : {n x e : ℕ} {v : OperandAnswer} → r ≡ IsNumeral x e → Judged (kindOf b) n x e v → OperandIn n s at v
+  by-is z j = operand-by s at b h q (rw k at (as-is m z j))
+
+  pub by-bad : (n : ℕ) → r ≡ BadNumeral → OperandIn n s at (NotOperand Misspelt)
+  by-bad n z = operand-by s at b h q (rw k at (as-bad m (kindOf b) n (kind-none b) z))
+
+  pub by-over : (n : ℕ) → r ≡ Over → OperandIn n s at (NotOperand Ended)
+  by-over n z = operand-by s at b h q (rw k at (as-over m (kindOf b) n z))
+
+-- where the digits begin
+pub from-within : (s : List ℕ) {at : ℕ} (b : ℕ) {from : ℕ} → at < length s → from ≡ at + skip b → from ≤ length s
+from-within s {at} b h k = cases (eqb b 118) (λ e. let z = rw e at k in omega arith) (λ e. cases (eqb b 45)
+    (λ f. let z = rw (e, f) at k in omega arith) (λ f. let z = rw (e, f) at k in omega arith))
+
+pub skip-named : (b at : ℕ) → b ≡ 118 → at + 1 ≡ at + skip b
+skip-named b at h = rw h
+
+pub skip-minus : (b at : ℕ) → b ≡ 45 → at + 1 ≡ at + skip b
+skip-minus b at h = rw h
+
+pub skip-none : (b at : ℕ) → (b ≡ 118 → ⊥) → (b ≡ 45 → ⊥) → at ≡ at + skip b
+skip-none b at h k = rw (ne-eqb b 118 h, ne-eqb b 45 k, add-zero at)
+
+-- what the digits are
+module _ (b : ℕ) {n x e : ℕ} {r : OperandAnswer} where
+  pub any-named : b ≡ 118 → Judged asVar n x e r → Judged (kindOf b) n x e r
+  any-named h a = rw h a
+
+  pub any-minus : b ≡ 45 → Judged asNegative n x e r → Judged (kindOf b) n x e r
+  any-minus h a = rw h a
+
+  pub any-plain : (b ≡ 118 → ⊥) → (b ≡ 45 → ⊥) → Judged asConst n x e r → Judged (kindOf b) n x e r
+  any-plain h k a = rw (ne-eqb b 118 h, ne-eqb b 45 k) a
 
 pub operand-none : (n : ℕ) {s : List ℕ} {at : ℕ} → length s ≤ at → OperandIn n s at (NotOperand Ended)
 unfolding run

@@ -1,12 +1,12 @@
 // The values of a text, each read at a place: keys, numbers, operands and variables.
-ghost use Prim.Native.Nat.{_-_, _≤_, _<_};
+ghost use Prim.Native.Nat.{_+_, _-_, _≤_, _<_};
 ghost use mathlib.Core.Path.{_≡_};
 ghost use lib.IntN.{pos, negsuc};
 ghost use lib.ListN.{length};
 ghost use Rattle.text.specs.Value.{same, asVar, asConst, asNegative};
 ghost use Rattle.text.specs.Line.{stops as stopsAt};
-ghost use Rattle.scan.specs.Place.{AfterKey, RunEnd, ValueAt, TokenAt, refusalOf, FeedAt, DigitsTo, NumeralAt};
-ghost use Rattle.scan.specs.Answer.{NumberSaid, NumberAt, Judged, OperandAs, OperandIn, OperandAt, VariableSaid, VariableAt};
+ghost use Rattle.scan.specs.Place.{AfterKey, RunEnd, ValueAt, TokenAt, refusalOf, FeedAt, DigitsTo, NumeralAt, ShortAt, ShortTo};
+ghost use Rattle.scan.specs.Answer.{NumberIs, NumberIn, NumberAt, skip, kindOf, Judged, OperandIn, OperandAt, VariableSaid, VariableAt};
 
 // Where the text goes on after a key; or something else stands there, or the text ends first.
 pub enum Found {
@@ -19,6 +19,12 @@ pub enum Found {
 pub enum Token {
     At(usize, usize),
     Not(text::Fault),
+}
+
+// A number of one or two digits, and where it ends.
+pub enum Short {
+    Is(u64, usize),
+    Not,
 }
 
 // The number that a value spells, at most 2^32, and the value's end; or it spells none, or the text's end breaks it off.
@@ -132,43 +138,6 @@ pub fn feed(s: &[u8], at: usize) -> Ended
 
 // ---- numbers
 
-fn number_value(t: &[u8], e: usize, lo: u64, below: u64, fault: text::Fault) -> Number
-    requires { ⌜ below ≤ 256 ⌝ }
-    ensures { λ r. ⌜ NumberSaid lo below fault (now (t .entry)) e r ⌝ }
-{
-    let digits::Num::Good(v) = digits::number(t) else {
-        return Number::Not(text::Fault::Misspelt);
-    };
-    if v < lo {
-        return Number::Not(fault);
-    }
-    if v < below {
-        return Number::Is(v as u8, e);
-    }
-    Number::Not(fault)
-}
-
-// A number at least lo and below the next; outside, the fault.
-pub fn number_field(
-    s: &[u8],
-    at: usize,
-    key: &[u8],
-    lo: u64,
-    below: u64,
-    fault: text::Fault,
-) -> Number
-    requires { ⌜ (at ≤ length (now s)) × (below ≤ 256) ⌝ }
-    ensures { λ r. ⌜ NumberAt lo below fault (now (key .entry)) (now (s .entry)) at r ⌝ }
-{
-    let found = token_at(s, at, key);
-    let Token::At(b, e) = found else {
-        return Number::Not(refusal(found));
-    };
-    number_value(&s[b..e], e, lo, below, fault)
-}
-
-// ---- numbers of any range
-
 // The end of a value.
 pub fn stops(b: u8) -> bool
     ensures { λ r. ⌜ r ≡ stopsAt b ⌝ }
@@ -227,6 +196,99 @@ pub fn numeral_at(s: &[u8], at: usize) -> Numeral
         return spelt(s, at, e, d.value);
     }
     any_numeral(s, at)
+}
+
+// A number of one or two digits, where the text goes on behind it.
+pub fn short_number(u: &[u8], at: usize) -> Short
+    requires { ⌜ at ≤ length (now u) ⌝ }
+    ensures { λ r. ⌜ ShortAt (now (u .entry)) at r ⌝ }
+{
+    if u.len() - at < 3 {
+        return Short::Not;
+    }
+    let a = digits::digit(u[at]);
+    if 9 < a {
+        return Short::Not;
+    }
+    let next = at + 1;
+    let b = digits::digit(u[next]);
+    if 9 < b {
+        return Short::Is(a as u64, next);
+    }
+    if a == 0 {
+        return Short::Not;
+    }
+    Short::Is((a as u64) * 10 + (b as u64), next + 1)
+}
+
+// A short number that a space ends.
+fn short_value(s: &[u8], at: usize) -> Short
+    requires { ⌜ at ≤ length (now s) ⌝ }
+    ensures { λ r. ⌜ ShortTo (now (s .entry)) at r ⌝ }
+{
+    let item = short_number(s, at);
+    let Short::Is(v, e) = item else {
+        return Short::Not;
+    };
+    if s[e] == 32 {
+        return Short::Is(v, e);
+    }
+    Short::Not
+}
+
+// As `numeral_at`, short numbers first.
+fn value_number(s: &[u8], at: usize) -> Numeral
+    requires { ⌜ at ≤ length (now s) ⌝ }
+    ensures { λ r. ⌜ NumeralAt (now (s .entry)) at r ⌝ }
+{
+    let item = short_value(s, at);
+    let Short::Is(v, e) = item else {
+        return numeral_at(s, at);
+    };
+    Numeral::Is(v, e)
+}
+
+fn within(v: u64, e: usize, lo: u64, below: u64, fault: text::Fault) -> Number
+    requires { ⌜ below ≤ 256 ⌝ }
+    ensures { λ r. ⌜ NumberIs lo below fault v e r ⌝ }
+{
+    if v < lo {
+        return Number::Not(fault);
+    }
+    if v < below {
+        return Number::Is(v as u8, e);
+    }
+    Number::Not(fault)
+}
+
+fn number_at(s: &[u8], at: usize, lo: u64, below: u64, fault: text::Fault) -> Number
+    requires { ⌜ (at ≤ length (now s)) × (below ≤ 256) ⌝ }
+    ensures { λ r. ⌜ NumberIn lo below fault (now (s .entry)) at r ⌝ }
+{
+    match value_number(s, at) {
+        Numeral::Is(v, e) => within(v, e, lo, below, fault),
+        Numeral::Bad => Number::Not(text::Fault::Misspelt),
+        Numeral::Over => Number::Not(text::Fault::Ended),
+    }
+}
+
+// A number at least lo and below the next; outside, the fault.
+pub fn number_field(
+    s: &[u8],
+    at: usize,
+    key: &[u8],
+    lo: u64,
+    below: u64,
+    fault: text::Fault,
+) -> Number
+    requires { ⌜ (at ≤ length (now s)) × (below ≤ 256) ⌝ }
+    ensures { λ r. ⌜ NumberAt lo below fault (now (key .entry)) (now (s .entry)) at r ⌝ }
+{
+    match after(s, at, key) {
+        Found::At(b) => number_at(s, b, lo, below, fault),
+        Found::Differs => Number::Not(text::Fault::Form),
+        Found::Broken => Number::Not(text::Fault::Ended),
+    }
 }
 
 // ---- words
@@ -296,37 +358,31 @@ pub fn negative_operand(x: u64, e: usize, vars: u64) -> Operand
     Operand::Not(text::Fault::Range)
 }
 
-fn named_at(s: &[u8], at: usize, vars: u64) -> Operand
-    requires { ⌜ (at ≤ length (now s)) × (vars ≤ 256) ⌝ }
-    ensures { λ r. ⌜ OperandAs asVar vars (now (s .entry)) at r ⌝ }
+// An operand that begins with the byte b: where its digits begin, and what they say.
+fn digits_from(b: u8, at: usize) -> usize
+    requires { ⌜ at < 18446744073709551615 ⌝ }
+    ensures { λ r. ⌜ r ≡ at + skip b ⌝ }
 {
-    match numeral_at(s, at) {
-        Numeral::Is(x, e) => named_operand(x, e, vars),
-        Numeral::Bad => Operand::Not(text::Fault::Misspelt),
-        Numeral::Over => Operand::Not(text::Fault::Ended),
+    if b == 118 {
+        return at + 1;
     }
+    if b == 45 {
+        return at + 1;
+    }
+    at
 }
 
-fn negative_at(s: &[u8], at: usize, vars: u64) -> Operand
-    requires { ⌜ at ≤ length (now s) ⌝ }
-    ensures { λ r. ⌜ OperandAs asNegative vars (now (s .entry)) at r ⌝ }
+fn any_operand(b: u8, x: u64, e: usize, vars: u64) -> Operand
+    requires { ⌜ vars ≤ 256 ⌝ }
+    ensures { λ r. ⌜ Judged (kindOf b) vars x e r ⌝ }
 {
-    match numeral_at(s, at) {
-        Numeral::Is(x, e) => negative_operand(x, e, vars),
-        Numeral::Bad => Operand::Not(text::Fault::Misspelt),
-        Numeral::Over => Operand::Not(text::Fault::Ended),
+    if b == 118 {
+        return named_operand(x, e, vars);
     }
-}
-
-fn constant_at(s: &[u8], at: usize, vars: u64) -> Operand
-    requires { ⌜ at ≤ length (now s) ⌝ }
-    ensures { λ r. ⌜ OperandAs asConst vars (now (s .entry)) at r ⌝ }
-{
-    match numeral_at(s, at) {
-        Numeral::Is(x, e) => constant_operand(x, e, vars),
-        Numeral::Bad => Operand::Not(text::Fault::Misspelt),
-        Numeral::Over => Operand::Not(text::Fault::Ended),
+    if b == 45 {
+        return negative_operand(x, e, vars);
     }
+    constant_operand(x, e, vars)
 }
 
 fn operand_at(s: &[u8], at: usize, vars: u64) -> Operand
@@ -337,13 +393,12 @@ fn operand_at(s: &[u8], at: usize, vars: u64) -> Operand
         return Operand::Not(text::Fault::Ended);
     }
     let b = s[at];
-    if b == 118 {
-        return named_at(s, at + 1, vars);
+    let from = digits_from(b, at);
+    match numeral_at(s, from) {
+        Numeral::Is(x, e) => any_operand(b, x, e, vars),
+        Numeral::Bad => Operand::Not(text::Fault::Misspelt),
+        Numeral::Over => Operand::Not(text::Fault::Ended),
     }
-    if b == 45 {
-        return negative_at(s, at + 1, vars);
-    }
-    constant_at(s, at, vars)
 }
 
 // A variable or a constant, with so many variables declared.

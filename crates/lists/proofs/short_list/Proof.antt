@@ -1,7 +1,8 @@
 use borrow.Author.Needs.{needs}
 use Prim.Native.Nat.{_-_}
 use lib.ListN.{length}
-use Rattle.lists.specs.ShortLaws.{piece-within, piece-after, piece-less, Listing, list-start, list-open, list-fits, list-end, list-turn}
+use Rattle.scan.specs.NumeralLaws.{short-within, short-after, short-less}
+use Rattle.lists.specs.ShortLaws.{Listing, list-start, list-open, list-fits, list-end, list-turn}
 use Rattle.lists.proofs.short_list.Statement.{statement}
 use Rattle.lists.proofs.short_list.Tie as tie
 
@@ -36,7 +37,7 @@ add-mask : tie.Need-add-mask Inv-loop μ-loop
 add-mask c = search (needs, list-fits)
 
 shared-slice-read-c : tie.Need-shared-slice-read-c Inv-loop μ-loop
-shared-slice-read-c c = search (needs, piece-within)
+shared-slice-read-c c = search (needs, short-within)
 
 stops-requires : tie.Need-stops-requires Inv-loop μ-loop
 stops-requires c κs = search needs
@@ -48,10 +49,10 @@ returns-4 : tie.Need-returns-4 Inv-loop μ-loop
 returns-4 c = search (needs, list-open)
 
 add-from : tie.Need-add-from Inv-loop μ-loop
-add-from c = search (needs, piece-after)
+add-from c = search (needs, short-after)
 
 loop-less : tie.Need-loop-less Inv-loop μ-loop
-loop-less c = search (needs, piece-less)
+loop-less c = search (needs, short-less)
 
 loop-again : tie.Need-loop-again Inv-loop μ-loop
 loop-again c = search (needs, list-turn)

@@ -1,4 +1,5 @@
-use Rattle.lists.specs.ShortLaws.{piece-within, single-at}
+use Rattle.scan.specs.NumeralLaws.{short-within}
+use Rattle.lists.specs.ShortLaws.{single-at}
 use borrow.Author.Needs.{needs}
 use Rattle.lists.proofs.single_at.Statement.{statement}
 use Rattle.lists.proofs.single_at.Tie as tie
@@ -19,7 +20,7 @@ returns : tie.Need-returns
 returns c = search needs
 
 shared-slice-read-stops : tie.Need-shared-slice-read-stops
-shared-slice-read-stops c = search (needs, piece-within)
+shared-slice-read-stops c = search (needs, short-within)
 
 stops-requires : tie.Need-stops-requires
 stops-requires c κs = search needs

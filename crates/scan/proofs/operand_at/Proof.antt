@@ -1,4 +1,4 @@
-use Rattle.scan.specs.OperandLaws.{operand-none, operand-named, operand-minus, operand-plain}
+use Rattle.scan.specs.OperandLaws.{operand-none, from-within, by-is, by-bad, by-over}
 use borrow.Author.Needs.{needs}
 use Rattle.scan.proofs.operand_at.Statement.{statement}
 use Rattle.scan.proofs.operand_at.Tie as tie
@@ -9,29 +9,32 @@ returns c = search (needs, operand-none)
 shared-slice-read-b : tie.Need-shared-slice-read-b
 shared-slice-read-b c = search needs
 
-add-named-at : tie.Need-add-named-at
-add-named-at c = search needs
+digits-from-requires : tie.Need-digits-from-requires
+digits-from-requires c κs = search needs
 
-named-at-requires : tie.Need-named-at-requires
-named-at-requires c κs = search needs
+numeral-at-requires : tie.Need-numeral-at-requires
+numeral-at-requires c κs = search (needs, from-within)
+
+enum-known-x : tie.Need-enum-known-x
+enum-known-x c = search needs
+
+any-operand-requires : tie.Need-any-operand-requires
+any-operand-requires c κs = search needs
+
+enum-told : tie.Need-enum-told
+enum-told c = search needs
+
+enum-told-2 : tie.Need-enum-told-2
+enum-told-2 c = search needs
 
 returns-2 : tie.Need-returns-2
-returns-2 c = search (needs, operand-named)
-
-add-negative-at : tie.Need-add-negative-at
-add-negative-at c = search needs
-
-negative-at-requires : tie.Need-negative-at-requires
-negative-at-requires c κs = search needs
+returns-2 c = search (needs, by-is)
 
 returns-3 : tie.Need-returns-3
-returns-3 c = search (needs, operand-minus)
-
-constant-at-requires : tie.Need-constant-at-requires
-constant-at-requires c κs = search needs
+returns-3 c = search (needs, by-bad)
 
 returns-4 : tie.Need-returns-4
-returns-4 c = search (needs, operand-plain)
+returns-4 c = search (needs, by-over)
 
 pub operand-at-spec : {M : Type 1} → statement M
 operand-at-spec =
@@ -39,11 +42,12 @@ operand-at-spec =
     (tie.spec
     returns
     shared-slice-read-b
-    add-named-at
-    named-at-requires
+    digits-from-requires
+    numeral-at-requires
+    enum-known-x
+    any-operand-requires
+    enum-told
+    enum-told-2
     returns-2
-    add-negative-at
-    negative-at-requires
     returns-3
-    constant-at-requires
     returns-4)

@@ -1,13 +1,13 @@
-use Rattle.lists.specs.ShortLaws.{piece-none, piece-one, piece-two}
+use Rattle.scan.specs.NumeralLaws.{short-none, short-one, short-two}
 use borrow.Author.Needs.{needs}
-use Rattle.lists.proofs.short_number.Statement.{statement}
-use Rattle.lists.proofs.short_number.Tie as tie
+use Rattle.scan.proofs.short_number.Statement.{statement}
+use Rattle.scan.proofs.short_number.Tie as tie
 
 sub-if1 : tie.Need-sub-if1
 sub-if1 c = search needs
 
 returns : tie.Need-returns
-returns c = search (needs, piece-none)
+returns c = search (needs, short-none)
 
 shared-slice-read-digit : tie.Need-shared-slice-read-digit
 shared-slice-read-digit c = search needs
@@ -16,7 +16,7 @@ digit-requires : tie.Need-digit-requires
 digit-requires c κs = search needs
 
 returns-2 : tie.Need-returns-2
-returns-2 c = search (needs, piece-none)
+returns-2 c = search (needs, short-none)
 
 add-next : tie.Need-add-next
 add-next c = search needs
@@ -31,10 +31,10 @@ cast-t12 : tie.Need-cast-t12
 cast-t12 c = search needs
 
 returns-3 : tie.Need-returns-3
-returns-3 c = search (needs, piece-one)
+returns-3 c = search (needs, short-one)
 
 returns-4 : tie.Need-returns-4
-returns-4 c = search (needs, piece-none)
+returns-4 c = search (needs, short-none)
 
 cast-t13 : tie.Need-cast-t13
 cast-t13 c = search needs
@@ -52,7 +52,7 @@ add-t6 : tie.Need-add-t6
 add-t6 c = search needs
 
 returns-5 : tie.Need-returns-5
-returns-5 c = search (needs, piece-two)
+returns-5 c = search (needs, short-two)
 
 pub short-number-spec : {M : Type 1} → statement M
 short-number-spec =
