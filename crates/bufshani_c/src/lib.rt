@@ -3,6 +3,7 @@ ghost use mathlib.Core.Path.{_≡_};
 ghost use Rattle.text.specs.Reader.{read};
 ghost use Rattle.closing.specs.Program.{printed};
 ghost use Rattle.put.specs.Put.{Put};
+ghost use Rattle.run_text.specs.Text.{TextRun};
 ghost use Rattle.bufshani_c.specs.Texts.{packed, rewritten, stepped};
 
 fn pack(number: u8, low: usize) -> u64
@@ -41,6 +42,21 @@ pub extern "C" fn bufshani_close(text: &[u8], out: &mut [u8]) -> usize
     ensures { λ r. ⌜ Put 65536 (now (out .entry)) 0 (printed (now (text .entry))) (now (out .exit)) r ⌝ }
 {
     bufshani::close_text(text, out)
+}
+
+// What the program `run` prints for a text, as far as the buffer reaches, and its length.
+#[no_mangle]
+pub extern "C" fn bufshani_run(
+    text: &[u8],
+    schedule: &[u8],
+    values: &[i32],
+    most: usize,
+    log: &mut [u8],
+    out: &mut [u8],
+) -> usize
+    ensures { λ r. ⌜ TextRun (now (text .entry)) (now (schedule .entry)) (now (values .entry)) most (now (log .entry)) (now (log .exit)) (now (out .entry)) (now (out .exit)) r ⌝ }
+{
+    run_text::run_text(text, schedule, values, most, log, out)
 }
 
 // Runs the table of a text with no report: the stop number times 2^32 plus the steps completed.

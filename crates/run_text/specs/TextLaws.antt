@@ -105,7 +105,7 @@ same-part n b log e =
     (λ h. let k : n ≡ b = omega arith in (ap (λ (i : ℕ). take i log) k, ap (λ (i : ℕ). drop i log) k))
 
 module _ (s ks : List ℕ) (vs : List ℤ) (m : ℕ) (log : List ℕ) {r : Reading} (e : r ≡ read s) {out out′ : List ℕ} {k : ℕ} where
-  pub run-refused : (r .number ≡ 0 → ⊥) → Put 65536 out 0 (refusedLine (r .number) (r .line)) out′ k → TextRun s ks vs m log log out out′ k
+  pub run-refused : (r .number ≡ 0 → ⊥) → Put 38 out 0 (refusedLine (r .number) (r .line)) out′ k → TextRun s ks vs m log log out out′ k
   run-refused h p = record {
     printed = rw (← text-refused s ks vs m (take 524288 log) r e h) (put-more (omega arith) p);
     kept = sym (take-append-drop 524288 log) ∙ ap (λ (l : List ℕ). l ++ drop 524288 log) (log-refused s ks vs m (take 524288 log) r e h);
