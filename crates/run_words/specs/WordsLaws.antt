@@ -1,0 +1,133 @@
+-- Laws of the words, one after another.
+use Prim.Native.Nat.{ℕ, zero, suc, _-_, _≤_}
+use mathlib.Core.Path.{_≡_, refl, sym, subst, _∙_, ap}
+use mathlib.Core.List.{List, [], _∷_, _++_}
+use mathlib.Core.Option.{Option, none, some}
+use native.Mathlib.Omega.{arith}
+use lib.ListN.{length, take, replicate}
+use lib.Seq.{take-all}
+use lib.IntN.{ℤ}
+use Rattle.machine.specs.Program.{Request, Word, schedule, values, most, log, further, Words, asks, unread, next, last, saidUpTo, saidValue, saidItems, mostItems, mostNodes, mostBytes, said, wordLine, runText, printedFor, runPrinted}
+use Rattle.put.specs.Put.{Put}
+use Rattle.arguments.specs.ItemLaws.{number-small}
+use Rattle.run_words.specs.Words.{given, fromLog, fromMost, fromValues}
+
+module _ {A : Type 0} (w : Word) (f : List ℕ → Option A) (go : A → List (List ℕ) → Words) (x : List ℕ) (xs : List (List ℕ)) where
+  pub next-missing : (n : ℕ) → n ≡ 0 → next w f (given n (x ∷ xs)) go ≡ unread w
+  next-missing n h = rw h
+
+  pub next-unread : (n : ℕ) → (n ≡ 0 → ⊥) → f x ≡ none → next w f (given n (x ∷ xs)) go ≡ unread w
+  next-unread zero h e = absurd (h refl)
+  next-unread (suc n) h e = rw e
+
+  pub next-said : (n : ℕ) {a : A} → (n ≡ 0 → ⊥) → f x ≡ some a → next w f (given n (x ∷ xs)) go ≡ go a (given (n - 1) xs)
+  next-said zero h e = absurd (h refl)
+  next-said (suc n) h e = let z : suc n - 1 ≡ n = omega arith in rw (z, e)
+
+pub last-asks : (n : ℕ) (q : Request) → n ≡ 1 → last q (given (n - 1) []) ≡ asks q
+last-asks n q h = rw h
+
+pub last-further : (n : ℕ) (q : Request) → (n ≡ 0 → ⊥) → (n ≡ 1 → ⊥) → last q (given (n - 1) []) ≡ unread further
+last-further zero q h g = absurd (h refl)
+last-further (suc zero) q h g = absurd (g refl)
+last-further (suc (suc n)) q h g = let z : suc (suc n) - 1 ≡ suc n = omega arith in rw z
+
+pub printed-as : {x y : Words} {k at r : ℕ} {b a : List ℕ} (s : List ℕ) → x ≡ y → Put k b at (printedFor y s) a r → Put k b at (printedFor x s) a r
+printed-as {x} {y} {k} {at} {r} {b} {a} s e p = subst (λ (u : Words). Put k b at (printedFor u s) a r) (sym e) p
+
+pub printed-all : (ws : List (List ℕ)) (s : List ℕ) → printedFor (next schedule (saidItems mostItems (saidUpTo 255)) ws (λ ks ys. fromValues ks ys)) s ≡ runPrinted ws s
+unfolding runPrinted said
+printed-all ws s = refl
+
+-- ---- the log buffer
+
+abbrev pub zs : ℕ → List ℕ
+zs n = replicate n 0
+
+first-zeros : (b k : ℕ) → k ≤ b → take k (zs b) ≡ zs k
+first-zeros b zero h = refl
+first-zeros zero (suc k) h = absurd (omega arith)
+first-zeros (suc b) (suc k) h = ap (λ (l : List ℕ). 0 ∷ l) (first-zeros b k (omega arith))
+
+count-zeros : (k : ℕ) → length (zs k) ≡ k
+count-zeros zero = refl
+count-zeros (suc k) = ap suc (count-zeros k)
+
+zeros : (b k : ℕ) {l : List ℕ} → l ≡ zs b → k ≤ b → take b (take k l) ≡ zs k
+zeros b k {l} e h = ap (λ (x : List ℕ). take b (take k x)) e ∙ ap (take b) (first-zeros b k h) ∙ take-all b (zs k) (omega (arith, count-zeros k))
+
+pub within : (b : ℕ) {k : ℕ} {l : List ℕ} → l ≡ zs b → k ≤ b → k ≤ length l
+within b {k} {l} e h = let c : length l ≡ b = ap length e ∙ count-zeros b in omega arith
+
+-- ---- what is printed, word by word
+
+module _ (s : List ℕ) where
+  module _ (ks : List ℕ) (vs : List ℤ) (m : ℕ) (d : List ℕ) (n : ℕ) where
+    abbrev logWords : Words
+    logWords = fromLog ks vs m (given n (d ∷ []))
+
+    abbrev logThen : ℕ → List (List ℕ) → Words
+    logThen j ys = last (record { schedule = ks; values = vs; most = m; log = j }) ys
+
+    pub log-missing : {k r : ℕ} {b a : List ℕ} → n ≡ 0 → Put k b 0 (wordLine log) a r → Put k b 0 (printedFor logWords s) a r
+    log-missing h p = printed-as s (next-missing log (saidUpTo mostBytes) logThen d [] n h) p
+
+    pub log-unread : {k r : ℕ} {b a : List ℕ} → (n ≡ 0 → ⊥) → saidUpTo mostBytes d ≡ none → Put k b 0 (wordLine log) a r → Put k b 0 (printedFor logWords s) a r
+    log-unread h e p = printed-as s (next-unread log (saidUpTo mostBytes) logThen d [] n h e) p
+
+    pub log-further : {k r : ℕ} {b a : List ℕ} → {j : ℕ} → (n ≡ 0 → ⊥) → (n ≡ 1 → ⊥) → saidUpTo mostBytes d ≡ some j → Put k b 0 (wordLine further) a r → Put k b 0 (printedFor logWords s) a r
+    log-further {j = j} h g e p =
+        printed-as s (next-said log (saidUpTo mostBytes) logThen d [] n h e ∙ last-further n (record { schedule = ks; values = vs; most = m; log = j }) h g) p
+
+    pub log-asks : {k r : ℕ} {b a : List ℕ} → {j : ℕ} → (n ≡ 0 → ⊥) → n ≡ 1 → saidUpTo mostBytes d ≡ some j → Put k b 0 (runText s ks vs m (replicate j 0)) a r → Put k b 0 (printedFor logWords s) a r
+    log-asks {j = j} h g e p =
+        printed-as s (next-said log (saidUpTo mostBytes) logThen d [] n h e ∙ last-asks n (record { schedule = ks; values = vs; most = m; log = j }) g) p
+
+    pub log-run : {k r : ℕ} {b a : List ℕ} → {j : ℕ} {l : List ℕ} → l ≡ zs mostBytes → (n ≡ 0 → ⊥) → n ≡ 1 → saidUpTo mostBytes d ≡ some j
+        → Put k b 0 (runText s ks vs m (take mostBytes (take j l))) a r → Put k b 0 (printedFor logWords s) a r
+    log-run {k} {r} {b} {a} {j} {l} z h g e p =
+        log-asks h g e (subst (λ (y : List ℕ). Put k b 0 (runText s ks vs m y) a r) (zeros mostBytes j z (number-small d e)) p)
+
+  module _ (ks : List ℕ) (vs : List ℤ) (c d : List ℕ) (n : ℕ) where
+    abbrev mostWords : Words
+    mostWords = fromMost ks vs (given n (c ∷ d ∷ []))
+
+    pub most-missing : {k r : ℕ} {b a : List ℕ} → n ≡ 0 → Put k b 0 (wordLine most) a r → Put k b 0 (printedFor mostWords s) a r
+    most-missing h p = printed-as s (next-missing most (saidUpTo mostNodes) (λ m ys. fromLog ks vs m ys) c (d ∷ []) n h) p
+
+    pub most-unread : {k r : ℕ} {b a : List ℕ} → (n ≡ 0 → ⊥) → saidUpTo mostNodes c ≡ none → Put k b 0 (wordLine most) a r → Put k b 0 (printedFor mostWords s) a r
+    most-unread h e p = printed-as s (next-unread most (saidUpTo mostNodes) (λ m ys. fromLog ks vs m ys) c (d ∷ []) n h e) p
+
+    pub most-said : {k r : ℕ} {b a : List ℕ} → {m : ℕ} → (n ≡ 0 → ⊥) → saidUpTo mostNodes c ≡ some m → Put k b 0 (printedFor (fromLog ks vs m (given (n - 1) (d ∷ []))) s) a r → Put k b 0 (printedFor mostWords s) a r
+    most-said h e p = printed-as s (next-said most (saidUpTo mostNodes) (λ m ys. fromLog ks vs m ys) c (d ∷ []) n h e) p
+
+  module _ (ks x c d : List ℕ) (n : ℕ) where
+    abbrev valuesWords : Words
+    valuesWords = fromValues ks (given n (x ∷ c ∷ d ∷ []))
+
+    pub values-missing : {k r : ℕ} {b a : List ℕ} → n ≡ 0 → Put k b 0 (wordLine values) a r → Put k b 0 (printedFor valuesWords s) a r
+    values-missing h p = printed-as s (next-missing values (saidItems mostItems saidValue) (λ vs ys. fromMost ks vs ys) x (c ∷ d ∷ []) n h) p
+
+    pub values-unread : {k r : ℕ} {b a : List ℕ} → {i : ℕ} → mostItems ≡ i → (n ≡ 0 → ⊥) → saidItems i saidValue x ≡ none → Put k b 0 (wordLine values) a r → Put k b 0 (printedFor valuesWords s) a r
+    values-unread q h e p = printed-as s (next-unread values (saidItems mostItems saidValue) (λ vs ys. fromMost ks vs ys) x (c ∷ d ∷ []) n h (rw q e)) p
+
+    pub values-said : {k r : ℕ} {b a : List ℕ} → {i : ℕ} {vs : List ℤ} → mostItems ≡ i → (n ≡ 0 → ⊥) → saidItems i saidValue x ≡ some vs → Put k b 0 (printedFor (fromMost ks vs (given (n - 1) (c ∷ d ∷ []))) s) a r
+        → Put k b 0 (printedFor valuesWords s) a r
+    values-said q h e p = printed-as s (next-said values (saidItems mostItems saidValue) (λ vs ys. fromMost ks vs ys) x (c ∷ d ∷ []) n h (rw q e)) p
+
+  module _ (y x c d : List ℕ) (n : ℕ) where
+    abbrev allWords : List (List ℕ)
+    allWords = given n (y ∷ x ∷ c ∷ d ∷ [])
+
+    whole : {k r : ℕ} {b a : List ℕ} → Put k b 0 (printedFor (next schedule (saidItems mostItems (saidUpTo 255)) allWords (λ ks ys. fromValues ks ys)) s) a r → Put k b 0 (runPrinted allWords s) a r
+    whole {k} {r} {b} {a} p = subst (λ (t : List ℕ). Put k b 0 t a r) (printed-all allWords s) p
+
+    pub schedule-missing : {k r : ℕ} {b a : List ℕ} → n ≡ 0 → Put k b 0 (wordLine schedule) a r → Put k b 0 (runPrinted allWords s) a r
+    schedule-missing h p = whole (printed-as s (next-missing schedule (saidItems mostItems (saidUpTo 255)) (λ ks ys. fromValues ks ys) y (x ∷ c ∷ d ∷ []) n h) p)
+
+    pub schedule-unread : {k r : ℕ} {b a : List ℕ} → {i : ℕ} → mostItems ≡ i → (n ≡ 0 → ⊥) → saidItems i (saidUpTo 255) y ≡ none → Put k b 0 (wordLine schedule) a r → Put k b 0 (runPrinted allWords s) a r
+    schedule-unread q h e p = whole (printed-as s (next-unread schedule (saidItems mostItems (saidUpTo 255)) (λ ks ys. fromValues ks ys) y (x ∷ c ∷ d ∷ []) n h (rw q e)) p)
+
+    pub schedule-said : {k r : ℕ} {b a : List ℕ} → {i : ℕ} {ks : List ℕ} → mostItems ≡ i → (n ≡ 0 → ⊥) → saidItems i (saidUpTo 255) y ≡ some ks → Put k b 0 (printedFor (fromValues ks (given (n - 1) (x ∷ c ∷ d ∷ []))) s) a r
+        → Put k b 0 (runPrinted allWords s) a r
+    schedule-said q h e p = whole (printed-as s (next-said schedule (saidItems mostItems (saidUpTo 255)) (λ ks ys. fromValues ks ys) y (x ∷ c ∷ d ∷ []) n h (rw q e)) p)
