@@ -19,7 +19,7 @@ fn size(h: [u8; 5]) -> usize
 
 // Reads n bytes into a buffer that has room for them; how many were read.
 fn bytes(n: usize, buffer: &mut [u8]) -> usize
-    ensures { λ r. ⌜ r ≤ length (now (buffer .entry)) ⌝ }
+    ensures { λ r. ⌜ r ≤ length (now (buffer .exit)) ⌝ }
 {
     if buffer.len() < n {
         return 0;
@@ -29,7 +29,7 @@ fn bytes(n: usize, buffer: &mut [u8]) -> usize
 
 // Reads a part of a case.
 fn part(buffer: &mut [u8]) -> usize
-    ensures { λ r. ⌜ r ≤ length (now (buffer .entry)) ⌝ }
+    ensures { λ r. ⌜ r ≤ length (now (buffer .exit)) ⌝ }
 {
     let mut h = [0u8; 5];
     if io::read_full(0, &mut h) < 5 {
@@ -46,23 +46,43 @@ fn print(first: &[u8], second: &[u8], third: &[u8], fourth: &[u8], text: &[u8]) 
     }
 }
 
+// The next case, read into buffers; whether there was none.
+fn last(
+    first: &mut [u8],
+    second: &mut [u8],
+    third: &mut [u8],
+    fourth: &mut [u8],
+    text: &mut [u8],
+) -> bool {
+    let a = part(first);
+    let b = part(second);
+    let c = part(third);
+    let d = part(fourth);
+    let n = part(text);
+    if n == 0 {
+        return true;
+    }
+    print(
+        &first[..a],
+        &second[..b],
+        &third[..c],
+        &fourth[..d],
+        &text[..n],
+    );
+    false
+}
+
 fn main() {
-    let mut left: usize = 100000;
-    let mut first = [0u8; 4096];
-    let mut second = [0u8; 4096];
+    let mut first = [0u8; 512];
+    let mut second = [0u8; 512];
     let mut third = [0u8; 32];
     let mut fourth = [0u8; 32];
     let mut text = [0u8; 65537];
+    let mut left: usize = 100000;
     while left > 0 {
-        let a = part(&mut first);
-        let b = part(&mut second);
-        let c = part(&mut third);
-        let d = part(&mut fourth);
-        let n = part(&mut text);
-        if n == 0 {
+        if last(&mut first, &mut second, &mut third, &mut fourth, &mut text) {
             return;
         }
-        print(&first[..a], &second[..b], &third[..c], &fourth[..d], &text[..n]);
         left -= 1;
     }
 }

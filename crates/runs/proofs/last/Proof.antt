@@ -1,0 +1,155 @@
+use mathlib.Core.Path.{sym}
+use lib.Seq.{length-take-le}
+use native.Mathlib.Omega.{arith}
+use borrow.Author.Needs.{needs}
+use Rattle.runs.proofs.last.Statement.{statement}
+use Rattle.runs.proofs.last.Tie as tie
+use Rattle.runs.proofs.last.Reads as reads
+use Rattle.runs.proofs.last.Lts as lts
+use Rattle.runs.proofs.part.Reads as part-reads
+use Rattle.runs.proofs.print.Reads as print-reads
+
+-- src/main.rt:51:9
+part-requires : tie.Need-part-requires
+part-requires c κs = search needs
+
+-- src/main.rt:52:9
+part-requires-2 : tie.Need-part-requires-2
+part-requires-2 c κs = search needs
+
+-- src/main.rt:53:9
+part-requires-3 : tie.Need-part-requires-3
+part-requires-3 c κs = search needs
+
+-- src/main.rt:54:9
+part-requires-4 : tie.Need-part-requires-4
+part-requires-4 c κs = search needs
+
+-- src/main.rt:55:9
+part-requires-5 : tie.Need-part-requires-5
+part-requires-5 c κs = search needs
+
+-- src/main.rt:57:9
+same-length : tie.Need-same-length
+same-length c = search needs
+
+-- src/main.rt:57:9
+same-length-2 : tie.Need-same-length-2
+same-length-2 c = search needs
+
+-- src/main.rt:57:9
+same-length-3 : tie.Need-same-length-3
+same-length-3 c = search needs
+
+-- src/main.rt:57:9
+same-length-4 : tie.Need-same-length-4
+same-length-4 c = search needs
+
+-- src/main.rt:57:9
+same-length-5 : tie.Need-same-length-5
+same-length-5 c = search needs
+
+-- src/main.rt:57:9
+returns : tie.Need-returns
+returns c = search needs
+
+-- src/main.rt:59:11
+slice-reshare-prefix-print : tie.Need-slice-reshare-prefix-print
+slice-reshare-prefix-print c = search needs
+
+-- src/main.rt:59:11
+slice-aggregate-print : tie.Need-slice-aggregate-print
+slice-aggregate-print c = sym (length-take-le _ _ (c .before .before .before .before .before .before .before .before .before .before .before .before .before .before .before .before .before .before .before .before .part .ensures))
+
+-- src/main.rt:59:24
+slice-reshare-prefix-print-2 : tie.Need-slice-reshare-prefix-print-2
+slice-reshare-prefix-print-2 c = search needs
+
+-- src/main.rt:59:24
+slice-aggregate-print-2 : tie.Need-slice-aggregate-print-2
+slice-aggregate-print-2 c = sym (length-take-le _ _ (c .before .before .before .before .before .before .before .before .before .before .before .before .before .before .before .before .before .part2 .ensures))
+
+-- src/main.rt:59:38
+slice-reshare-prefix-print-3 : tie.Need-slice-reshare-prefix-print-3
+slice-reshare-prefix-print-3 c = search needs
+
+-- src/main.rt:59:38
+slice-aggregate-print-3 : tie.Need-slice-aggregate-print-3
+slice-aggregate-print-3 c = sym (length-take-le _ _ (c .before .before .before .before .before .before .before .before .before .before .before .before .before .before .part3 .ensures))
+
+-- src/main.rt:59:51
+slice-reshare-prefix-print-4 : tie.Need-slice-reshare-prefix-print-4
+slice-reshare-prefix-print-4 c = search needs
+
+-- src/main.rt:59:51
+slice-aggregate-print-4 : tie.Need-slice-aggregate-print-4
+slice-aggregate-print-4 c = sym (length-take-le _ _ (c .before .before .before .before .before .before .before .before .before .before .before .part4 .ensures))
+
+-- src/main.rt:59:65
+slice-reshare-prefix-print-5 : tie.Need-slice-reshare-prefix-print-5
+slice-reshare-prefix-print-5 c = search needs
+
+-- src/main.rt:59:65
+slice-aggregate-print-5 : tie.Need-slice-aggregate-print-5
+slice-aggregate-print-5 c = sym (length-take-le _ _ (c .before .before .before .before .before .before .before .before .part5 .ensures))
+
+-- src/main.rt:59:5
+print-requires : tie.Need-print-requires
+print-requires c κs = search needs
+
+-- src/main.rt:50:1
+same-length-6 : tie.Need-same-length-6
+same-length-6 c = search needs
+
+-- src/main.rt:50:1
+same-length-7 : tie.Need-same-length-7
+same-length-7 c = search needs
+
+-- src/main.rt:50:1
+same-length-8 : tie.Need-same-length-8
+same-length-8 c = search needs
+
+-- src/main.rt:50:1
+same-length-9 : tie.Need-same-length-9
+same-length-9 c = search needs
+
+-- src/main.rt:50:1
+same-length-10 : tie.Need-same-length-10
+same-length-10 c = search needs
+
+-- src/main.rt:50:1
+returns-2 : tie.Need-returns-2
+returns-2 c = search needs
+
+pub last-spec : {M : Type 1} → statement M
+last-spec =
+    tie.close
+    (tie.spec
+    part-requires
+    part-requires-2
+    part-requires-3
+    part-requires-4
+    part-requires-5
+    same-length
+    same-length-2
+    same-length-3
+    same-length-4
+    same-length-5
+    returns
+    slice-reshare-prefix-print
+    slice-aggregate-print
+    slice-reshare-prefix-print-2
+    slice-aggregate-print-2
+    slice-reshare-prefix-print-3
+    slice-aggregate-print-3
+    slice-reshare-prefix-print-4
+    slice-aggregate-print-4
+    slice-reshare-prefix-print-5
+    slice-aggregate-print-5
+    print-requires
+    same-length-6
+    same-length-7
+    same-length-8
+    same-length-9
+    same-length-10
+    returns-2)
