@@ -100,14 +100,41 @@ number-small n h a = rw (digits-small n h) a
 pub number-large : {l k m : List ℕ} {at p r : ℕ} (n : ℕ) → 10 ≤ n → Put (length (digits (n / 10))) l at (digits (n / 10)) k p → Put 1 k p ((48 + n % 10) ∷ []) m r → Put (length (digits n)) l at (digits n) m r
 number-large n h a b = put-more {k = length (digits (n / 10)) + 1} (omega (arith, large-length n h)) (rw (digits-large n h) (put-after a b))
 
-pub small-room : (at n : ℕ) → at + length (digits n) ≤ 2000000000 → at ≤ 2000000000
-small-room at n h = omega arith
+-- four digits at once
+abbrev pub lastFour : ℕ → List ℕ
+lastFour n = (48 + n / 1000) ∷ (48 + n / 100 % 10) ∷ (48 + n / 10 % 10) ∷ (48 + n % 10) ∷ []
 
-pub large-room : (at n : ℕ) → 10 ≤ n → at + length (digits n) ≤ 2000000000 → at + length (digits (n / 10)) ≤ 2000000000
-large-room at n g h = omega (arith, large-length n g)
+four-digits : (n : ℕ) → 10000 ≤ n → digits n ≡ digits (n / 10000) ++ lastFour (n % 10000)
+four-digits n h =
+    let p : n / 10 / 10 / 10 / 10 ≡ n / 10000 = omega arith in
+    let a : n / 10 / 10 / 10 % 10 ≡ n % 10000 / 1000 = omega arith in
+    let b : n / 10 / 10 % 10 ≡ n % 10000 / 100 % 10 = omega arith in
+    let c : n / 10 % 10 ≡ n % 10000 / 10 % 10 = omega arith in
+    let d : n % 10 ≡ n % 10000 % 10 = omega arith in
+    digits-large n (omega arith)
+    ∙ rw (digits-large (n / 10) (omega arith), digits-large (n / 10 / 10) (omega arith), digits-large (n / 10 / 10 / 10) (omega arith), p, a, b, c, d) (simp append-assoc)
 
-pub last-room : {l k : List ℕ} {at p : ℕ} (n : ℕ) → 10 ≤ n → at + length (digits n) ≤ 2000000000 → Put (length (digits (n / 10))) l at (digits (n / 10)) k p → p ≤ 2000000000
-last-room n g h a = omega (arith, large-length n g, a .next)
+four-length : (n : ℕ) → 10000 ≤ n → length (digits n) ≡ length (digits (n / 10000)) + 4
+four-length n h = ap length (four-digits n h) ∙ length-append (digits (n / 10000)) _
+
+pub number-four : {l k m : List ℕ} {at p r : ℕ} (n : ℕ) → 10000 ≤ n → Put (length (digits (n / 10000))) l at (digits (n / 10000)) k p → Put 4 k p (lastFour (n % 10000)) m r
+    → Put (length (digits n)) l at (digits n) m r
+number-four n h a b = put-more {k = length (digits (n / 10000)) + 4} (omega (arith, four-length n h)) (rw (four-digits n h) (put-after a b))
+
+pub four-is : {l m : List ℕ} {at r : ℕ} (n : ℕ) → 1000 ≤ n → n < 10000 → Put 4 l at (lastFour n) m r → Put (length (digits n)) l at (digits n) m r
+four-is n g h a =
+    let p : n / 10 / 10 / 10 ≡ n / 1000 = omega arith in
+    let b : n / 10 / 10 % 10 ≡ n / 100 % 10 = omega arith in
+    let e : digits n ≡ lastFour n =
+    digits-large n (omega arith)
+    ∙ rw (digits-large (n / 10) (omega arith), digits-large (n / 10 / 10) (omega arith), digits-small (n / 10 / 10 / 10) (omega arith), p, b) in
+    rw e a
+
+pub large-room : (at n : ℕ) → 10000 ≤ n → at + length (digits n) ≤ 1999999990 → at + length (digits (n / 10000)) ≤ 1999999990
+large-room at n g h = omega (arith, four-length n g)
+
+pub last-room : {l k : List ℕ} {at p : ℕ} (n : ℕ) → 10000 ≤ n → at + length (digits n) ≤ 1999999990 → Put (length (digits (n / 10000))) l at (digits (n / 10000)) k p → p ≤ 1999999990
+last-room n g h a = omega (arith, four-length n g, a .next)
 
 pub put-same : {j : ℕ} {l m t : List ℕ} {at r : ℕ} → Put j l at t m r → length m ≡ length l
 put-same a = a .same
@@ -154,8 +181,8 @@ put-negative {b = b} c f e h u a o =
     let g = e ∙ bits-back c f in
     rw (constant-below c f (rw g at h), ← g) (put-more (omega (arith, digits-ten (4294967295 - b + 1) (omega arith))) (put-after a o))
 
--- a number of 64 bits stands below 2000000000, begun low
-pub number-room : (at n : ℕ) → at ≤ 1000000700 → n < 100000000000000000000 → at + length (digits n) ≤ 2000000000
+-- a number of 64 bits stands below 1999999990, begun low
+pub number-room : (at n : ℕ) → at ≤ 1000000700 → n < 100000000000000000000 → at + length (digits n) ≤ 1999999990
 number-room at n h k = omega (arith, digits-twenty n k)
 
 pub put-twenty : {l m : List ℕ} {at r : ℕ} (n : ℕ) → n < 100000000000000000000 → Put (length (digits n)) l at (digits n) m r → Put 20 l at (digits n) m r

@@ -13,6 +13,7 @@ ghost use Rattle.text.specs.Value.{spellOperand, spellVariable, opWord};
 ghost use Rattle.text.specs.Format.{nameOf};
 ghost use Rattle.put.specs.Put.{Put, PutField, ByteAt, DigitsAt, ValueAt, FieldAt};
 ghost use Rattle.put.specs.Lists.{itemsText, listText, itemText, itemSize, argsText};
+ghost use Rattle.put.specs.PutLaws.{lastFour};
 
 pub fn put_byte(out: &mut [u8], at: usize, b: u8) -> usize
     requires { ⌜ ByteAt at ⌝ }
@@ -71,16 +72,49 @@ pub fn put_small(out: &mut [u8], at: usize, n: u8) -> usize
     put_byte(out, b, 48 + n % 10)
 }
 
-// The decimal digits of any number.
-pub fn put_number(out: &mut [u8], at: usize, n: u64) -> usize
-    requires { ⌜ at + length (digits n) ≤ 2000000000 ⌝ }
+// The decimal digits of a number below 10,000.
+fn put_few(out: &mut [u8], at: usize, n: u64) -> usize
+    requires { ⌜ (at ≤ 1999999990) × (n < 10000) ⌝ }
     ensures { λ r. ⌜ Put (length (digits n)) (now (out .entry)) at (digits n) (now (out .exit)) r ⌝ }
 {
     if n < 10 {
         return put_byte(out, at, (48 + n) as u8);
     }
-    let next = put_number(out, at, n / 10);
-    put_byte(out, next, (48 + n % 10) as u8)
+    let tens = n / 10;
+    if tens < 10 {
+        let a = put_byte(out, at, (48 + tens) as u8);
+        return put_byte(out, a, (48 + n % 10) as u8);
+    }
+    let hundreds = tens / 10;
+    if hundreds < 10 {
+        let a = put_byte(out, at, (48 + hundreds) as u8);
+        let b = put_byte(out, a, (48 + tens % 10) as u8);
+        return put_byte(out, b, (48 + n % 10) as u8);
+    }
+    put_four(out, at, n)
+}
+
+// The last four digits of a number, zeros among them.
+fn put_four(out: &mut [u8], at: usize, n: u64) -> usize
+    requires { ⌜ (at ≤ 1999999990) × (n < 10000) ⌝ }
+    ensures { λ r. ⌜ Put 4 (now (out .entry)) at (lastFour n) (now (out .exit)) r ⌝ }
+{
+    let a = put_byte(out, at, (48 + n / 1000) as u8);
+    let b = put_byte(out, a, (48 + n / 100 % 10) as u8);
+    let c = put_byte(out, b, (48 + n / 10 % 10) as u8);
+    put_byte(out, c, (48 + n % 10) as u8)
+}
+
+// The decimal digits of any number.
+pub fn put_number(out: &mut [u8], at: usize, n: u64) -> usize
+    requires { ⌜ at + length (digits n) ≤ 1999999990 ⌝ }
+    ensures { λ r. ⌜ Put (length (digits n)) (now (out .entry)) at (digits n) (now (out .exit)) r ⌝ }
+{
+    if n < 10000 {
+        return put_few(out, at, n);
+    }
+    let next = put_number(out, at, n / 10000);
+    put_four(out, next, n % 10000)
 }
 
 // An operand's constant.

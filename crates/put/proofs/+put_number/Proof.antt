@@ -1,12 +1,14 @@
-use Rattle.put.specs.PutLaws.{small-room, number-small, large-room, last-room, put-same, put-same-2, number-large}
+use Rattle.put.specs.PutLaws.{put-same, put-same-2, large-room, last-room, number-four}
 use borrow.Author.Needs.{needs}
+use native.Mathlib.Omega.{arith}
 use Prim.Native.Nat.{ℕ, _<_}
 use borrow.Fn.Kinds.{In}
 use borrow.Fn.PlainCycle.{Measures, is, falls, and}
 use Rattle.put.proofs.put_number.Reads as put-number
 use Rattle.put.proofs.put_number.Kinds as put-number-kinds
 use Rattle.put.proofs.+put_number.Lts-put_number as put-number-lts
-use Rattle.put.proofs.put_byte.Reads as put-byte-reads
+use Rattle.put.proofs.put_few.Reads as put-few-reads
+use Rattle.put.proofs.put_four.Reads as put-four-reads
 use Rattle.put.proofs.+put_number.{statement}
 use Rattle.put.proofs.+put_number.Tie.{close}
 
@@ -21,111 +23,98 @@ abbrev put-number-below : ℕ → In 1 put-number-kinds.ps
 put-number-below t =
     and 1 put-number-kinds.ps (falls 1 put-number-kinds.ps _<_ μ-put-number t) put-number.Pre
 
-put-number-add-put-byte : (t : ℕ) → put-number-lts.Need-add-put-byte (
-  put-byte-reads.Asked,
-  put-byte-reads.Learnt,
+-- src/lib.rt:114:9
+put-number-put-few-requires : (t : ℕ) → put-number-lts.Need-put-few-requires (
+  put-few-reads.Asked,
+  put-few-reads.Learnt,
   put-number-below t,
   put-number.Post,
+  put-four-reads.Asked,
+  put-four-reads.Learnt,
 ) (put-number-at t) put-number.Post
-put-number-add-put-byte t c = search needs
+put-number-put-few-requires t c κs = search needs
 
-put-number-cast-put-byte : (t : ℕ) → put-number-lts.Need-cast-put-byte (
-  put-byte-reads.Asked,
-  put-byte-reads.Learnt,
-  put-number-below t,
-  put-number.Post,
-) (put-number-at t) put-number.Post
-put-number-cast-put-byte t c = search needs
-
-put-number-put-byte-requires : (t : ℕ) → put-number-lts.Need-put-byte-requires (
-  put-byte-reads.Asked,
-  put-byte-reads.Learnt,
-  put-number-below t,
-  put-number.Post,
-) (put-number-at t) put-number.Post
-put-number-put-byte-requires t c κs = search (needs, small-room)
-
+-- src/lib.rt:114:9
 put-number-same-length : (t : ℕ) → put-number-lts.Need-same-length (
-  put-byte-reads.Asked,
-  put-byte-reads.Learnt,
+  put-few-reads.Asked,
+  put-few-reads.Learnt,
   put-number-below t,
   put-number.Post,
+  put-four-reads.Asked,
+  put-four-reads.Learnt,
 ) (put-number-at t) put-number.Post
 put-number-same-length t c = search (needs, put-same)
 
+-- src/lib.rt:114:9
 put-number-returns : (t : ℕ) → put-number-lts.Need-returns (
-  put-byte-reads.Asked,
-  put-byte-reads.Learnt,
+  put-few-reads.Asked,
+  put-few-reads.Learnt,
   put-number-below t,
   put-number.Post,
+  put-four-reads.Asked,
+  put-four-reads.Learnt,
 ) (put-number-at t) put-number.Post
-put-number-returns t c = search (needs, number-small)
+put-number-returns t c = search needs
 
+-- src/lib.rt:116:9
 put-number-put-number-requires : (t : ℕ) → put-number-lts.Need-put-number-requires (
-  put-byte-reads.Asked,
-  put-byte-reads.Learnt,
+  put-few-reads.Asked,
+  put-few-reads.Learnt,
   put-number-below t,
   put-number.Post,
+  put-four-reads.Asked,
+  put-four-reads.Learnt,
 ) (put-number-at t) put-number.Post
 put-number-put-number-requires t c κs = search (needs, large-room)
 
-put-number-add-put-byte-2 : (t : ℕ) → put-number-lts.Need-add-put-byte-2 (
-  put-byte-reads.Asked,
-  put-byte-reads.Learnt,
+-- src/lib.rt:117:5
+put-number-put-four-requires : (t : ℕ) → put-number-lts.Need-put-four-requires (
+  put-few-reads.Asked,
+  put-few-reads.Learnt,
   put-number-below t,
   put-number.Post,
+  put-four-reads.Asked,
+  put-four-reads.Learnt,
 ) (put-number-at t) put-number.Post
-put-number-add-put-byte-2 t c = search needs
+put-number-put-four-requires t c κs = (search (needs, last-room), search needs)
 
-put-number-cast-put-byte-2 : (t : ℕ) → put-number-lts.Need-cast-put-byte-2 (
-  put-byte-reads.Asked,
-  put-byte-reads.Learnt,
-  put-number-below t,
-  put-number.Post,
-) (put-number-at t) put-number.Post
-put-number-cast-put-byte-2 t c = search needs
-
-put-number-put-byte-requires-2 : (t : ℕ) → put-number-lts.Need-put-byte-requires-2 (
-  put-byte-reads.Asked,
-  put-byte-reads.Learnt,
-  put-number-below t,
-  put-number.Post,
-) (put-number-at t) put-number.Post
-put-number-put-byte-requires-2 t c κs = search (needs, last-room)
-
+-- src/lib.rt:109:1
 put-number-same-length-2 : (t : ℕ) → put-number-lts.Need-same-length-2 (
-  put-byte-reads.Asked,
-  put-byte-reads.Learnt,
+  put-few-reads.Asked,
+  put-few-reads.Learnt,
   put-number-below t,
   put-number.Post,
+  put-four-reads.Asked,
+  put-four-reads.Learnt,
 ) (put-number-at t) put-number.Post
 put-number-same-length-2 t c = search (needs, put-same-2)
 
+-- src/lib.rt:109:1
 put-number-returns-2 : (t : ℕ) → put-number-lts.Need-returns-2 (
-  put-byte-reads.Asked,
-  put-byte-reads.Learnt,
+  put-few-reads.Asked,
+  put-few-reads.Learnt,
   put-number-below t,
   put-number.Post,
+  put-four-reads.Asked,
+  put-four-reads.Learnt,
 ) (put-number-at t) put-number.Post
-put-number-returns-2 t c = search (needs, number-large)
+put-number-returns-2 t c = search (needs, number-four)
 
 pub +put-number-spec : {M : Type 1} → statement M
 +put-number-spec = close μ-put-number λ t. put-number-lts.spec (
-  put-byte-reads.Asked,
-  put-byte-reads.Learnt,
+  put-few-reads.Asked,
+  put-few-reads.Learnt,
   put-number-below t,
   put-number.Post,
+  put-four-reads.Asked,
+  put-four-reads.Learnt,
 )
     (put-number-at t)
     put-number.Post
-    (put-number-add-put-byte t)
-    (put-number-cast-put-byte t)
-    (put-number-put-byte-requires t)
+    (put-number-put-few-requires t)
     (put-number-same-length t)
     (put-number-returns t)
     (put-number-put-number-requires t)
-    (put-number-add-put-byte-2 t)
-    (put-number-cast-put-byte-2 t)
-    (put-number-put-byte-requires-2 t)
+    (put-number-put-four-requires t)
     (put-number-same-length-2 t)
     (put-number-returns-2 t)
