@@ -1,8 +1,9 @@
 -- A step from the lists that the code makes on the way.
 use Prim.Native.Nat.{ℕ, _+_, _-_, _*_, _^_, _<_, _≤_}
-use mathlib.Core.Path.{_≡_}
+use native.Mathlib.Omega.{arith}
+use mathlib.Core.Path.{_≡_, subst}
 use mathlib.Core.List.{List}
-use borrow.Author.Tests.{lt-ltb, le-ltb}
+use borrow.Author.Tests.{lt-ltb}
 use Rattle.table.specs.Table.{procAt, taskAt}
 use Rattle.table.specs.declared.Node.{Node}
 use Rattle.table.specs.declared.Proc.{Proc}
@@ -24,13 +25,17 @@ pub entered-is : {l2 : List ℕ} (l l1 : List ℕ) (k m : ℕ) → l1 ≡ grown 
 unfolding entered
 entered-is l l1 k m e f = rw (← e) f
 
+-- at the entry's cell
+pub entered-at : {l2 : List ℕ} (l l1 : List ℕ) (k m : ℕ) → l1 ≡ grown l (k * 32) m → l2 ≡ grown l1 (256 + k) m → l2 ≡ entered l k m
+entered-at l l1 k m e f = let z : k * 32 ≡ k * 32 + 0 = omega arith in entered-is l l1 k m (subst (λ (a : ℕ). l1 ≡ grown l a m) z e) f
+
 pub passed-drop : {l1 : List ℕ} (l : List ℕ) (a m : ℕ) → a < 264 → l1 ≡ entered l (a - 256) m → l1 ≡ passedOn l a m
 unfolding passedOn
 passed-drop l a m h e = rw (lt-ltb a 264 h) e
 
-pub passed-blank : {l1 : List ℕ} (l : List ℕ) (a m : ℕ) → 264 ≤ a → l1 ≡ grown l a m → l1 ≡ passedOn l a m
+pub passed-blank : {l1 : List ℕ} (l : List ℕ) (a m : ℕ) → a ≡ 264 → l1 ≡ grown l 264 m → l1 ≡ passedOn l a m
 unfolding passedOn
-passed-blank l a m h e = rw (le-ltb a 264 h) e
+passed-blank l a m h e = rw h e
 
 pub top-is : {l1 : List ℕ} (t : Table) (l : List ℕ) (k m : ℕ) → m ≡ 2 ^ (procAt t (taskAt t k .top) .params) - 1 → l1 ≡ entered l (taskAt t k .top) m → l1 ≡ topStep t l k
 unfolding topStep

@@ -297,3 +297,16 @@ going-end {q} {p} {l} {w} {l′} {w′} g z = record { keeps = g .keeps; less = 
 pub record Pending (w : List ℕ) (p : ℕ) : Type 0 where
   pub some′ : p < 8 → cell w p ≢ 0
   pub none′ : 8 ≤ p → (a : ℕ) → a < 8 → cell w a ≡ 0
+
+-- ---- before the first node
+
+cell-each : (n v a : ℕ) → a < n → cell (replicate n v) a ≡ v
+cell-each zero v a h = absurd (omega arith)
+cell-each (suc n) v zero h = refl
+cell-each (suc n) v (suc a) h = cell-each n v a (omega arith)
+
+pub full : Full (replicate 8 4294967295)
+full = (length-replicate {A = ℕ} 8 4294967295, λ a h. cell-each 8 4294967295 a h)
+
+pub full-pending : {w : List ℕ} → Full w → Pending w 0
+full-pending f = record { some′ = λ h e. let z = f .1 0 h in omega arith; none′ = λ h. absurd (omega arith) }

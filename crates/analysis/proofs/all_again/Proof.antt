@@ -1,43 +1,38 @@
+use Prim.Native.Nat.{_≤_, _-_}
+use mathlib.Core.Path.{_≡_, refl}
+use lib.ListN.{length, length-set}
+use Rattle.masks.specs.Cells.{Filled, set-more}
 use borrow.Author.Needs.{needs}
 use native.Mathlib.Omega.{arith}
 use Rattle.analysis.proofs.all_again.Statement.{statement}
 use Rattle.analysis.proofs.all_again.Tie as tie
-use Rattle.analysis.proofs.all_again.Reads as reads
-use Rattle.analysis.proofs.all_again.Lts as lts
 
 abbrev Inv-loop : tie.InvT-loop
-Inv-loop todo₀ i₀ todo i = ?
+Inv-loop todo₀ i₀ todo i = (i ≤ 8) × ((length todo ≡ 8) × Filled (λ a. 4294967295) i todo)
 
 abbrev μ-loop : tie.MeasureT-loop
-μ-loop todo₀ i₀ todo i = ?
+μ-loop todo₀ i₀ todo i = 8 - i
 
--- src/lib.rt:69:5
 loop-holds : tie.Need-loop-holds Inv-loop μ-loop
-loop-holds c = search needs
+loop-holds c = (search needs, (c .pre, λ a h. absurd (omega arith)))
 
--- src/lib.rt:70:9
 mul-todo : tie.Need-mul-todo Inv-loop μ-loop
 mul-todo c = search needs
 
--- src/lib.rt:70:9
 element-write-todo : tie.Need-element-write-todo Inv-loop μ-loop
 element-write-todo c = search needs
 
--- src/lib.rt:71:9
 add-i : tie.Need-add-i Inv-loop μ-loop
 add-i c = search needs
 
--- src/lib.rt:69:5
 loop-less : tie.Need-loop-less Inv-loop μ-loop
 loop-less c = search needs
 
--- src/lib.rt:69:5
 loop-again : tie.Need-loop-again Inv-loop μ-loop
-loop-again c = search needs
+loop-again c = let h = c .before .loop in (omega arith, (simp length-set (h .inv .1 .0), set-more 0 (λ a. 4294967295) (h .i) 4294967295 (h .todo) (omega (arith, h .inv .1 .0)) refl (h .inv .1 .1)))
 
--- src/lib.rt:64:1
 returns : tie.Need-returns Inv-loop μ-loop
-returns c = search needs
+returns c = let h = c .before .loop in let z : h .i ≡ 8 = omega arith in (h .inv .1 .0, rw z at (h .inv .1 .1))
 
 pub all-again-spec : {M : Type 1} → statement M
 all-again-spec =

@@ -1,27 +1,21 @@
+use Rattle.analysis.specs.Work.{moves-trans, drop-moves}
+use Rattle.analysis.specs.StepLaws.{entered-is}
 use native.Mathlib.Omega.{arith}
 use borrow.Author.Needs.{needs}
 use Rattle.analysis.proofs.enter.Statement.{statement}
 use Rattle.analysis.proofs.enter.Tie as tie
-use Rattle.analysis.proofs.enter.Reads as reads
-use Rattle.analysis.proofs.enter.Lts as lts
-use Rattle.analysis.proofs.grow.Reads as grow-reads
-use Rattle.analysis.proofs.reach.Reads as reach-reads
 
--- src/lib.rt:59:5
 reach-requires : tie.Need-reach-requires
 reach-requires c κs = search needs
 
--- src/lib.rt:60:17
 add-grow : tie.Need-add-grow
 add-grow c = search needs
 
--- src/lib.rt:60:5
 grow-requires : tie.Need-grow-requires
 grow-requires c κs = search needs
 
--- src/lib.rt:54:1
 returns : tie.Need-returns
-returns c = search needs
+returns c = (entered-is _ _ (c .before .before .before .before .before .args .k) (c .before .before .before .before .before .args .m) (c .before .before .reach .ensures .0) (c .grow .ensures .0), moves-trans (c .before .before .reach .ensures .1) (drop-moves (c .before .before .before .before .before .args .k) (c .before .before .before .before .before .args .m) (c .before .before .before .before .before .pre .0) (c .grow .ensures .0)))
 
 pub enter-spec : {M : Type 1} → statement M
 enter-spec = tie.close (tie.spec reach-requires add-grow grow-requires returns)

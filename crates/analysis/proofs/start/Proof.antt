@@ -1,77 +1,66 @@
+use Rattle.analysis.specs.StepLaws.{top-is, entered-at}
+use Rattle.analysis.specs.Decide.{start-size}
+use Rattle.analysis.specs.Steps.{topStep}
+use Rattle.masks.specs.Cells.{sweep, sweep-more}
+use lib.ListN.{replicate, length}
+use Prim.Native.Nat.{_≤_, _-_}
+use mathlib.Core.Path.{_≡_, refl, _∙_, ap}
 use borrow.Author.Needs.{needs}
 use native.Mathlib.Omega.{arith}
 use Rattle.analysis.proofs.start.Statement.{statement}
 use Rattle.analysis.proofs.start.Tie as tie
-use Rattle.analysis.proofs.start.Reads as reads
-use Rattle.analysis.proofs.start.Lts as lts
-use Rattle.analysis.proofs.grow.Reads as grow-reads
-use Rattle.analysis.proofs.low_bits.Reads as low-bits-reads
 
 abbrev Inv-loop : tie.InvT-loop
-Inv-loop t cells₀ tasks k₀ cells k = ?
+Inv-loop t cells₀ tasks k₀ cells k = (k ≤ t .tasks) × (cells ≡ sweep (topStep t) k (replicate 265 0))
 
 abbrev μ-loop : tie.MeasureT-loop
-μ-loop t cells₀ tasks k₀ cells k = ?
+μ-loop t cells₀ tasks k₀ cells k = t .tasks - k
 
--- src/lib.rt:181:17
 cast-tasks : tie.Need-cast-tasks Inv-loop μ-loop
 cast-tasks c = search needs
 
--- src/lib.rt:183:5
 loop-holds : tie.Need-loop-holds Inv-loop μ-loop
-loop-holds c = search needs
+unfolding sweep
+loop-holds c = (search needs, refl)
 
--- src/lib.rt:184:17
 element-copy-out-w : tie.Need-element-copy-out-w Inv-loop μ-loop
-element-copy-out-w c = search needs
+element-copy-out-w c = omega (arith, c .before .before .pre .tasks-few)
 
--- src/lib.rt:185:17
 cast-p : tie.Need-cast-p Inv-loop μ-loop
 cast-p c = search needs
 
--- src/lib.rt:186:17
 mul-q : tie.Need-mul-q Inv-loop μ-loop
-mul-q c = search needs
+mul-q c = omega (arith, (c .before .before .before .before .pre .tops-low (c .before .before .before .loop .k) (c .before .before .loop-test .taken)))
 
--- src/lib.rt:186:17
 element-copy-out-q : tie.Need-element-copy-out-q Inv-loop μ-loop
-element-copy-out-q c = search needs
+element-copy-out-q c = c .before .before .before .before .pre .tops-low (c .before .before .before .loop .k) (c .before .before .loop-test .taken)
 
--- src/lib.rt:187:13
 low-bits-requires : tie.Need-low-bits-requires Inv-loop μ-loop
-low-bits-requires c κs = search needs
+low-bits-requires c κs = c .before .before .before .before .before .pre .params-few _
 
--- src/lib.rt:188:26
 mul-grow : tie.Need-mul-grow Inv-loop μ-loop
-mul-grow c = search needs
+mul-grow c = omega (arith, (c .before .before .before .before .before .before .before .pre .tops-low (c .before .before .before .before .before .before .loop .k) (c .before .before .before .before .before .loop-test .taken)))
 
--- src/lib.rt:188:9
 grow-requires : tie.Need-grow-requires Inv-loop μ-loop
-grow-requires c κs = search needs
+grow-requires c κs = (omega (arith, (c .before .before .before .before .before .before .before .pre .tops-low (c .before .before .before .before .before .before .loop .k) (c .before .before .before .before .before .loop-test .taken))), ap length (c .before .before .before .before .before .before .loop .inv .1) ∙ start-size _ (c .before .before .before .before .before .before .before .pre) _ (omega arith))
 
--- src/lib.rt:189:26
 add-grow : tie.Need-add-grow Inv-loop μ-loop
-add-grow c = search needs
+add-grow c = omega (arith, (c .before .before .before .before .before .before .before .before .before .pre .tops-low (c .before .before .before .before .before .before .before .before .loop .k) (c .before .before .before .before .before .before .before .loop-test .taken)))
 
--- src/lib.rt:189:9
 grow-requires-2 : tie.Need-grow-requires-2 Inv-loop μ-loop
-grow-requires-2 c κs = search needs
+grow-requires-2 c κs = (omega (arith, (c .before .before .before .before .before .before .before .before .before .pre .tops-low (c .before .before .before .before .before .before .before .before .loop .k) (c .before .before .before .before .before .before .before .loop-test .taken))), c .before .grow .ensures .1 .grows .same-size ∙ ap length (c .before .before .before .before .before .before .before .before .loop .inv .1) ∙ start-size _ (c .before .before .before .before .before .before .before .before .before .pre) _ (omega arith))
 
--- src/lib.rt:190:9
 add-k : tie.Need-add-k Inv-loop μ-loop
-add-k c = search needs
+add-k c = omega (arith, c .before .before .before .before .before .before .before .before .before .loop .inv .0, c .before .before .before .before .before .before .before .before .before .before .pre .tasks-few)
 
--- src/lib.rt:183:5
 loop-less : tie.Need-loop-less Inv-loop μ-loop
-loop-less c = search needs
+loop-less c = omega (arith, c .before .before .before .before .before .before .before .before .loop-test .taken)
 
--- src/lib.rt:183:5
 loop-again : tie.Need-loop-again Inv-loop μ-loop
-loop-again c = search needs
+loop-again c = let h = c .before .before .before .before .before .before .before .before .before .loop in (omega (arith, c .before .before .before .before .before .before .before .before .loop-test .taken), sweep-more _ _ (h .k) (h .inv .1) (top-is _ _ _ _ (c .before .before .before .before .low-bits .ensures) (entered-at _ _ _ _ (c .before .before .grow .ensures .0) (c .grow2 .ensures .0))))
 
--- src/lib.rt:176:1
 returns : tie.Need-returns Inv-loop μ-loop
-returns c = search needs
+returns c = let h = c .before .loop in let z : h .k ≡ c .before .before .args .t1 .tasks = omega (arith, c .loop-test .left) in rw z at (h .inv .1)
 
 pub start-spec : {M : Type 1} → statement M
 start-spec =
