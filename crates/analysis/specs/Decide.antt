@@ -1,4 +1,4 @@
--- The cells say exactly what is dirty, once a pass over each procedure has found nothing new.
+-- The cells say exactly what is dirty, once no node adds anything to them.
 use Prim.Native.Nat.{ℕ, zero, suc, _+_, _*_, _/_, _%_, _-_, _^_, _<_, _≤_}
 use native.Mathlib.Omega.{arith}
 use native.Mathlib.Nat.{mod-eq-of-lt}
@@ -24,12 +24,12 @@ use Rattle.closing.specs.ReachLaws.{cases}
 use Rattle.closing.specs.Dirty.{Fact, settingAt, useAt, dropped, blank, Clear, here, on, Dirty, by-read, by-set, by-recv, from-node, from-entry, top, passed, sent}
 use Rattle.closing.specs.DirtyLaws.{use-on}
 use Rattle.masks.specs.Bits.{bit-zero, bit-low, bit-low-out}
-use Rattle.masks.specs.Cells.{cell, grown, sum, Masks, Grows, grows-trans, grown-grows, grown-masks, Sound, grown-sound, grown-same, grown-has, grown-adds, sweep, sweep-grows, sweep-fixed, sweep-below, cell-zeros}
+use Rattle.masks.specs.Cells.{cell, grown, Masks, grown-grows, grown-masks, Sound, grown-sound, grown-has, grown-adds, sweep, cell-zeros}
 use Rattle.flow.specs.declared.Flow.{Flow}
 use Rattle.flow.specs.Flow.{low, operandsDirty, afterSet, oneFlow, flowOf}
 use Rattle.analysis.specs.Ready.{One, FitsOperand, FitsNode, Ready}
 use Rattle.analysis.specs.Decides.{Decides}
-use Rattle.analysis.specs.Steps.{stepWith, nodeStep, procPass, topStep}
+use Rattle.analysis.specs.Steps.{In, entered, passedOn, stepWith, Rests, topStep}
 use Rattle.analysis.specs.NodeLaws.{low-in, targets, Places, flow-places, flow-small, after-out, setDirty, var-mod, operands-out, operands-in, out-after, out-along, passed-of, passed-out, arg-in, arg-at, sent-of, sent-out}
 
 -- the fact that bit v of cell a stands for
@@ -53,40 +53,10 @@ fact-blank : (q : ℕ) → factOf 264 q ≡ blank q
 unfolding factOf
 fact-blank q = refl
 
--- ---- what a pass without anything new says of each step
-
-step-grows : (f : Flow) (base : ℕ) (l : List ℕ) → Grows l (stepWith f base l)
-unfolding stepWith
-step-grows f base l = grows-trans (grows-trans (grown-grows l _ _) (grown-grows _ _ _)) (grown-grows _ _ _)
-
-step-fixed : (f : Flow) (base : ℕ) (l : List ℕ) → stepWith f base l ≡ l
-    → (grown l (base + f .first) (f .out) ≡ l) × (grown l (base + f .second) (f .out) ≡ l) × (grown l (f .extra) (f .add) ≡ l)
-unfolding stepWith
-step-fixed f base l e =
-    let l1 = grown l (base + f .first) (f .out) in
-    let l2 = grown l1 (base + f .second) (f .out) in
-    let g1 = grown-grows l (base + f .first) (f .out) in
-    let g2 = grown-grows l1 (base + f .second) (f .out) in
-    let g3 = grown-grows l2 (f .extra) (f .add) in
-    let s = ap sum e in
-    let z1 : l1 ≡ l = g1 .stays (omega (arith, g1 .up, g2 .up, g3 .up, s)) in
-    let z2 : l2 ≡ l1 = g2 .stays (omega (arith, g1 .up, g2 .up, g3 .up, s)) in
-    let z3 : l2 ≡ l = z2 ∙ z1 in
-    (z1, ap (λ (x : List ℕ). grown x (base + f .second) (f .out)) (sym z1) ∙ z3, ap (λ (x : List ℕ). grown x (f .extra) (f .add)) (sym z3) ∙ e)
-
-node-grows : (q : Proc) (base : ℕ) (l : List ℕ) (n : ℕ) → Grows l (nodeStep q base l n)
-unfolding nodeStep
-node-grows q base l n = step-grows _ base l
-
-proc-fixed : (q : Proc) (p : ℕ) (l : List ℕ) → procPass q p l ≡ l → (grown l (p * 32) (cell l (256 + p)) ≡ l) × ((n : ℕ) → n < 32 → nodeStep q (p * 32) l n ≡ l)
-unfolding procPass
-proc-fixed q p l e =
-    let l1 = grown l (p * 32) (cell l (256 + p)) in
-    let g1 = grown-grows l (p * 32) (cell l (256 + p)) in
-    let g2 = sweep-grows (nodeStep q (p * 32)) (node-grows q (p * 32)) 32 l1 in
-    let s = ap sum e in
-    let z1 : l1 ≡ l = g1 .stays (omega (arith, g1 .up, g2 .up, s)) in
-    (z1, sweep-fixed (nodeStep q (p * 32)) (node-grows q (p * 32)) 32 l (ap (λ (x : List ℕ). sweep (nodeStep q (p * 32)) 32 x) (sym z1) ∙ e))
+-- what is in a cell after a mask is added
+pub grown-out : (l : List ℕ) (a m b k : ℕ) → bit k (cell (grown l a m) b) ≡ true → (bit k (cell l b) ≡ true) ⊎ ((b ≡ a) × (bit k m ≡ true))
+unfolding Sound
+grown-out l a m b k h = grown-sound (λ b k. (bit k (cell l b) ≡ true) ⊎ ((b ≡ a) × (bit k m ≡ true))) l a m (λ b k h. inl h) (λ k h. inr (refl, h)) b k h
 
 -- ---- dropped parameters are parameters
 
@@ -101,10 +71,19 @@ module _ (t : Table) (o : Ready t) where
   abbrev Tops : ℕ → List ℕ → Type 0
   Tops n l = (k i : ℕ) → k < n → i < procAt t (taskAt t k .top) .params → bit i (cell l (256 + taskAt t k .top)) ≡ true
 
-  pub record Good (l : List ℕ) : Type 0 where
+  -- dropped parameters are dirty at the entry
+  abbrev Entry : List ℕ → Type 0
+  Entry l = (p : ℕ) → p < 8 → In (cell l (256 + p)) l (p * 32 + 0)
+
+  -- with the first n tasks' parameters
+  pub record Upto (n : ℕ) (l : List ℕ) : Type 0 where
     pub masks : Masks 265 32 l
     pub sound : Sound (λ a v. Dirty t (factOf a v)) l
-    pub tops : Tops (t .tasks) l
+    pub tops : Tops n l
+    pub entry : Entry l
+
+  abbrev pub Good : List ℕ → Type 0
+  Good l = Upto (t .tasks) l
 
   module _ (p n i b : ℕ) (H : (v : ℕ) → bit v i ≡ true → Dirty t (useAt p n v)) (HB : (q : ℕ) → bit q b ≡ true → Dirty t (blank q)) where
     -- along an arc of a node that sets nothing
@@ -181,57 +160,81 @@ module _ (t : Table) (o : Ready t) where
     node-sound (Out w to) e f = one-plain (Out w to) to e refl refl (f .1)
     node-sound Return e f = record { to-first = λ v h. none-of v h; to-second = λ v h. none-of v h; to-extra = λ v h. none-of v h }
 
-  grown-good : (l : List ℕ) (a m : ℕ) → m < 2 ^ 32 → ((v : ℕ) → bit v m ≡ true → Dirty t (factOf a v)) → Good l → Good (grown l a m)
-  grown-good l a m s f g = record {
+  grown-good : {n : ℕ} (l : List ℕ) (a m : ℕ) → ((p : ℕ) → p < 8 → 256 + p ≢ a) → m < 2 ^ 32 → ((v : ℕ) → bit v m ≡ true → Dirty t (factOf a v)) → Upto n l → Upto n (grown l a m)
+  grown-good {n} l a m apart s f g = record {
     masks = grown-masks a m (g .masks) s;
     sound = grown-sound (λ a v. Dirty t (factOf a v)) l a m (g .sound) f;
     tops = λ k i h j. grown-has l a m _ i (g .tops k i h j);
+    entry = λ p hp k h. grown-has l a m (p * 32 + 0) k (g .entry p hp k (go p hp k (grown-out l a m (256 + p) k h)));
   }
+    where
+      go : (p : ℕ) → p < 8 → (k : ℕ) → (bit k (cell l (256 + p)) ≡ true) ⊎ ((256 + p ≡ a) × (bit k m ≡ true)) → bit k (cell l (256 + p)) ≡ true
+      go p hp k (inl h) = h
+      go p hp k (inr h) = absurd (apart p hp (h .0))
+
+  entered-good : {n : ℕ} (l : List ℕ) (k m : ℕ) → k < 8 → m < 2 ^ 32 → ((v : ℕ) → bit v m ≡ true → Dirty t (dropped k v)) → Upto n l → Upto n (entered l k m)
+  unfolding entered
+  entered-good {n} l k m hk s f g = record {
+    masks = grown-masks (256 + k) m (grown-masks (k * 32 + 0) m (g .masks) s) s;
+    sound = grown-sound (λ a v. Dirty t (factOf a v)) l1 (256 + k) m (grown-sound (λ a v. Dirty t (factOf a v)) l (k * 32 + 0) m (g .sound) at-entry) (λ v h. rw (fact-drop k v hk) (f v h));
+    tops = λ j i h e. grown-has l1 (256 + k) m _ i (grown-has l (k * 32 + 0) m _ i (g .tops j i h e));
+    entry = λ p hp j h. grown-has l1 (256 + k) m (p * 32 + 0) j (outer p hp j (grown-out l1 (256 + k) m (256 + p) j h));
+  }
+    where
+      l1 : List ℕ
+      l1 = grown l (k * 32 + 0) m
+
+      at-entry : (v : ℕ) → bit v m ≡ true → Dirty t (factOf (k * 32 + 0) v)
+      at-entry v h = let d = f v h in rw (fact-use k 0 v hk (omega arith)) (from-entry {p = k} {n = 0} {i = v} (omega (arith, dropped-low t k v d, o .params-are-vars k)) here d)
+
+      inner : (p : ℕ) → p < 8 → (j : ℕ) → (bit j (cell l (256 + p)) ≡ true) ⊎ ((256 + p ≡ k * 32 + 0) × (bit j m ≡ true)) → bit j (cell l1 (p * 32 + 0)) ≡ true
+      inner p hp j (inl h) = grown-has l (k * 32 + 0) m (p * 32 + 0) j (g .entry p hp j h)
+      inner p hp j (inr h) = absurd (omega (arith, h .0))
+
+      outer : (p : ℕ) → p < 8 → (j : ℕ) → (bit j (cell l1 (256 + p)) ≡ true) ⊎ ((256 + p ≡ 256 + k) × (bit j m ≡ true)) → bit j (cell l1 (p * 32 + 0)) ≡ true
+      outer p hp j (inl h) = inner p hp j (grown-out l (k * 32 + 0) m (256 + p) j h)
+      outer p hp j (inr h) = let z : p ≡ k = omega (arith, h .0) in rw z (grown-adds l (k * 32 + 0) m j (omega (arith, g .masks .size)) (h .1))
+
+  passed-good : (l : List ℕ) (a m : ℕ) → 256 ≤ a → a < 265 → m < 2 ^ 32 → ((v : ℕ) → bit v m ≡ true → Dirty t (factOf a v)) → Good l → Good (passedOn l a m)
+  unfolding passedOn
+  passed-good l a m lo hi s f g = go (ltb a 264) refl
+    where
+      go : (b : Bool) → ltb a 264 ≡ b → Good (pick b (entered l (a - 256) m) (grown l a m))
+      go true e =
+          let h = ltb-true a 264 e in
+          let z : a ≡ 256 + (a - 256) = omega arith in
+          entered-good l (a - 256) m (omega arith) s (λ v b. rw (fact-drop (a - 256) v (omega arith)) at (subst (λ (x : ℕ). Dirty t (factOf x v)) z (f v b))) g
+      go false e = let h = ltb-false a 264 e in grown-good l a m (λ p hp z. omega arith) s f g
 
   at-use : (p n v : ℕ) → p < 8 → n < 32 → Dirty t (useAt p n v) → Dirty t (factOf (p * 32 + n) v)
   at-use p n v h k d = rw (fact-use p n v h k) d
 
-  step-good : (l : List ℕ) (p n : ℕ) → p < 8 → n < 32 → Good l → Good (nodeStep (procAt t p) (p * 32) l n)
-  unfolding nodeStep stepWith Sound
+  pub step-good : (l : List ℕ) (p n : ℕ) → p < 8 → n < 32 → Good l → Good (stepWith (flowOf (nodeAt t p n) n (cell l (p * 32 + n)) (cell l 264)) p l)
+  unfolding stepWith Sound
   step-good l p n hp hn g =
       let i = cell l (p * 32 + n) in
       let b = cell l 264 in
       let w = node-sound p n i b (λ v h. rw (fact-use p n v hp hn) at (g .sound (p * 32 + n) v h)) (λ q h. rw (fact-blank q) at (g .sound 264 q h)) (nodeAt t p n) refl (o .fits p n) in
       let k = flow-places (nodeAt t p n) n i b hn in
       let z = flow-small (nodeAt t p n) n i b (g .masks .below (p * 32 + n)) in
-      grown-good _ _ _ (z .add-small) (w .to-extra)
-      (grown-good _ _ _ (z .out-small) (λ v h. at-use p _ v hp (k .second-low) (w .to-second v h))
-      (grown-good l _ _ (z .out-small) (λ v h. at-use p _ v hp (k .first-low) (w .to-first v h)) g))
+      passed-good _ _ _ (k .extra-high) (k .extra-low) (z .add-small) (w .to-extra)
+      (grown-good _ _ _ (λ q hq e. omega (arith, k .second-low)) (z .out-small) (λ v h. at-use p _ v hp (k .second-low) (w .to-second v h))
+      (grown-good l _ _ (λ q hq e. omega (arith, k .first-low)) (z .out-small) (λ v h. at-use p _ v hp (k .first-low) (w .to-first v h)) g))
 
-  entry-good : (l : List ℕ) (p : ℕ) → p < 8 → Good l → Good (grown l (p * 32) (cell l (256 + p)))
-  unfolding Sound
-  entry-good l p hp g = grown-good l (p * 32) (cell l (256 + p)) (g .masks .below (256 + p))
-      (λ v h. let e : p * 32 ≡ p * 32 + 0 = omega arith in
-      let d : Dirty t (dropped p v) = rw (fact-drop p v hp) at (g .sound (256 + p) v h) in
-      rw (e, fact-use p 0 v hp (omega arith)) (from-entry {p = p} {n = 0} {i = v} (omega (arith, dropped-low t p v d, o .params-are-vars p)) here d)) g
-
-  pub pass-good : (p : ℕ) → p < 8 → (l : List ℕ) → Good l → Good (procPass (procAt t p) p l)
-  unfolding procPass
-  pass-good p hp l g = sweep-below (nodeStep (procAt t p) (p * 32)) Good 32 (λ l n hn g. step-good l p n hp hn g) 32 (omega arith) _ (entry-good l p hp g)
-
-  -- ---- before the first pass
-
-  record Begun (n : ℕ) (l : List ℕ) : Type 0 where
-    pub masks : Masks 265 32 l
-    pub sound : Sound (λ a v. Dirty t (factOf a v)) l
-    pub tops : Tops n l
+  -- ---- before the first step
 
   few : (j : ℕ) → j ≤ 4 → 2 ^ j - 1 < 2 ^ 32
   few j h = omega (arith, pow-lt {i = j} {j = 32} (omega arith))
 
-  top-begun : (n : ℕ) (l : List ℕ) → n < t .tasks → Begun n l → Begun (suc n) (topStep t l n)
-  unfolding topStep
+  top-begun : (n : ℕ) (l : List ℕ) → n < t .tasks → Upto n l → Upto (suc n) (topStep t l n)
+  unfolding topStep entered
   top-begun n l h g = record {
-    masks = grown-masks (256 + p) m (g .masks) (few (procAt t p .params) (o .params-few p));
-    sound = grown-sound (λ a v. Dirty t (factOf a v)) l (256 + p) m (g .sound) (λ v e. rw (fact-drop p v (o .tops-low n h)) (top n (bit-low-out v (procAt t p .params) e) h refl));
+    masks = next .masks;
+    sound = next .sound;
     tops = λ k i a b. cases (eqb k n)
-        (λ e. let z : k ≡ n = eqb-true k n e in subst (λ (j : ℕ). bit i (cell (grown l (256 + p) m) (256 + taskAt t j .top)) ≡ true) (sym z) (own i (subst (λ (j : ℕ). i < procAt t (taskAt t j .top) .params) z b)))
-        (λ e. grown-has l (256 + p) m _ i (g .tops k i (omega (arith, eqb-false k n e)) b));
+        (λ e. let z : k ≡ n = eqb-true k n e in subst (λ (j : ℕ). bit i (cell (entered l p m) (256 + taskAt t j .top)) ≡ true) (sym z) (own i (subst (λ (j : ℕ). i < procAt t (taskAt t j .top) .params) z b)))
+        (λ e. next .tops k i (omega (arith, eqb-false k n e)) b);
+    entry = next .entry;
   }
     where
       p : ℕ
@@ -240,15 +243,19 @@ module _ (t : Table) (o : Ready t) where
       m : ℕ
       m = 2 ^ (procAt t p .params) - 1
 
-      own : (i : ℕ) → i < procAt t p .params → bit i (cell (grown l (256 + p) m) (256 + p)) ≡ true
-      own i b = grown-adds l (256 + p) m i (omega (arith, o .tops-low n h, g .masks .size)) (bit-low i (procAt t p .params) b)
+      next : Upto n (entered l p m)
+      next = entered-good l p m (o .tops-low n h) (few (procAt t p .params) (o .params-few p)) (λ v e. top n (bit-low-out v (procAt t p .params) e) h refl) g
 
-  begun : (n : ℕ) → n ≤ t .tasks → Begun n (sweep (topStep t) n (replicate 265 0))
+      own : (i : ℕ) → i < procAt t p .params → bit i (cell (entered l p m) (256 + p)) ≡ true
+      own i b = grown-adds (grown l (p * 32 + 0) m) (256 + p) m i (omega (arith, o .tops-low n h, g .masks .size, grown-grows l (p * 32 + 0) m .same-size)) (bit-low i (procAt t p .params) b)
+
+  begun : (n : ℕ) → n ≤ t .tasks → Upto n (sweep (topStep t) n (replicate 265 0))
   unfolding sweep Sound
   begun zero h = record {
     masks = record { size = length-replicate {A = ℕ} 265 0; below = λ a. rw (cell-zeros 265 a) (pow-pos 32) };
     sound = λ a v h. absurd (false≢true (sym (bit-zero v) ∙ (rw (cell-zeros 265 a) at h)));
     tops = λ k i a b. absurd (omega arith);
+    entry = λ p hp v h. absurd (false≢true (sym (bit-zero v) ∙ (rw (cell-zeros 265 (256 + p)) at h)));
   }
   begun (suc n) h = top-begun n _ (omega arith) (begun n (omega arith))
 
@@ -256,7 +263,7 @@ module _ (t : Table) (o : Ready t) where
   start-size n h = begun n h .masks .size
 
   pub start-good : Good (sweep (topStep t) (t .tasks) (replicate 265 0))
-  start-good = let g = begun (t .tasks) (omega arith) in record { masks = g .masks; sound = g .sound; tops = g .tops }
+  start-good = begun (t .tasks) (omega arith)
 
   -- ---- complete: what is dirty has its bit
 
@@ -268,18 +275,12 @@ module _ (t : Table) (o : Ready t) where
       go true e false g = absurd (f (ap (λ (s : Slot). s .node) (List·getD-eq-default (procAt t p .slots) noSlot {n = n} (omega (arith, o .slots-size p (ltb-true p 8 e), ltb-false n 32 g)))))
       go false e b g = absurd (f (ap (λ (q : Proc). getD (q .slots) n noSlot .node) (List·getD-eq-default (t .proc) outside {n = p} (omega (arith, o .procs-size, ltb-false p 8 e)))))
 
-  module _ (l : List ℕ) (g : Good l) (e : (p : ℕ) → p < 8 → procPass (procAt t p) p l ≡ l) where
+  module _ (l : List ℕ) (g : Good l) (e : (p n : ℕ) → p < 8 → n < 32 → Rests t l p n) where
     Holds : Fact → Type 0
     Holds (useAt p n v) = (p < 8) × (n < 32) × (bit v (cell l (p * 32 + n)) ≡ true)
     Holds (settingAt p n) = (p < 8) × (n < 32) × (setDirty (nodeAt t p n) (cell l (p * 32 + n)) (cell l 264) ≡ true)
     Holds (dropped p i) = (p < 8) × (bit i (cell l (256 + p)) ≡ true)
     Holds (blank q) = bit q (cell l 264) ≡ true
-
-    -- nothing new at a node
-    at-node : (p n : ℕ) → p < 8 → n < 32 → let f = flowOf (nodeAt t p n) n (cell l (p * 32 + n)) (cell l 264) in
-        (grown l (p * 32 + f .first) (f .out) ≡ l) × (grown l (p * 32 + f .second) (f .out) ≡ l) × (grown l (f .extra) (f .add) ≡ l)
-    unfolding nodeStep
-    at-node p n hp hn = step-fixed _ (p * 32) l (proc-fixed (procAt t p) p l (e p hp) .1 n hn)
 
     -- what goes out of a node is at its targets
     at-target : (p n m v : ℕ) → p < 8 → n < 32 → List·Memᴰ m (arcs (nodeAt t p n)) → bit v (flowOf (nodeAt t p n) n (cell l (p * 32 + n)) (cell l 264) .out) ≡ true → (p < 8) × (m < 32) × (bit v (cell l (p * 32 + m)) ≡ true)
@@ -292,15 +293,14 @@ module _ (t : Table) (o : Ready t) where
         k = flow-places (nodeAt t p n) n (cell l (p * 32 + n)) (cell l 264) hn
 
         go : (m ≡ f .first) ⊎ (m ≡ f .second) → (p < 8) × (m < 32) × (bit v (cell l (p * 32 + m)) ≡ true)
-        go (inl z) = (hp, rw z (k .first-low), rw z (grown-same l (p * 32 + f .first) (f .out) v (omega (arith, g .masks .size, k .first-low)) (at-node p n hp hn .0) h))
-        go (inr z) = (hp, rw z (k .second-low), rw z (grown-same l (p * 32 + f .second) (f .out) v (omega (arith, g .masks .size, k .second-low)) (at-node p n hp hn .1) h))
+        go (inl z) = (hp, rw z (k .first-low), rw z (e p n hp hn .first v h))
+        go (inr z) = (hp, rw z (k .second-low), rw z (e p n hp hn .second v h))
 
     at-extra : (p n v : ℕ) (x : Node) → nodeAt t p n ≡ x → p < 8 → n < 32 → bit v (flowOf x n (cell l (p * 32 + n)) (cell l 264) .add) ≡ true → bit v (cell l (flowOf x n (cell l (p * 32 + n)) (cell l 264) .extra)) ≡ true
     at-extra p n v x z hp hn h =
         let i = cell l (p * 32 + n) in
         let b = cell l 264 in
-        grown-same l (flowOf x n i b .extra) (flowOf x n i b .add) v (omega (arith, g .masks .size, flow-places x n i b hn .extra-low))
-        (subst (λ (y : Node). grown l (flowOf y n i b .extra) (flowOf y n i b .add) ≡ l) z (at-node p n hp hn .2)) h
+        subst (λ (y : Node). In (flowOf y n i b .add) l (flowOf y n i b .extra)) z (e p n hp hn .extra) v h
 
     -- along a clear path
     at-end : {p v n m : ℕ} → Clear t p v n m → Holds (useAt p m v) → Holds (useAt p n v)
@@ -327,8 +327,7 @@ module _ (t : Table) (o : Ready t) where
         at-end c (at-target p m k v (w .0) (w .1) a (out-after t (procAt t p .vars) m (cell l (p * 32 + m)) (cell l 264) (o .vars-few p) (nodeAt t p m) v (o .fits p m) s (w .2)))
     complete f (from-entry {p} {n} {i} h c d) =
         let w = complete (dropped p i) d in
-        let z : p * 32 ≡ p * 32 + 0 = omega arith in
-        at-end c (w .0, omega arith, rw z at (grown-same l (p * 32) (cell l (256 + p)) i (omega (arith, g .masks .size, w .0)) (proc-fixed (procAt t p) p l (e p (w .0)) .0) (w .1)))
+        at-end c (w .0, omega arith, g .entry p (w .0) i (w .1))
     complete f (top {p} {i} k j h z) = (rw z at (o .tops-low k h), rw z at (g .tops k i h (rw z j)))
     complete f (passed {q} {i} p n u to xs b z h d) =
         let w = complete (useAt p n u) d in

@@ -4,6 +4,7 @@ pub mod Steps
 pub mod NodeLaws
 pub mod StepLaws
 pub mod Decide
-pub mod RoundLaws
+pub mod Todo
+pub mod Work
 pub mod KeptLaws
 pub mod ReadyLaws

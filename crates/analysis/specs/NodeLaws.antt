@@ -123,6 +123,7 @@ pub record Places (f : Flow) : Type 0 where
   pub first-low : f .first < 32
   pub second-low : f .second < 32
   pub extra-low : f .extra < 265
+  pub extra-high : 256 ≤ f .extra
 
 pub flow-places : (x : Node) (n i b : ℕ) → n < 32 → Places (flowOf x n i b)
 unfolding flowOf

@@ -1,28 +1,42 @@
--- A pass from the lists that the code makes on the way.
-use Prim.Native.Nat.{ℕ, _+_, _-_, _*_, _^_, _<_}
-use mathlib.Core.Path.{_≡_}
+-- A step from the lists that the code makes on the way.
+use Prim.Native.Nat.{ℕ, _+_, _-_, _*_, _^_, _<_, _≤_}
+use native.Mathlib.Omega.{arith}
+use mathlib.Core.Path.{_≡_, subst}
 use mathlib.Core.List.{List}
+use borrow.Author.Tests.{lt-ltb}
 use Rattle.table.specs.Table.{procAt, taskAt}
 use Rattle.table.specs.declared.Node.{Node}
 use Rattle.table.specs.declared.Proc.{Proc}
 use Rattle.table.specs.declared.Table.{Table}
-use Rattle.masks.specs.Cells.{cell, grown, sweep}
+use Rattle.masks.specs.Cells.{cell, grown}
 use Rattle.flow.specs.declared.Flow.{Flow}
 use Rattle.flow.specs.Flow.{flowOf}
 use Rattle.analysis.specs.NodeLaws.{Places, flow-places}
-use Rattle.analysis.specs.Steps.{stepWith, nodeStep, procPass, topStep}
+use Rattle.analysis.specs.Steps.{entered, passedOn, stepWith, topStep}
 
 pub places : {f : Flow} (x : Node) (n i b : ℕ) → n < 32 → f ≡ flowOf x n i b → Places f
 places x n i b h e = rw e (flow-places x n i b h)
 
-pub step-is : {f : Flow} {l3 : List ℕ} (l l1 l2 : List ℕ) (x : Node) (n i b base : ℕ) → f ≡ flowOf x n i b → l1 ≡ grown l (base + f .first) (f .out) → l2 ≡ grown l1 (base + f .second) (f .out) → l3 ≡ grown l2 (f .extra) (f .add) → l3 ≡ stepWith (flowOf x n i b) base l
+pub step-is : {f : Flow} {l3 : List ℕ} (l l1 l2 : List ℕ) (x : Node) (p n i b : ℕ) → f ≡ flowOf x n i b → l1 ≡ grown l (p * 32 + f .first) (f .out) → l2 ≡ grown l1 (p * 32 + f .second) (f .out) → l3 ≡ passedOn l2 (f .extra) (f .add) → l3 ≡ stepWith (flowOf x n i b) p l
 unfolding stepWith
-step-is l l1 l2 x n i b base e p q r = rw (← e, ← p, ← q) r
+step-is l l1 l2 x p n i b e u v r = rw (← e, ← u, ← v) r
 
-pub proc-is : {l2 : List ℕ} (l l1 : List ℕ) (q : Proc) (p : ℕ) → l1 ≡ grown l (p * 32) (cell l (256 + p)) → l2 ≡ sweep (nodeStep q (p * 32)) 32 l1 → l2 ≡ procPass q p l
-unfolding procPass
-proc-is l l1 q p e f = rw (← e) f
+pub entered-is : {l2 : List ℕ} (l l1 : List ℕ) (k m : ℕ) → l1 ≡ grown l (k * 32 + 0) m → l2 ≡ grown l1 (256 + k) m → l2 ≡ entered l k m
+unfolding entered
+entered-is l l1 k m e f = rw (← e) f
 
-pub top-is : (t : Table) (l : List ℕ) (k m : ℕ) → m ≡ 2 ^ (procAt t (taskAt t k .top) .params) - 1 → grown l (256 + taskAt t k .top) m ≡ topStep t l k
+-- at the entry's cell
+pub entered-at : {l2 : List ℕ} (l l1 : List ℕ) (k m : ℕ) → l1 ≡ grown l (k * 32) m → l2 ≡ grown l1 (256 + k) m → l2 ≡ entered l k m
+entered-at l l1 k m e f = let z : k * 32 ≡ k * 32 + 0 = omega arith in entered-is l l1 k m (subst (λ (a : ℕ). l1 ≡ grown l a m) z e) f
+
+pub passed-drop : {l1 : List ℕ} (l : List ℕ) (a m : ℕ) → a < 264 → l1 ≡ entered l (a - 256) m → l1 ≡ passedOn l a m
+unfolding passedOn
+passed-drop l a m h e = rw (lt-ltb a 264 h) e
+
+pub passed-blank : {l1 : List ℕ} (l : List ℕ) (a m : ℕ) → a ≡ 264 → l1 ≡ grown l 264 m → l1 ≡ passedOn l a m
+unfolding passedOn
+passed-blank l a m h e = rw h e
+
+pub top-is : {l1 : List ℕ} (t : Table) (l : List ℕ) (k m : ℕ) → m ≡ 2 ^ (procAt t (taskAt t k .top) .params) - 1 → l1 ≡ entered l (taskAt t k .top) m → l1 ≡ topStep t l k
 unfolding topStep
-top-is t l k m e = rw e
+top-is t l k m e f = rw (← e) f

@@ -5,7 +5,7 @@ use table::Slot;
 use table::Table;
 use table::Task;
 ghost use mathlib.Core.Path.{_≡_};
-ghost use mathlib.Core.Bool.{_||_};
+ghost use mathlib.Core.Logic.{_≢_};
 ghost use Prim.Native.Nat.{ℕ, _<_, _≤_, _^_, _+_, _-_, _*_};
 ghost use lib.ListN.{length, getD, replicate};
 ghost use lib.Bits.{bitOr};
@@ -14,7 +14,9 @@ ghost use Rattle.masks.specs.Cells.{cell, grown, Flag, sweep, Masks};
 ghost use Rattle.flow.specs.Flow.{flowOf};
 ghost use Rattle.analysis.specs.Ready.{Ready};
 ghost use Rattle.analysis.specs.Decides.{Decides, KeptMasks};
-ghost use Rattle.analysis.specs.Steps.{stepWith, nodeStep, procPass, topStep, keptIn};
+ghost use Rattle.analysis.specs.Steps.{entered, passedOn, stepWith, topStep, keptIn};
+ghost use Rattle.analysis.specs.Todo.{Took, without};
+ghost use Rattle.analysis.specs.Work.{Sized, Moves, Full, Works, Pending};
 
 // The mask m is added to the cell a; the answer says whether something was new.
 fn grow(cells: &mut [u32; 265], a: usize, m: u32) -> bool
@@ -28,69 +30,138 @@ fn grow(cells: &mut [u32; 265], a: usize, m: u32) -> bool
     new != old
 }
 
-// One node: what is dirty before it goes where the node leads. base is the cell of its procedure's node 0.
-fn node_step(x: Node, base: usize, n: usize, cells: &mut [u32; 265]) -> bool
-    requires { ⌜ (base ≤ 224) × ((n < 32) × (length (now cells) ≡ 265)) ⌝ }
-    ensures list { λ r. ⌜ now (cells .exit) ≡ stepWith (flowOf x n (cell (now (cells .entry)) (base + n)) (cell (now (cells .entry)) 264)) base (now (cells .entry)) ⌝ }
-    ensures flag { λ r. ⌜ Flag (now (cells .entry)) (now (cells .exit)) r ⌝ }
+// m, with n added if yes.
+fn with(m: u32, n: usize, yes: bool) -> u32
+    requires { ⌜ n < 32 ⌝ }
+    ensures { λ r. ⌜ r ≡ pick yes (bitOr m (1 * 2 ^ n)) m ⌝ }
 {
-    let at = base + n;
+    if yes { m | (1 << (n as u32)) } else { m }
+}
+
+// The mask m is added to the cell of node n of procedure p. If something was new, the node is to be seen.
+fn reach(cells: &mut [u32; 265], todo: &mut [u32; 8], p: usize, n: usize, m: u32)
+    requires { ⌜ (p < 8) × ((n < 32) × Sized (now cells) (now todo)) ⌝ }
+    ensures list { λ r. ⌜ now (cells .exit) ≡ grown (now (cells .entry)) (p * 32 + n) m ⌝ }
+    ensures moves { λ r. ⌜ Moves (now (cells .entry)) (now (todo .entry)) (now (cells .exit)) (now (todo .exit)) ⌝ }
+{
+    let at = p * 32 + n;
+    let yes = grow(cells, at, m);
+    let w = todo[p];
+    todo[p] = with(w, n, yes);
+}
+
+// The parameters m of procedure k are dropped.
+fn enter(cells: &mut [u32; 265], todo: &mut [u32; 8], k: usize, m: u32)
+    requires { ⌜ (k < 8) × Sized (now cells) (now todo) ⌝ }
+    ensures list { λ r. ⌜ now (cells .exit) ≡ entered (now (cells .entry)) k m ⌝ }
+    ensures moves { λ r. ⌜ Moves (now (cells .entry)) (now (todo .entry)) (now (cells .exit)) (now (todo .exit)) ⌝ }
+{
+    reach(cells, todo, k, 0, m);
+    grow(cells, 256 + k, m);
+}
+
+// Every node is to be seen.
+fn all_again(todo: &mut [u32; 8])
+    requires { ⌜ length (now todo) ≡ 8 ⌝ }
+    ensures { λ r. ⌜ Full (now (todo .exit)) ⌝ }
+{
+    let mut i: usize = 0;
+    while i < 8 {
+        todo[i] = 4294967295;
+        i += 1;
+    }
+}
+
+// The queues m are blank.
+fn blank(cells: &mut [u32; 265], todo: &mut [u32; 8], m: u32)
+    requires { ⌜ Sized (now cells) (now todo) ⌝ }
+    ensures list { λ r. ⌜ now (cells .exit) ≡ grown (now (cells .entry)) 264 m ⌝ }
+    ensures moves { λ r. ⌜ Moves (now (cells .entry)) (now (todo .entry)) (now (cells .exit)) (now (todo .exit)) ⌝ }
+{
+    let yes = grow(cells, 264, m);
+    if yes {
+        all_again(todo);
+        return;
+    }
+}
+
+// What a node adds to the cell a: dropped parameters, or blank queues.
+fn pass_on(cells: &mut [u32; 265], todo: &mut [u32; 8], a: usize, m: u32)
+    requires { ⌜ (256 ≤ a) × ((a < 265) × Sized (now cells) (now todo)) ⌝ }
+    ensures list { λ r. ⌜ now (cells .exit) ≡ passedOn (now (cells .entry)) a m ⌝ }
+    ensures moves { λ r. ⌜ Moves (now (cells .entry)) (now (todo .entry)) (now (cells .exit)) (now (todo .exit)) ⌝ }
+{
+    if a < 264 {
+        enter(cells, todo, a - 256, m);
+        return;
+    }
+    blank(cells, todo, m);
+}
+
+// One node: what is dirty before it goes where the node leads.
+fn visit(x: Node, p: usize, n: usize, cells: &mut [u32; 265], todo: &mut [u32; 8])
+    requires { ⌜ (p < 8) × ((n < 32) × Sized (now cells) (now todo)) ⌝ }
+    ensures list { λ r. ⌜ now (cells .exit) ≡ stepWith (flowOf x n (cell (now (cells .entry)) (p * 32 + n)) (cell (now (cells .entry)) 264)) p (now (cells .entry)) ⌝ }
+    ensures moves { λ r. ⌜ Moves (now (cells .entry)) (now (todo .entry)) (now (cells .exit)) (now (todo .exit)) ⌝ }
+{
+    let at = p * 32 + n;
     let i = cells[at];
     let b = cells[264];
     let f = flow::flow_of(x, n, i, b);
     let o = f.out;
-    let first = base + f.first;
-    let second = base + f.second;
+    let first = f.first;
+    let second = f.second;
     let extra = f.extra;
     let add = f.add;
-    let r1 = grow(cells, first, o);
-    let r2 = grow(cells, second, o);
-    let r3 = grow(cells, extra, add);
-    any(r1, r2, r3)
+    reach(cells, todo, p, first, o);
+    reach(cells, todo, p, second, o);
+    pass_on(cells, todo, extra, add);
 }
 
-fn any(a: bool, b: bool, c: bool) -> bool
-    ensures { λ r. ⌜ r ≡ (a || b) || c ⌝ }
+// m without n.
+fn minus(m: u32, n: usize) -> u32
+    requires { ⌜ n < 32 ⌝ }
+    ensures { λ r. ⌜ r ≡ without m n ⌝ }
 {
-    if a {
-        return true;
-    }
-    if b {
-        return true;
-    }
-    c
+    m ^ (m & (1 << (n as u32)))
 }
 
-// The nodes of a procedure in turn.
-fn nodes_pass(q: Proc, base: usize, cells: &mut [u32; 265]) -> bool
-    requires { ⌜ (base ≤ 224) × (length (now cells) ≡ 265) ⌝ }
-    ensures list { λ r. ⌜ now (cells .exit) ≡ sweep (nodeStep q base) 32 (now (cells .entry)) ⌝ }
-    ensures flag { λ r. ⌜ Flag (now (cells .entry)) (now (cells .exit)) r ⌝ }
+// The least node of procedure p that is to be seen is taken out.
+fn take(p: usize, todo: &mut [u32; 8]) -> usize
+    requires { ⌜ (p < 8) × (Masks 8 32 (now todo) × (cell (now todo) p ≢ 0)) ⌝ }
+    ensures { λ r. ⌜ Took (now (todo .entry)) p r (now (todo .exit)) ⌝ }
 {
-    let mut fresh = false;
-    let mut n: usize = 0;
-    while n < 32 {
+    let m = todo[p];
+    let n = flow::target(m);
+    todo[p] = minus(m, n);
+    n
+}
+
+// The nodes of procedure p, until none is to be seen.
+fn proc_work(q: Proc, p: usize, cells: &mut [u32; 265], todo: &mut [u32; 8])
+    requires { ⌜ (p < 8) × (Masks 265 32 (now cells) × Masks 8 32 (now todo)) ⌝ }
+    ensures { λ r. ⌜ Works q p (now (cells .entry)) (now (todo .entry)) (now (cells .exit)) (now (todo .exit)) ⌝ }
+{
+    while todo[p] != 0 {
+        let n = take(p, todo);
         let s = q.slots[n];
         let x = s.node;
-        if node_step(x, base, n, cells) {
-            fresh = true;
-        }
-        n += 1;
+        visit(x, p, n, cells, todo);
     }
-    fresh
 }
 
-// One procedure: its entry, and its nodes in turn.
-fn proc_pass(q: Proc, p: usize, cells: &mut [u32; 265]) -> bool
-    requires { ⌜ (p < 8) × (length (now cells) ≡ 265) ⌝ }
-    ensures list { λ r. ⌜ now (cells .exit) ≡ procPass q p (now (cells .entry)) ⌝ }
-    ensures flag { λ r. ⌜ Flag (now (cells .entry)) (now (cells .exit)) r ⌝ }
+// A procedure with a node that is to be seen, or 8.
+fn pending(todo: &[u32; 8]) -> usize
+    ensures { λ r. ⌜ Pending (now (todo .entry)) r ⌝ }
 {
-    let base = p * 32;
-    let m = cells[256 + p];
-    let e = grow(cells, base, m);
-    let f = nodes_pass(q, base, cells);
-    any(e, f, false)
+    let mut p: usize = 0;
+    while p < 8 {
+        if todo[p] != 0 {
+            return p;
+        }
+        p += 1;
+    }
+    p
 }
 
 // The numbers below k.
@@ -114,35 +185,27 @@ fn start(t: Table) -> [u32; 265]
         let p = w.top as usize;
         let q = t.proc[p];
         let m = low_bits(q.params);
+        grow(&mut cells, p * 32, m);
         grow(&mut cells, 256 + p, m);
         k += 1;
     }
     cells
 }
 
-// What is dirty: the procedures in turn, until all eight have had nothing new.
+// What is dirty: each node at first, and again after what comes to it has grown.
 pub fn dirty_cells(t: Table) -> [u32; 265]
     requires { ⌜ Ready t ⌝ }
     ensures { λ r. ⌜ Decides t r ⌝ }
 {
     let mut cells = start(t);
+    let mut todo = [4294967295u32; 8];
     let mut p: usize = 0;
-    let mut quiet: usize = 0;
-    while quiet < 8 {
+    while p < 8 {
         let q = t.proc[p];
-        let fresh = proc_pass(q, p, &mut cells);
-        quiet = masks::quiet_after(fresh, quiet);
-        p = (p + 1) % 8;
+        proc_work(q, p, &mut cells, &mut todo);
+        p = pending(&todo);
     }
     cells
-}
-
-// m, with n added if yes.
-fn with(m: u32, n: usize, yes: bool) -> u32
-    requires { ⌜ n < 32 ⌝ }
-    ensures { λ r. ⌜ r ≡ pick yes (bitOr m (1 * 2 ^ n)) m ⌝ }
-{
-    if yes { m | (1 << (n as u32)) } else { m }
 }
 
 // The kept nodes of a procedure, from what is dirty.

@@ -1,47 +1,44 @@
 use mathlib.Core.Path.{refl}
-use Rattle.analysis.specs.Decide.{start-good}
-use Rattle.masks.specs.Round.{left, begin, next-round, next-left}
-use Rattle.analysis.specs.RoundLaws.{InRound, end}
 use Rattle.analysis.specs.Ready.{Ready}
+use Rattle.analysis.specs.Decide.{start-good}
+use Rattle.analysis.specs.Work.{Work, Pending, left, work-start, work-end, full, full-pending}
+use borrow.Author.Needs.{needs}
 use native.Mathlib.Omega.{arith}
 use Rattle.analysis.proofs.dirty_cells.Statement.{statement}
 use Rattle.analysis.proofs.dirty_cells.Tie as tie
 
 abbrev Inv-loop : tie.InvT-loop
-Inv-loop t cells₀ p₀ quiet₀ cells p quiet = (o : Ready t) → InRound t o cells p quiet
+Inv-loop t cells₀ todo₀ p₀ cells todo p = ((o : Ready t) → Work t o cells todo) × Pending todo p
 
 abbrev μ-loop : tie.MeasureT-loop
-μ-loop t cells₀ p₀ quiet₀ cells p quiet = left 8 265 cells quiet
+μ-loop t cells₀ todo₀ p₀ cells todo p = left 265 8 cells todo
 
 start-requires : tie.Need-start-requires Inv-loop μ-loop
 start-requires c κs = c .pre
 
 loop-holds : tie.Need-loop-holds Inv-loop μ-loop
-loop-holds c = λ o. begin _ _ _ _ _ _ (omega arith) (rw (c .start .ensures) (start-good _ o))
+loop-holds c = (λ o. work-start _ o (rw (c .start .ensures) (start-good _ o)) full, full-pending full)
 
 mul-q : tie.Need-mul-q Inv-loop μ-loop
-mul-q c = omega (arith, c .before .loop .inv (c .before .before .before .pre) .low)
+mul-q c = search needs
 
 element-copy-out-q : tie.Need-element-copy-out-q Inv-loop μ-loop
-element-copy-out-q c = c .before .loop .inv (c .before .before .before .pre) .low
+element-copy-out-q c = search needs
 
-proc-pass-requires : tie.Need-proc-pass-requires Inv-loop μ-loop
-proc-pass-requires c κs = let r = c .before .before .before .loop .inv (c .before .before .before .before .before .pre) in (r .low, r .good .masks .size)
+proc-work-requires : tie.Need-proc-work-requires Inv-loop μ-loop
+proc-work-requires c κs = let k = c .before .before .before .before .loop .inv .0 (c .before .before .before .before .before .before .pre) in (c .before .before .before .loop-test .taken, (k .good .masks, k .todo))
 
-quiet-after-requires : tie.Need-quiet-after-requires Inv-loop μ-loop
-quiet-after-requires c κs = omega (arith, c .before .before .before .loop-test .taken)
-
-add-p : tie.Need-add-p Inv-loop μ-loop
-add-p c = omega (arith, c .before .before .before .before .before .loop .inv (c .before .before .before .before .before .before .before .pre) .low)
+pending-requires : tie.Need-pending-requires Inv-loop μ-loop
+pending-requires c κs = search needs
 
 loop-less : tie.Need-loop-less Inv-loop μ-loop
-loop-less c = let x = c .before .proc-pass .ensures in next-left _ _ _ _ _ _ (c .before .before .before .before .before .loop .inv (c .before .before .before .before .before .before .before .pre)) (x .0) (x .1) (omega (arith, c .before .before .before .before .loop-test .taken)) _ (c .quiet-after .ensures)
+loop-less c = c .before .before .proc-work .ensures .less (c .before .before .before .before .before .before .before .loop .inv .1 .some′ (c .before .before .before .before .before .before .loop-test .taken))
 
 loop-again : tie.Need-loop-again Inv-loop μ-loop
-loop-again c = let x = c .before .proc-pass .ensures in λ o. next-round _ _ _ _ _ _ (c .before .before .before .before .before .loop .inv o) (x .0) (x .1) (omega (arith, c .before .before .before .before .loop-test .taken)) _ _ refl (c .quiet-after .ensures)
+loop-again c = (λ o. c .before .before .proc-work .ensures .keeps _ o refl (c .before .before .before .before .before .before .before .loop .inv .0 o), c .pending .ensures)
 
 returns : tie.Need-returns Inv-loop μ-loop
-returns c = end _ (c .before .before .before .pre) (c .before .loop .inv (c .before .before .before .pre)) (omega (arith, c .loop-test .left))
+returns c = work-end _ (c .before .before .before .pre) (c .before .loop .inv .0 (c .before .before .before .pre)) (c .before .loop .inv .1 .none′ (omega (arith, c .loop-test .left)))
 
 pub dirty-cells-spec : {M : Type 1} → statement M
 dirty-cells-spec =
@@ -53,9 +50,8 @@ dirty-cells-spec =
     loop-holds
     mul-q
     element-copy-out-q
-    proc-pass-requires
-    quiet-after-requires
-    add-p
+    proc-work-requires
+    pending-requires
     loop-less
     loop-again
     returns)

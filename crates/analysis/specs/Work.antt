@@ -1,0 +1,312 @@
+-- The worklist: a node that is not to be seen adds nothing to the cells. Once none is to be seen, the cells say what is dirty.
+use Prim.Native.Nat.{ℕ, zero, suc, _+_, _*_, _-_, _^_, _<_, _≤_}
+use native.Mathlib.Omega.{arith}
+use native.Mathlib.Nat.{suc-mul, mul-le-mul-right, one-mul, lt-trans}
+use mathlib.Core.Path.{_≡_, refl, sym, _∙_, ap, subst}
+use mathlib.Core.Bool.{Bool, true, false, false≢true, true≢false}
+use mathlib.Core.Logic.{_⊎_, inl, inr, _≢_}
+use mathlib.Core.List.{List}
+use lib.ListN.{length, set, replicate, length-set, length-replicate}
+use lib.Seq.{getD-set-other, set-getD}
+use lib.Bits.{bitOr}
+use lib.Pow.{pow-lt}
+use lib.Dec.{eqb, ltb}
+use borrow.Author.Tests.{eqb-true, eqb-false, ltb-true, ltb-false}
+use Rattle.table.specs.Mask.{pick, bit}
+use Rattle.table.specs.Table.{procAt, nodeAt, nodeIn}
+use Rattle.table.specs.declared.Node.{Node}
+use Rattle.table.specs.declared.Proc.{Proc}
+use Rattle.table.specs.declared.Table.{Table}
+use Rattle.masks.specs.Bits.{bit-zero, bit-one, bit-low}
+use Rattle.masks.specs.Cells.{cell, sum, grown, Masks, masks-sum, Grows, Flag, grown-grows, grown-has, grown-adds, grown-masks, Filled, filled-masks}
+use Rattle.flow.specs.declared.Flow.{Flow}
+use Rattle.flow.specs.Flow.{flowOf}
+use Rattle.closing.specs.ReachLaws.{cases}
+use Rattle.analysis.specs.Ready.{Ready}
+use Rattle.analysis.specs.Decides.{Decides}
+use Rattle.analysis.specs.Steps.{In, entered, passedOn, stepWith, Held, Rests}
+use Rattle.analysis.specs.NodeLaws.{Places, flow-places, flow-small}
+use Rattle.analysis.specs.Decide.{Good, step-good, start-good, decided}
+use Rattle.analysis.specs.Todo.{Took}
+
+-- 265 cells, and 8 masks of nodes
+abbrev pub Sized : List ℕ → List ℕ → Type 0
+Sized l w = (length l ≡ 265) × (length w ≡ 8)
+
+-- The cells grow from l to l′, the nodes to be seen go from w to w′. A node that is not to be seen was not before, and what comes to it is the same.
+pub record Moves (l w l′ w′ : List ℕ) : Type 0 where
+  pub has : (a k : ℕ) → bit k (cell l a) ≡ true → bit k (cell l′ a) ≡ true
+  pub size : length l′ ≡ length l
+  pub size-todo : length w′ ≡ length w
+  pub small : Masks 8 32 w → Masks 8 32 w′
+  pub up : sum l ≤ sum l′
+  pub stays : sum l′ ≡ sum l → w′ ≡ w
+  pub keeps : (p n : ℕ) → p < 8 → n < 32 → bit n (cell w′ p) ≡ false → (bit n (cell w p) ≡ false) × (cell l′ (p * 32 + n) ≡ cell l (p * 32 + n)) × (cell l′ 264 ≡ cell l 264)
+
+pub moves-refl : (l w : List ℕ) → Moves l w l w
+moves-refl l w = record { has = λ a k h. h; size = refl; size-todo = refl; small = λ m. m; up = omega arith; stays = λ e. refl; keeps = λ p n hp hn h. (h, refl, refl) }
+
+pub moves-trans : {l w l1 w1 l2 w2 : List ℕ} → Moves l w l1 w1 → Moves l1 w1 l2 w2 → Moves l w l2 w2
+moves-trans {l} {w} {l1} {w1} {l2} {w2} f g = record {
+  has = λ a k h. g .has a k (f .has a k h);
+  size = g .size ∙ f .size;
+  size-todo = g .size-todo ∙ f .size-todo;
+  small = λ m. g .small (f .small m);
+  up = omega (arith, f .up, g .up);
+  stays = λ e. g .stays (omega (arith, f .up, g .up)) ∙ f .stays (omega (arith, f .up, g .up));
+  keeps = λ p n hp hn h. let b = g .keeps p n hp hn h in let a = f .keeps p n hp hn (b .0) in (a .0, b .1 ∙ a .1, b .2 ∙ a .2);
+}
+
+grown-other : (l : List ℕ) (a m b : ℕ) → b ≢ a → cell (grown l a m) b ≡ cell l b
+unfolding grown
+grown-other l a m b h = getD-set-other l a b (bitOr (cell l a) m) 0 h
+
+-- what is not in a mask that has grown was not in it
+not-before : (w : List ℕ) (p m a b : ℕ) → bit b (cell (grown w p m) a) ≡ false → bit b (cell w a) ≡ false
+not-before w p m a b h = cases (bit b (cell w a)) (λ e. absurd (true≢false (sym (grown-has w p m a b e) ∙ h))) (λ e. e)
+
+pub sized-after : {l w l′ w′ : List ℕ} → Sized l w → Moves l w l′ w′ → Sized l′ w′
+sized-after s f = (f .size ∙ s .0, f .size-todo ∙ s .1)
+
+-- ---- one cell grows
+
+module _ {l l′ w w′ : List ℕ} {yes′ : Bool} (p n m : ℕ) (hp : p < 8) (hn : n < 32) (s : Sized l w) (e : l′ ≡ grown l (p * 32 + n) m) (f : Flag l l′ yes′) where
+  reach-new : yes′ ≡ true → w′ ≡ grown w p (2 ^ n) → Moves l w l′ w′
+  reach-new y z = rw (e, z) (record {
+    has = λ a k h. grown-has l (p * 32 + n) m a k h;
+    size = grown-grows l (p * 32 + n) m .same-size;
+    size-todo = grown-grows w p (2 ^ n) .same-size;
+    small = λ h. grown-masks p (2 ^ n) h (pow-lt {i = n} {j = 32} hn);
+    up = grown-grows l (p * 32 + n) m .up;
+    stays = λ q. absurd (omega (arith, q, f .more y, ap sum e));
+    keeps = keep;
+  })
+    where
+      apart : (a b : ℕ) → b < 32 → bit b (cell (grown w p (2 ^ n)) a) ≡ false → a * 32 + b ≢ p * 32 + n
+      apart a b hb h q =
+          let za : a ≡ p = omega arith in
+          let zb : b ≡ n = omega arith in
+          true≢false (sym (grown-adds w p (2 ^ n) n (omega (arith, s .1)) (bit-one n)) ∙ (rw (za, zb) at h))
+
+      keep : (a b : ℕ) → a < 8 → b < 32 → bit b (cell (grown w p (2 ^ n)) a) ≡ false → (bit b (cell w a) ≡ false) × (cell (grown l (p * 32 + n) m) (a * 32 + b) ≡ cell l (a * 32 + b)) × (cell (grown l (p * 32 + n) m) 264 ≡ cell l 264)
+      keep a b ha hb h = (not-before w p (2 ^ n) a b h, grown-other l (p * 32 + n) m (a * 32 + b) (apart a b hb h), grown-other l (p * 32 + n) m 264 (λ q. omega arith))
+
+  pub reach-moves : w′ ≡ set w p (pick yes′ (bitOr (cell w p) (1 * 2 ^ n)) (cell w p)) → Moves l w l′ w′
+  unfolding grown
+  reach-moves z = go yes′ refl z
+    where
+      go : (y : Bool) → yes′ ≡ y → w′ ≡ set w p (pick y (bitOr (cell w p) (1 * 2 ^ n)) (cell w p)) → Moves l w l′ w′
+      go true y z = reach-new y (z ∙ ap (λ (x : ℕ). set w p (bitOr (cell w p) x)) (one-mul (2 ^ n)))
+      go false y z = rw (f .same y, z ∙ set-getD w p 0) (moves-refl l w)
+
+pub drop-moves : {l l′ w : List ℕ} (k m : ℕ) → k < 8 → l′ ≡ grown l (256 + k) m → Moves l w l′ w
+drop-moves {l} {l′} {w} k m hk e = rw e (record {
+  has = λ a j h. grown-has l (256 + k) m a j h;
+  size = grown-grows l (256 + k) m .same-size;
+  size-todo = refl;
+  small = λ h. h;
+  up = grown-grows l (256 + k) m .up;
+  stays = λ q. refl;
+  keeps = λ a b ha hb h. (h, grown-other l (256 + k) m (a * 32 + b) (λ q. omega arith), grown-other l (256 + k) m 264 (λ q. omega arith));
+})
+
+-- every node is to be seen
+abbrev pub Full : List ℕ → Type 0
+Full w = (length w ≡ 8) × Filled (λ a. 4294967295) 8 w
+
+full-masks : {w : List ℕ} → Full w → Masks 8 32 w
+full-masks {w} f = filled-masks (λ a. 4294967295) 8 32 w (f .0) (f .1) (λ a h. omega arith)
+
+full-bit : (w : List ℕ) (p n : ℕ) → p < 8 → n < 32 → Full w → bit n (cell w p) ≡ true
+full-bit w p n hp hn f = rw (f .1 p hp) (bit-low n 32 hn)
+
+pub blank-moves : {l l′ w w′ : List ℕ} {yes′ : Bool} (m : ℕ) → length w ≡ 8 → l′ ≡ grown l 264 m → Flag l l′ yes′ → yes′ ≡ true → Full w′ → Moves l w l′ w′
+blank-moves {l} {l′} {w} {w′} m s e f y z = record {
+  has = λ a j h. rw e (grown-has l 264 m a j h);
+  size = f .grows .same-size;
+  size-todo = z .0 ∙ sym s;
+  small = λ h. full-masks z;
+  up = f .grows .up;
+  stays = λ q. absurd (omega (arith, q, f .more y));
+  keeps = λ a b ha hb h. absurd (true≢false (sym (full-bit w′ a b ha hb z) ∙ h));
+}
+
+pub same-moves : {l l′ w : List ℕ} {yes′ : Bool} → Flag l l′ yes′ → yes′ ≡ false → Moves l w l′ w
+same-moves {l} {l′} {w} f y = rw (f .same y) (moves-refl l w)
+
+-- ---- one node's step
+
+module _ (l : List ℕ) (a m : ℕ) where
+  passed-has : (b k : ℕ) → bit k (cell l b) ≡ true → bit k (cell (passedOn l a m) b) ≡ true
+  unfolding passedOn entered
+  passed-has b k h = go (ltb a 264)
+    where
+      go : (y : Bool) → bit k (cell (pick y (entered l (a - 256) m) (grown l a m)) b) ≡ true
+      go true = grown-has (grown l ((a - 256) * 32 + 0) m) (256 + (a - 256)) m b k (grown-has l ((a - 256) * 32 + 0) m b k h)
+      go false = grown-has l a m b k h
+
+  passed-adds : (k : ℕ) → 256 ≤ a → a < 265 → length l ≡ 265 → bit k m ≡ true → bit k (cell (passedOn l a m) a) ≡ true
+  unfolding passedOn entered
+  passed-adds k lo hi s h = go (ltb a 264)
+    where
+      l1 : List ℕ
+      l1 = grown l ((a - 256) * 32 + 0) m
+
+      at : 256 + (a - 256) ≡ a
+      at = omega arith
+
+      go : (y : Bool) → bit k (cell (pick y (entered l (a - 256) m) (grown l a m)) a) ≡ true
+      go true = subst (λ (x : ℕ). bit k (cell (grown l1 (256 + (a - 256)) m) x) ≡ true) at (grown-adds l1 (256 + (a - 256)) m k (omega (arith, grown-grows l ((a - 256) * 32 + 0) m .same-size)) h)
+      go false = grown-adds l a m k (omega arith) h
+
+  passed-masks : Masks 265 32 l → m < 2 ^ 32 → Masks 265 32 (passedOn l a m)
+  unfolding passedOn entered
+  passed-masks g s = go (ltb a 264)
+    where
+      go : (y : Bool) → Masks 265 32 (pick y (entered l (a - 256) m) (grown l a m))
+      go true = grown-masks (256 + (a - 256)) m (grown-masks ((a - 256) * 32 + 0) m g s) s
+      go false = grown-masks a m g s
+
+step-held : (f : Flow) (p : ℕ) (l : List ℕ) → Places f → p < 8 → length l ≡ 265 → Held f p (stepWith f p l)
+unfolding stepWith
+step-held f p l k hp s = record {
+  first = λ v h. passed-has l2 (f .extra) (f .add) a1 v (grown-has l1 a2 (f .out) a1 v (grown-adds l a1 (f .out) v (omega (arith, k .first-low)) h));
+  second = λ v h. passed-has l2 (f .extra) (f .add) a2 v (grown-adds l1 a2 (f .out) v (omega (arith, k .second-low, s1)) h);
+  extra = λ v h. passed-adds l2 (f .extra) (f .add) v (k .extra-high) (k .extra-low) (grown-grows l1 a2 (f .out) .same-size ∙ s1 ∙ s) h;
+}
+  where
+    a1 : ℕ
+    a1 = p * 32 + f .first
+
+    a2 : ℕ
+    a2 = p * 32 + f .second
+
+    l1 : List ℕ
+    l1 = grown l a1 (f .out)
+
+    l2 : List ℕ
+    l2 = grown l1 a2 (f .out)
+
+    s1 : length l1 ≡ length l
+    s1 = grown-grows l a1 (f .out) .same-size
+
+-- the cells after node x
+abbrev pub stepped : Node → ℕ → ℕ → List ℕ → List ℕ
+stepped x p n l = stepWith (flowOf x n (cell l (p * 32 + n)) (cell l 264)) p l
+
+step-masks : (x : Node) (p n : ℕ) (l : List ℕ) → Masks 265 32 l → Masks 265 32 (stepped x p n l)
+unfolding stepWith
+step-masks x p n l g = let z = flow-small x n (cell l (p * 32 + n)) (cell l 264) (g .below (p * 32 + n)) in
+    passed-masks _ _ _ (grown-masks _ _ (grown-masks _ _ g (z .out-small)) (z .out-small)) (z .add-small)
+
+held-more : {f : Flow} {p : ℕ} {l l′ : List ℕ} → ((a k : ℕ) → bit k (cell l a) ≡ true → bit k (cell l′ a) ≡ true) → Held f p l → Held f p l′
+held-more h w = record { first = λ k b. h _ k (w .first k b); second = λ k b. h _ k (w .second k b); extra = λ k b. h _ k (w .extra k b) }
+
+-- ---- the worklist of a table
+
+module _ (t : Table) (o : Ready t) where
+  pub record Work (l w : List ℕ) : Type 0 where
+    pub good : Good t o l
+    pub todo : Masks 8 32 w
+    pub done : (p n : ℕ) → p < 8 → n < 32 → bit n (cell w p) ≡ false → Rests t l p n
+
+  pub work-start : {l w : List ℕ} → Good t o l → Full w → Work l w
+  work-start {l} {w} g f = record { good = g; todo = full-masks f; done = λ p n hp hn h. absurd (true≢false (sym (full-bit w p n hp hn f) ∙ h)) }
+
+  work-next : {l w w1 l′ w′ : List ℕ} (p n : ℕ) → p < 8 → Work l w → Took w p n w1 → l′ ≡ stepped (nodeAt t p n) p n l → Moves l w1 l′ w′ → Work l′ w′
+  work-next {l} {w} {w1} {l′} {w′} p n hp k c e m = record {
+    good = rw e (step-good t o l p n hp (c .low) (k .good));
+    todo = m .small (c .small);
+    done = λ a b ha hb h. let j = m .keeps a b ha hb h in rw (j .1, j .2) (go a b ha hb (c .other a b (j .0)));
+  }
+    where
+      own : Held (flowOf (nodeAt t p n) n (cell l (p * 32 + n)) (cell l 264)) p l′
+      own = rw e (step-held _ p l (flow-places (nodeAt t p n) n _ _ (c .low)) hp (k .good .masks .size))
+
+      go : (a b : ℕ) → a < 8 → b < 32 → (bit b (cell w a) ≡ false) ⊎ ((a ≡ p) × (b ≡ n)) → Held (flowOf (nodeAt t a b) b (cell l (a * 32 + b)) (cell l 264)) a l′
+      go a b ha hb (inl q) = held-more (m .has) (k .done a b ha hb q)
+      go a b ha hb (inr q) = rw (q .0, q .1) own
+
+  pub work-end : {l w : List ℕ} → Work l w → ((p : ℕ) → p < 8 → cell w p ≡ 0) → Decides t l
+  work-end {l} {w} k z = decided t o l (k .good) (λ p n hp hn. k .done p n hp hn (rw (z p hp) (bit-zero n)))
+
+-- ---- what is left to do goes down with every node
+
+abbrev pub left : ℕ → ℕ → List ℕ → List ℕ → ℕ
+left c k l w = (c * 2 ^ 32 - sum l) * suc (k * 2 ^ 32) + sum w
+
+less-left : (c k : ℕ) (l w w1 l′ w′ : List ℕ) → sum l′ ≤ c * 2 ^ 32 → sum w′ ≤ k * 2 ^ 32 → sum l ≤ sum l′ → (sum l′ ≡ sum l → w′ ≡ w1) → sum w1 < sum w → left c k l′ w′ < left c k l w
+less-left c k l w w1 l′ w′ hl hw up stays f = go (eqb (sum l′) (sum l)) refl
+  where
+    go : (b : Bool) → eqb (sum l′) (sum l) ≡ b → left c k l′ w′ < left c k l w
+    go true e =
+        let z = eqb-true (sum l′) (sum l) e in
+        let s : sum w′ ≡ sum w1 = ap sum (stays z) in
+        rw z (omega arith)
+    go false e =
+        let z = eqb-false (sum l′) (sum l) e in
+        let h : sum l < sum l′ = omega arith in
+        let d : suc (c * 2 ^ 32 - sum l′) * suc (k * 2 ^ 32) ≤ (c * 2 ^ 32 - sum l) * suc (k * 2 ^ 32) = mul-le-mul-right (suc (k * 2 ^ 32)) (omega arith) in
+        omega (arith, rw suc-mul at d)
+
+-- ---- the nodes of one procedure
+
+-- l and w on the way from l₀ and w₀
+pub record Going (q : Proc) (p : ℕ) (l₀ w₀ l w : List ℕ) : Type 0 where
+  pub masks : Masks 265 32 l
+  pub todo : Masks 8 32 w
+  pub keeps : (t : Table) (o : Ready t) → procAt t p ≡ q → Work t o l₀ w₀ → Work t o l w
+  pub less : (left 265 8 l w < left 265 8 l₀ w₀) ⊎ ((l ≡ l₀) × (w ≡ w₀))
+
+pub going-start : (q : Proc) (p : ℕ) (l w : List ℕ) → Masks 265 32 l → Masks 8 32 w → Going q p l w l w
+going-start q p l w g h = record { masks = g; todo = h; keeps = λ t o e k. k; less = inr (refl, refl) }
+
+module _ (q : Proc) {p : ℕ} {l w w1 l′ w′ : List ℕ} (n : ℕ) (hp : p < 8) (g : Masks 265 32 l) (c : Took w p n w1) (e : l′ ≡ stepped (nodeIn q n) p n l) (m : Moves l w1 l′ w′) where
+  next-masks : Masks 265 32 l′
+  next-masks = rw e (step-masks (nodeIn q n) p n l g)
+
+  pub next-less : left 265 8 l′ w′ < left 265 8 l w
+  next-less = less-left 265 8 l w w1 l′ w′ (masks-sum next-masks) (masks-sum (m .small (c .small))) (m .up) (m .stays) (c .fewer)
+
+module _ {q : Proc} {p : ℕ} {l₀ w₀ l w w1 l′ w′ : List ℕ} (n : ℕ) (hp : p < 8) (g : Going q p l₀ w₀ l w) (c : Took w p n w1) (e : l′ ≡ stepped (nodeIn q n) p n l) (m : Moves l w1 l′ w′) where
+  pub going-next : Going q p l₀ w₀ l′ w′
+  going-next = record {
+    masks = next-masks q n hp (g .masks) c e m;
+    todo = m .small (c .small);
+    keeps = λ t o z k. work-next t o p n hp (g .keeps t o z k) c (subst (λ (x : Proc). l′ ≡ stepped (nodeIn x n) p n l) (sym z) e) m;
+    less = inl (go (g .less));
+  }
+    where
+      go : (left 265 8 l w < left 265 8 l₀ w₀) ⊎ ((l ≡ l₀) × (w ≡ w₀)) → left 265 8 l′ w′ < left 265 8 l₀ w₀
+      go (inl x) = lt-trans (next-less q n hp (g .masks) c e m) x
+      go (inr x) = rw (x .0, x .1) at (next-less q n hp (g .masks) c e m)
+
+-- what the work on procedure p does
+pub record Works (q : Proc) (p : ℕ) (l w l′ w′ : List ℕ) : Type 0 where
+  pub keeps : (t : Table) (o : Ready t) → procAt t p ≡ q → Work t o l w → Work t o l′ w′
+  pub less : cell w p ≢ 0 → left 265 8 l′ w′ < left 265 8 l w
+
+pub going-end : {q : Proc} {p : ℕ} {l w l′ w′ : List ℕ} → Going q p l w l′ w′ → cell w′ p ≡ 0 → Works q p l w l′ w′
+going-end {q} {p} {l} {w} {l′} {w′} g z = record { keeps = g .keeps; less = λ f. go f (g .less) }
+  where
+    go : cell w p ≢ 0 → (left 265 8 l′ w′ < left 265 8 l w) ⊎ ((l′ ≡ l) × (w′ ≡ w)) → left 265 8 l′ w′ < left 265 8 l w
+    go f (inl x) = x
+    go f (inr x) = absurd (f (ap (λ (y : List ℕ). cell y p) (sym (x .1)) ∙ z))
+
+-- a procedure with a node that is to be seen, or none
+pub record Pending (w : List ℕ) (p : ℕ) : Type 0 where
+  pub some′ : p < 8 → cell w p ≢ 0
+  pub none′ : 8 ≤ p → (a : ℕ) → a < 8 → cell w a ≡ 0
+
+-- ---- before the first node
+
+cell-each : (n v a : ℕ) → a < n → cell (replicate n v) a ≡ v
+cell-each zero v a h = absurd (omega arith)
+cell-each (suc n) v zero h = refl
+cell-each (suc n) v (suc a) h = cell-each n v a (omega arith)
+
+pub full : Full (replicate 8 4294967295)
+full = (length-replicate {A = ℕ} 8 4294967295, λ a h. cell-each 8 4294967295 a h)
+
+pub full-pending : {w : List ℕ} → Full w → Pending w 0
+full-pending f = record { some′ = λ h e. let z = f .1 0 h in omega arith; none′ = λ h. absurd (omega arith) }
