@@ -42,6 +42,17 @@ low-bit m h z = let i = least 32 m h z in rw (mod-eq-of-lt (i .0)) (i .1)
 
 -- ---- a number is taken out of a mask
 
+-- node n of procedure p is to be seen, if so
+pub record Leads (p n : ℕ) (on : Bool) (w : List ℕ) : Type 0 where
+  pub low : n < 32
+  pub marked : on ≡ true → bit n (cell w p) ≡ true
+
+pub leads-low : {n : ℕ} {on : Bool} (p : ℕ) (w : List ℕ) → Masks 8 32 w → cell w p ≢ 0 → n ≡ low (cell w p) → Leads p n on w
+leads-low {n} p w g z e = record { low = omega arith; marked = λ y. rw e (low-bit (cell w p) (g .below p) z) }
+
+pub leads-yes : {p n : ℕ} {on : Bool} {w : List ℕ} → on ≡ true → Leads p n on w → Leads p n true w
+leads-yes e d = record { low = d .low; marked = λ y. d .marked e }
+
 -- w1 is w, with n taken out of its mask p
 pub record Took (w : List ℕ) (p n : ℕ) (w1 : List ℕ) : Type 0 where
   pub low : n < 32
@@ -78,8 +89,8 @@ sum-set [] a v h = absurd (omega arith)
 sum-set (x ∷ l) zero v h = omega arith
 sum-set (x ∷ l) (suc a) v h = omega (arith, sum-set l a v (omega arith))
 
-pub took : {w w1 : List ℕ} (p n : ℕ) → p < 8 → Masks 8 32 w → cell w p ≢ 0 → n ≡ low (cell w p) → w1 ≡ set w p (without (cell w p) n) → Took w p n w1
-took {w} {w1} p n hp g z e f = rw f (record {
+pub took : {w w1 : List ℕ} (p n : ℕ) → p < 8 → Masks 8 32 w → Leads p n true w → w1 ≡ set w p (without (cell w p) n) → Took w p n w1
+took {w} {w1} p n hp g z f = rw f (record {
   low = hn;
   fewer = omega (arith, sum-set w p (without (cell w p) n) hs, less);
   small = record { size = length-set w p _ ∙ g .size; below = below };
@@ -87,13 +98,13 @@ took {w} {w1} p n hp g z e f = rw f (record {
 })
   where
     hn : n < 32
-    hn = omega arith
+    hn = z .low
 
     hs : p < length w
     hs = omega (arith, g .size)
 
     has : bit n (cell w p) ≡ true
-    has = rw e (low-bit (cell w p) (g .below p) z)
+    has = z .marked refl
 
     less : without (cell w p) n < cell w p
     less = without-less (cell w p) n (g .below p) hn has

@@ -7,7 +7,7 @@ use mathlib.Core.Bool.{Bool, true, false, false≢true, true≢false}
 use mathlib.Core.Logic.{_⊎_, inl, inr, _≢_}
 use mathlib.Core.List.{List}
 use lib.ListN.{length, set, replicate, length-set, length-replicate}
-use lib.Seq.{getD-set-other, set-getD}
+use lib.Seq.{getD-set-same, getD-set-other, set-getD}
 use lib.Bits.{bitOr}
 use lib.Pow.{pow-lt}
 use lib.Dec.{eqb, ltb}
@@ -17,7 +17,7 @@ use Rattle.table.specs.Table.{procAt, nodeAt, nodeIn}
 use Rattle.table.specs.declared.Node.{Node}
 use Rattle.table.specs.declared.Proc.{Proc}
 use Rattle.table.specs.declared.Table.{Table}
-use Rattle.masks.specs.Bits.{bit-zero, bit-one, bit-low}
+use Rattle.masks.specs.Bits.{bit-zero, bit-one, bit-low, bit-or-r}
 use Rattle.masks.specs.Cells.{cell, sum, grown, Masks, masks-sum, Grows, Flag, grown-grows, grown-has, grown-adds, grown-masks, Filled, filled-masks}
 use Rattle.flow.specs.declared.Flow.{Flow}
 use Rattle.flow.specs.Flow.{flowOf}
@@ -27,7 +27,7 @@ use Rattle.analysis.specs.Decides.{Decides}
 use Rattle.analysis.specs.Steps.{In, entered, passedOn, stepWith, Held, Rests}
 use Rattle.analysis.specs.NodeLaws.{Places, flow-places, flow-small}
 use Rattle.analysis.specs.Decide.{Good, step-good, start-good, decided}
-use Rattle.analysis.specs.Todo.{Took}
+use Rattle.analysis.specs.Todo.{Leads, Took}
 
 -- 265 cells, and 8 masks of nodes
 abbrev pub Sized : List ℕ → List ℕ → Type 0
@@ -98,6 +98,17 @@ module _ {l l′ w w′ : List ℕ} {yes′ : Bool} (p n m : ℕ) (hp : p < 8) (
       go : (y : Bool) → yes′ ≡ y → w′ ≡ set w p (pick y (bitOr (cell w p) (1 * 2 ^ n)) (cell w p)) → Moves l w l′ w′
       go true y z = reach-new y (z ∙ ap (λ (x : ℕ). set w p (bitOr (cell w p) x)) (one-mul (2 ^ n)))
       go false y z = rw (f .same y, z ∙ set-getD w p 0) (moves-refl l w)
+
+pub reach-leads : {w′ : List ℕ} {yes′ : Bool} (w : List ℕ) (p n : ℕ) → p < 8 → n < 32 → length w ≡ 8 → w′ ≡ set w p (pick yes′ (bitOr (cell w p) (1 * 2 ^ n)) (cell w p)) → Leads p n yes′ w′
+reach-leads {w′} {yes′} w p n hp hn s z = record { low = hn; marked = λ y. go yes′ y z }
+  where
+    go : (y : Bool) → y ≡ true → w′ ≡ set w p (pick y (bitOr (cell w p) (1 * 2 ^ n)) (cell w p)) → bit n (cell w′ p) ≡ true
+    go true y z = rw (z, getD-set-same w p (bitOr (cell w p) (1 * 2 ^ n)) 0 (omega arith)) (bit-or-r n (cell w p) (1 * 2 ^ n) (rw (one-mul (2 ^ n)) (bit-one n)))
+    go false y z = absurd (false≢true y)
+
+-- what is to be seen stays so
+pub leads-on : {l w l′ w′ : List ℕ} {p n : ℕ} {on : Bool} → p < 8 → Leads p n on w → Moves l w l′ w′ → Leads p n on w′
+leads-on {l} {w} {l′} {w′} {p} {n} hp d m = record { low = d .low; marked = λ y. cases (bit n (cell w′ p)) (λ e. e) (λ e. absurd (true≢false (sym (d .marked y) ∙ m .keeps p n hp (d .low) e .0))) }
 
 pub drop-moves : {l l′ w : List ℕ} (k m : ℕ) → k < 8 → l′ ≡ grown l (256 + k) m → Moves l w l′ w
 drop-moves {l} {l′} {w} k m hk e = rw e (record {
@@ -269,17 +280,39 @@ module _ (q : Proc) {p : ℕ} {l w w1 l′ w′ : List ℕ} (n : ℕ) (hp : p < 
   next-less = less-left 265 8 l w w1 l′ w′ (masks-sum next-masks) (masks-sum (m .small (c .small))) (m .up) (m .stays) (c .fewer)
 
 module _ {q : Proc} {p : ℕ} {l₀ w₀ l w w1 l′ w′ : List ℕ} (n : ℕ) (hp : p < 8) (g : Going q p l₀ w₀ l w) (c : Took w p n w1) (e : l′ ≡ stepped (nodeIn q n) p n l) (m : Moves l w1 l′ w′) where
-  pub going-next : Going q p l₀ w₀ l′ w′
-  going-next = record {
-    masks = next-masks q n hp (g .masks) c e m;
-    todo = m .small (c .small);
-    keeps = λ t o z k. work-next t o p n hp (g .keeps t o z k) c (subst (λ (x : Proc). l′ ≡ stepped (nodeIn x n) p n l) (sym z) e) m;
-    less = inl (go (g .less));
-  }
+  fallen-next : left 265 8 l′ w′ < left 265 8 l₀ w₀
+  fallen-next = go (g .less)
     where
       go : (left 265 8 l w < left 265 8 l₀ w₀) ⊎ ((l ≡ l₀) × (w ≡ w₀)) → left 265 8 l′ w′ < left 265 8 l₀ w₀
       go (inl x) = lt-trans (next-less q n hp (g .masks) c e m) x
       go (inr x) = rw (x .0, x .1) at (next-less q n hp (g .masks) c e m)
+
+  going-next : Going q p l₀ w₀ l′ w′
+  going-next = record {
+    masks = next-masks q n hp (g .masks) c e m;
+    todo = m .small (c .small);
+    keeps = λ t o z k. work-next t o p n hp (g .keeps t o z k) c (subst (λ (x : Proc). l′ ≡ stepped (nodeIn x n) p n l) (sym z) e) m;
+    less = inl fallen-next;
+  }
+
+-- along a chain from l₀ and w₀: the next node is n, if the chain goes on
+pub record Along (q : Proc) (p : ℕ) (l₀ w₀ l w : List ℕ) (n : ℕ) (on : Bool) : Type 0 where
+  pub going : Going q p l₀ w₀ l w
+  pub leads : Leads p n on w
+  pub fallen : on ≡ false → left 265 8 l w < left 265 8 l₀ w₀
+
+pub along-start : (q : Proc) {p n : ℕ} {l w : List ℕ} → Masks 265 32 l → Masks 8 32 w → Leads p n true w → Along q p l w l w n true
+along-start q {p} {n} {l} {w} g h d = record { going = going-start q p l w g h; leads = d; fallen = λ e. absurd (true≢false e) }
+
+pub along-next : {q : Proc} {p n′ : ℕ} {on on′ : Bool} {l₀ w₀ l w w1 l′ w′ : List ℕ} (n : ℕ) → p < 8 → Along q p l₀ w₀ l w n on → Took w p n w1 → l′ ≡ stepped (nodeIn q n) p n l → Moves l w1 l′ w′ → Leads p n′ on′ w′ → Along q p l₀ w₀ l′ w′ n′ on′
+along-next n hp g c e m d = record { going = going-next n hp (g .going) c e m; leads = d; fallen = λ z. fallen-next n hp (g .going) c e m }
+
+pub along-end : {q : Proc} {p n : ℕ} {on : Bool} {l₀ w₀ l w l′ w′ : List ℕ} → Going q p l₀ w₀ l w → Along q p l w l′ w′ n on → on ≡ false → Going q p l₀ w₀ l′ w′
+along-end {q} {p} {n} {on} {l₀} {w₀} {l} {w} {l′} {w′} f g e = record { masks = g .going .masks; todo = g .going .todo; keeps = λ t o z k. g .going .keeps t o z (f .keeps t o z k); less = inl (go (f .less)) }
+  where
+    go : (left 265 8 l w < left 265 8 l₀ w₀) ⊎ ((l ≡ l₀) × (w ≡ w₀)) → left 265 8 l′ w′ < left 265 8 l₀ w₀
+    go (inl x) = lt-trans (g .fallen e) x
+    go (inr x) = rw (x .0, x .1) at (g .fallen e)
 
 -- what the work on procedure p does
 pub record Works (q : Proc) (p : ℕ) (l w l′ w′ : List ℕ) : Type 0 where

@@ -5,7 +5,7 @@ use table::Slot;
 use table::Table;
 use table::Task;
 ghost use mathlib.Core.Path.{_≡_};
-ghost use mathlib.Core.Logic.{_≢_};
+ghost use mathlib.Core.Bool.{true};
 ghost use Prim.Native.Nat.{ℕ, _<_, _≤_, _^_, _+_, _-_, _*_};
 ghost use lib.ListN.{length, getD, replicate};
 ghost use lib.Bits.{bitOr};
@@ -15,7 +15,7 @@ ghost use Rattle.flow.specs.Flow.{flowOf};
 ghost use Rattle.analysis.specs.Ready.{Ready};
 ghost use Rattle.analysis.specs.Decides.{Decides, KeptMasks};
 ghost use Rattle.analysis.specs.Steps.{entered, passedOn, stepWith, topStep, keptIn};
-ghost use Rattle.analysis.specs.Todo.{Took, without};
+ghost use Rattle.analysis.specs.Todo.{Leads, Took, without};
 ghost use Rattle.analysis.specs.Work.{Sized, Moves, Full, Works, Pending};
 
 // The mask m is added to the cell a; the answer says whether something was new.
@@ -38,16 +38,18 @@ fn with(m: u32, n: usize, yes: bool) -> u32
     if yes { m | (1 << (n as u32)) } else { m }
 }
 
-// The mask m is added to the cell of node n of procedure p. If something was new, the node is to be seen.
-fn reach(cells: &mut [u32; 265], todo: &mut [u32; 8], p: usize, n: usize, m: u32)
+// The mask m is added to the cell of node n of procedure p. If something was new, which is the answer, the node is to be seen.
+fn reach(cells: &mut [u32; 265], todo: &mut [u32; 8], p: usize, n: usize, m: u32) -> bool
     requires { ⌜ (p < 8) × ((n < 32) × Sized (now cells) (now todo)) ⌝ }
     ensures list { λ r. ⌜ now (cells .exit) ≡ grown (now (cells .entry)) (p * 32 + n) m ⌝ }
     ensures moves { λ r. ⌜ Moves (now (cells .entry)) (now (todo .entry)) (now (cells .exit)) (now (todo .exit)) ⌝ }
+    ensures marked { λ r. ⌜ Leads p n r (now (todo .exit)) ⌝ }
 {
     let at = p * 32 + n;
     let yes = grow(cells, at, m);
     let w = todo[p];
     todo[p] = with(w, n, yes);
+    yes
 }
 
 // The parameters m of procedure k are dropped.
@@ -98,11 +100,18 @@ fn pass_on(cells: &mut [u32; 265], todo: &mut [u32; 8], a: usize, m: u32)
     blank(cells, todo, m);
 }
 
+// The first target of a node, and whether it is to be seen.
+struct Next {
+    on: bool,
+    to: usize,
+}
+
 // One node: what is dirty before it goes where the node leads.
-fn visit(x: Node, p: usize, n: usize, cells: &mut [u32; 265], todo: &mut [u32; 8])
+fn visit(x: Node, p: usize, n: usize, cells: &mut [u32; 265], todo: &mut [u32; 8]) -> Next
     requires { ⌜ (p < 8) × ((n < 32) × Sized (now cells) (now todo)) ⌝ }
     ensures list { λ r. ⌜ now (cells .exit) ≡ stepWith (flowOf x n (cell (now (cells .entry)) (p * 32 + n)) (cell (now (cells .entry)) 264)) p (now (cells .entry)) ⌝ }
     ensures moves { λ r. ⌜ Moves (now (cells .entry)) (now (todo .entry)) (now (cells .exit)) (now (todo .exit)) ⌝ }
+    ensures next { λ r. ⌜ Leads p (r .to) (r .on) (now (todo .exit)) ⌝ }
 {
     let at = p * 32 + n;
     let i = cells[at];
@@ -113,9 +122,10 @@ fn visit(x: Node, p: usize, n: usize, cells: &mut [u32; 265], todo: &mut [u32; 8
     let second = f.second;
     let extra = f.extra;
     let add = f.add;
-    reach(cells, todo, p, first, o);
+    let on = reach(cells, todo, p, first, o);
     reach(cells, todo, p, second, o);
     pass_on(cells, todo, extra, add);
+    Next { on, to: first }
 }
 
 // m without n.
@@ -126,27 +136,32 @@ fn minus(m: u32, n: usize) -> u32
     m ^ (m & (1 << (n as u32)))
 }
 
-// The least node of procedure p that is to be seen is taken out.
-fn take(p: usize, todo: &mut [u32; 8]) -> usize
-    requires { ⌜ (p < 8) × (Masks 8 32 (now todo) × (cell (now todo) p ≢ 0)) ⌝ }
-    ensures { λ r. ⌜ Took (now (todo .entry)) p r (now (todo .exit)) ⌝ }
+// Node n of procedure p, which is to be seen, is taken out.
+fn take(p: usize, n: usize, todo: &mut [u32; 8])
+    requires { ⌜ (p < 8) × (Masks 8 32 (now todo) × Leads p n true (now todo)) ⌝ }
+    ensures { λ r. ⌜ Took (now (todo .entry)) p n (now (todo .exit)) ⌝ }
 {
     let m = todo[p];
-    let n = flow::target(m);
     todo[p] = minus(m, n);
-    n
 }
 
-// The nodes of procedure p, until none is to be seen.
+// The nodes of procedure p, until none is to be seen: along each chain as far as it leads.
 fn proc_work(q: Proc, p: usize, cells: &mut [u32; 265], todo: &mut [u32; 8])
     requires { ⌜ (p < 8) × (Masks 265 32 (now cells) × Masks 8 32 (now todo)) ⌝ }
     ensures { λ r. ⌜ Works q p (now (cells .entry)) (now (todo .entry)) (now (cells .exit)) (now (todo .exit)) ⌝ }
 {
     while todo[p] != 0 {
-        let n = take(p, todo);
-        let s = q.slots[n];
-        let x = s.node;
-        visit(x, p, n, cells, todo);
+        let m = todo[p];
+        let mut n = flow::target(m);
+        let mut on = true;
+        while on {
+            take(p, n, todo);
+            let s = q.slots[n];
+            let x = s.node;
+            let f = visit(x, p, n, cells, todo);
+            n = f.to;
+            on = f.on;
+        }
     }
 }
 

@@ -15,7 +15,7 @@ grow-requires : tie.Need-grow-requires
 grow-requires c κs = search needs
 
 returns : tie.Need-returns
-returns c = (entered-is _ _ (c .before .before .before .before .before .args .k) (c .before .before .before .before .before .args .m) (c .before .before .reach .ensures .0) (c .grow .ensures .0), moves-trans (c .before .before .reach .ensures .1) (drop-moves (c .before .before .before .before .before .args .k) (c .before .before .before .before .before .args .m) (c .before .before .before .before .before .pre .0) (c .grow .ensures .0)))
+returns c = (entered-is _ _ (c .before .before .before .before .before .args .k) (c .before .before .before .before .before .args .m) (c .before .before .reach .ensures .0) (c .grow .ensures .0), moves-trans (c .before .before .reach .ensures .1 .0) (drop-moves (c .before .before .before .before .before .args .k) (c .before .before .before .before .before .args .m) (c .before .before .before .before .before .pre .0) (c .grow .ensures .0)))
 
 pub enter-spec : {M : Type 1} → statement M
 enter-spec = tie.close (tie.spec reach-requires add-grow grow-requires returns)
