@@ -6,19 +6,19 @@ use Rattle.analysis.proofs.proc_work.Statement.{statement}
 use Rattle.analysis.proofs.proc_work.Tie as tie
 
 abbrev Inv-loop2 : tie.InvT-loop2
-Inv-loop2 p cells₀ todo₀ q m n₀ on₀ cells todo n on = Along q p cells₀ todo₀ cells todo n on
+Inv-loop2 p cells₀ todo₀ recvs q m n₀ on₀ cells todo n on = Along recvs q p cells₀ todo₀ cells todo n on
 
 abbrev μ-loop2 : tie.MeasureT-loop2
-μ-loop2 p cells₀ todo₀ q m n₀ on₀ cells todo n on = left 265 8 cells todo
+μ-loop2 p cells₀ todo₀ recvs q m n₀ on₀ cells todo n on = left 265 8 cells todo
 
 abbrev Inv-loop : tie.InvT-loop
-Inv-loop p cells₀ todo₀ q cells todo = Going q p cells₀ todo₀ cells todo
+Inv-loop p cells₀ todo₀ recvs q cells todo = Going recvs q p cells₀ todo₀ cells todo
 
 abbrev μ-loop : tie.MeasureT-loop
-μ-loop p cells₀ todo₀ q cells todo = left 265 8 cells todo
+μ-loop p cells₀ todo₀ recvs q cells todo = left 265 8 cells todo
 
 loop-holds : tie.Need-loop-holds Inv-loop2 μ-loop2 Inv-loop μ-loop
-loop-holds c = going-start _ _ _ _ (c .pre .1 .0) (c .pre .1 .1)
+loop-holds c = going-start _ _ _ _ _ (c .pre .1 .0) (c .pre .1 .1 .0)
 
 mul-if1 : tie.Need-mul-if1 Inv-loop2 μ-loop2 Inv-loop μ-loop
 mul-if1 c = search needs
@@ -36,7 +36,7 @@ target-requires : tie.Need-target-requires Inv-loop2 μ-loop2 Inv-loop μ-loop
 target-requires c κs = search needs
 
 loop2-holds : tie.Need-loop2-holds Inv-loop2 μ-loop2 Inv-loop μ-loop
-loop2-holds c = let h = c .before .before .before .before .loop in along-start _ (h .inv .masks) (h .inv .todo) (leads-low (c .before .before .before .before .before .args .p) (h .todo) (h .inv .todo) (c .before .before .if1 .taken) (c .target .ensures))
+loop2-holds c = let h = c .before .before .before .before .loop in along-start _ _ (h .inv .masks) (h .inv .todo) (leads-low (c .before .before .before .before .before .args .p) (h .todo) (h .inv .todo) (c .before .before .if1 .taken) (c .target .ensures))
 
 loop-less : tie.Need-loop-less Inv-loop2 μ-loop2 Inv-loop μ-loop
 loop-less c = c .before .loop2 .inv .fallen (c .loop2-test .left)
@@ -54,7 +54,7 @@ element-copy-out-s : tie.Need-element-copy-out-s Inv-loop2 μ-loop2 Inv-loop μ-
 element-copy-out-s c = c .take .ensures .low
 
 visit-requires : tie.Need-visit-requires Inv-loop2 μ-loop2 Inv-loop μ-loop
-visit-requires c κs = (c .before .before .before .before .before .before .before .before .before .before .before .before .pre .0, (c .before .before .before .take .ensures .low, (c .before .before .before .before .before .before .loop2 .inv .going .masks .size, c .before .before .before .take .ensures .small .size)))
+visit-requires c κs = (c .before .before .before .before .before .before .before .before .before .before .before .before .pre .0, (c .before .before .before .take .ensures .low, ((c .before .before .before .before .before .before .loop2 .inv .going .masks .size, c .before .before .before .take .ensures .small .size), c .before .before .before .before .before .before .before .before .before .before .before .before .pre .1 .1 .1)))
 
 loop2-less : tie.Need-loop2-less Inv-loop2 μ-loop2 Inv-loop μ-loop
 loop2-less c = next-less (c .before .before .before .before .before .before .before .before .before .before .before .before .before .args .t1) _ (c .before .before .before .before .before .before .before .before .before .before .before .before .before .pre .0) (c .before .before .before .before .before .before .before .loop2 .inv .going .masks) (c .before .before .before .before .take .ensures) (c .visit .ensures .0) (c .visit .ensures .1 .0)
