@@ -1,23 +1,22 @@
 -- Masks of what is still to be done: a step takes one number out of a mask, and adds again what has to be seen once more.
-use Prim.Native.Nat.{ℕ, zero, suc, _+_, _*_, _-_, _/_, _%_, _^_, _<_, _≤_}
+use Prim.Native.Nat.{ℕ, zero, suc, _+_, _*_, _-_, _/_, _%_, _^_, _<_}
 use native.Mathlib.Omega.{arith}
-use native.Mathlib.Nat.{pow-suc, mod-eq-of-lt, suc-mul, mul-le-mul-right, one-mul}
-use mathlib.Core.Path.{_≡_, refl, sym, _∙_, ap, subst}
+use native.Mathlib.Nat.{pow-suc, mod-eq-of-lt}
+use mathlib.Core.Path.{_≡_, refl, sym, _∙_, ap}
 use mathlib.Core.Bool.{Bool, true, false, not, _&&_, _||_, false≢true, true≢false}
 use mathlib.Core.Logic.{_⊎_, inl, inr, _≢_}
 use mathlib.Core.List.{List, [], _∷_}
-use lib.ListN.{length, set, replicate, length-set, length-replicate}
-use lib.Seq.{getD-set-same, getD-set-other, set-out, set-getD}
+use lib.ListN.{length, set, length-set}
+use lib.Seq.{getD-set-same, getD-set-other}
 use lib.Bits.{bitOr, bitAnd, bitXor, or-lt, and-lt, xor-lt}
 use lib.Pow.{pow-lt, shr-shr}
 use lib.Count.{trailingZeros, under}
-use lib.Dec.{eqb, ltb}
-use borrow.Author.Tests.{eqb-true, eqb-false, ltb-true, ltb-false}
-use Rattle.table.specs.Mask.{pick, bit}
-use Rattle.masks.specs.Bits.{bit-of, bit-or, bit-and, bit-minus, bit-one, bit-one-out, bit-ext, le-or, bit-or-l, bit-or-r, bit-or-out, bit-low}
-use Rattle.masks.specs.Cells.{cell, sum, grown, Masks, masks-sum, Grows, Flag, grown-grows, grown-has, Filled, filled-masks}
+use lib.Dec.{eqb}
+use borrow.Author.Tests.{eqb-true, eqb-false}
+use Rattle.table.specs.Mask.{bit}
+use Rattle.masks.specs.Bits.{bit-of, bit-or, bit-minus, bit-one, bit-one-out, bit-ext, le-or}
+use Rattle.masks.specs.Cells.{cell, sum, Masks}
 use Rattle.flow.specs.Flow.{low}
-use Rattle.closing.specs.ReachLaws.{cases}
 
 -- ---- the least element of a mask
 

@@ -11,22 +11,22 @@ use lib.Seq.{getD-set-same, getD-set-other, set-getD}
 use lib.Bits.{bitOr, or-lt}
 use lib.Pow.{pow-lt}
 use lib.Dec.{eqb, ltb}
-use borrow.Author.Tests.{eqb-true, eqb-false, ltb-true, ltb-false}
+use borrow.Author.Tests.{eqb-true, eqb-false}
 use Rattle.table.specs.Mask.{pick, bit}
 use Rattle.table.specs.Table.{procAt, nodeAt, nodeIn}
 use Rattle.table.specs.declared.Node.{Node}
 use Rattle.table.specs.declared.Proc.{Proc}
 use Rattle.table.specs.declared.Table.{Table}
 use Rattle.masks.specs.Bits.{bit-zero, bit-one, bit-low, bit-or-l, bit-or-r}
-use Rattle.masks.specs.Cells.{cell, sum, grown, Masks, masks-sum, Grows, Flag, grown-grows, grown-has, grown-adds, grown-masks, Filled, filled-masks, set-more}
+use Rattle.masks.specs.Cells.{cell, sum, grown, Masks, masks-sum, Flag, grown-grows, grown-has, grown-adds, grown-masks, Filled, filled-masks, set-more}
 use Rattle.flow.specs.declared.Flow.{Flow}
 use Rattle.flow.specs.Flow.{flowOf}
 use Rattle.closing.specs.ReachLaws.{cases}
 use Rattle.analysis.specs.Ready.{Ready}
 use Rattle.analysis.specs.Decides.{Decides}
-use Rattle.analysis.specs.Steps.{In, entered, passedOn, stepWith, Held, Rests}
+use Rattle.analysis.specs.Steps.{entered, passedOn, stepWith, Held, Rests}
 use Rattle.analysis.specs.NodeLaws.{Places, flow-places, flow-small}
-use Rattle.analysis.specs.Decide.{Good, step-good, start-good, decided}
+use Rattle.analysis.specs.Decide.{Good, step-good, decided}
 use Rattle.analysis.specs.Todo.{Leads, Took}
 use Rattle.analysis.specs.Receivers.{Receivers, flow-blank}
 

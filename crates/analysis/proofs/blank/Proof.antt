@@ -1,6 +1,5 @@
 use Rattle.analysis.specs.Work.{blank-moves, same-moves}
 use native.Mathlib.Omega.{arith}
-use borrow.Author.Needs.{needs}
 use Rattle.analysis.proofs.blank.Statement.{statement}
 use Rattle.analysis.proofs.blank.Tie as tie
 

@@ -1,7 +1,6 @@
 use Rattle.analysis.specs.Work.{reach-moves, reach-leads}
 use lib.ListN.{set}
 use mathlib.Core.Path.{ap}
-use native.Mathlib.Omega.{arith}
 use borrow.Author.Needs.{needs}
 use Rattle.analysis.proofs.reach.Statement.{statement}
 use Rattle.analysis.proofs.reach.Tie as tie

@@ -1,7 +1,6 @@
 use Rattle.analysis.specs.Todo.{took}
 use lib.ListN.{set}
 use mathlib.Core.Path.{ap}
-use native.Mathlib.Omega.{arith}
 use borrow.Author.Needs.{needs}
 use Rattle.analysis.proofs.take.Statement.{statement}
 use Rattle.analysis.proofs.take.Tie as tie

@@ -1,6 +1,5 @@
 use Rattle.analysis.specs.StepLaws.{places, step-is}
 use Rattle.analysis.specs.Work.{sized-after, moves-trans, leads-on}
-use native.Mathlib.Omega.{arith}
 use borrow.Author.Needs.{needs}
 use Rattle.analysis.proofs.visit.Statement.{statement}
 use Rattle.analysis.proofs.visit.Tie as tie
