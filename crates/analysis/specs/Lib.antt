@@ -5,6 +5,7 @@ pub mod NodeLaws
 pub mod StepLaws
 pub mod Decide
 pub mod Todo
+pub mod Receivers
 pub mod Work
 pub mod KeptLaws
 pub mod ReadyLaws

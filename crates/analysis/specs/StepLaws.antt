@@ -1,12 +1,11 @@
 -- A step from the lists that the code makes on the way.
-use Prim.Native.Nat.{ℕ, _+_, _-_, _*_, _^_, _<_, _≤_}
+use Prim.Native.Nat.{ℕ, _+_, _-_, _*_, _^_, _<_}
 use native.Mathlib.Omega.{arith}
 use mathlib.Core.Path.{_≡_, subst}
 use mathlib.Core.List.{List}
 use borrow.Author.Tests.{lt-ltb}
 use Rattle.table.specs.Table.{procAt, taskAt}
 use Rattle.table.specs.declared.Node.{Node}
-use Rattle.table.specs.declared.Proc.{Proc}
 use Rattle.table.specs.declared.Table.{Table}
 use Rattle.masks.specs.Cells.{cell, grown}
 use Rattle.flow.specs.declared.Flow.{Flow}

@@ -1,23 +1,22 @@
 -- Masks of what is still to be done: a step takes one number out of a mask, and adds again what has to be seen once more.
-use Prim.Native.Nat.{ℕ, zero, suc, _+_, _*_, _-_, _/_, _%_, _^_, _<_, _≤_}
+use Prim.Native.Nat.{ℕ, zero, suc, _+_, _*_, _-_, _/_, _%_, _^_, _<_}
 use native.Mathlib.Omega.{arith}
-use native.Mathlib.Nat.{pow-suc, mod-eq-of-lt, suc-mul, mul-le-mul-right, one-mul}
-use mathlib.Core.Path.{_≡_, refl, sym, _∙_, ap, subst}
+use native.Mathlib.Nat.{pow-suc, mod-eq-of-lt}
+use mathlib.Core.Path.{_≡_, refl, sym, _∙_, ap}
 use mathlib.Core.Bool.{Bool, true, false, not, _&&_, _||_, false≢true, true≢false}
 use mathlib.Core.Logic.{_⊎_, inl, inr, _≢_}
 use mathlib.Core.List.{List, [], _∷_}
-use lib.ListN.{length, set, replicate, length-set, length-replicate}
-use lib.Seq.{getD-set-same, getD-set-other, set-out, set-getD}
+use lib.ListN.{length, set, length-set}
+use lib.Seq.{getD-set-same, getD-set-other}
 use lib.Bits.{bitOr, bitAnd, bitXor, or-lt, and-lt, xor-lt}
 use lib.Pow.{pow-lt, shr-shr}
 use lib.Count.{trailingZeros, under}
-use lib.Dec.{eqb, ltb}
-use borrow.Author.Tests.{eqb-true, eqb-false, ltb-true, ltb-false}
-use Rattle.table.specs.Mask.{pick, bit}
-use Rattle.masks.specs.Bits.{bit-of, bit-or, bit-and, bit-minus, bit-one, bit-one-out, bit-ext, le-or, bit-or-l, bit-or-r, bit-or-out, bit-low}
-use Rattle.masks.specs.Cells.{cell, sum, grown, Masks, masks-sum, Grows, Flag, grown-grows, grown-has, Filled, filled-masks}
+use lib.Dec.{eqb}
+use borrow.Author.Tests.{eqb-true, eqb-false}
+use Rattle.table.specs.Mask.{bit}
+use Rattle.masks.specs.Bits.{bit-of, bit-or, bit-minus, bit-one, bit-one-out, bit-ext, le-or}
+use Rattle.masks.specs.Cells.{cell, sum, Masks}
 use Rattle.flow.specs.Flow.{low}
-use Rattle.closing.specs.ReachLaws.{cases}
 
 -- ---- the least element of a mask
 
@@ -41,6 +40,17 @@ pub low-bit : (m : ℕ) → m < 2 ^ 32 → m ≢ 0 → bit (low m) m ≡ true
 low-bit m h z = let i = least 32 m h z in rw (mod-eq-of-lt (i .0)) (i .1)
 
 -- ---- a number is taken out of a mask
+
+-- node n of procedure p is to be seen, if so
+pub record Leads (p n : ℕ) (on : Bool) (w : List ℕ) : Type 0 where
+  pub low : n < 32
+  pub marked : on ≡ true → bit n (cell w p) ≡ true
+
+pub leads-low : {n : ℕ} {on : Bool} (p : ℕ) (w : List ℕ) → Masks 8 32 w → cell w p ≢ 0 → n ≡ low (cell w p) → Leads p n on w
+leads-low {n} p w g z e = record { low = omega arith; marked = λ y. rw e (low-bit (cell w p) (g .below p) z) }
+
+pub leads-yes : {p n : ℕ} {on : Bool} {w : List ℕ} → on ≡ true → Leads p n on w → Leads p n true w
+leads-yes e d = record { low = d .low; marked = λ y. d .marked e }
 
 -- w1 is w, with n taken out of its mask p
 pub record Took (w : List ℕ) (p n : ℕ) (w1 : List ℕ) : Type 0 where
@@ -78,8 +88,8 @@ sum-set [] a v h = absurd (omega arith)
 sum-set (x ∷ l) zero v h = omega arith
 sum-set (x ∷ l) (suc a) v h = omega (arith, sum-set l a v (omega arith))
 
-pub took : {w w1 : List ℕ} (p n : ℕ) → p < 8 → Masks 8 32 w → cell w p ≢ 0 → n ≡ low (cell w p) → w1 ≡ set w p (without (cell w p) n) → Took w p n w1
-took {w} {w1} p n hp g z e f = rw f (record {
+pub took : {w w1 : List ℕ} (p n : ℕ) → p < 8 → Masks 8 32 w → Leads p n true w → w1 ≡ set w p (without (cell w p) n) → Took w p n w1
+took {w} {w1} p n hp g z f = rw f (record {
   low = hn;
   fewer = omega (arith, sum-set w p (without (cell w p) n) hs, less);
   small = record { size = length-set w p _ ∙ g .size; below = below };
@@ -87,13 +97,13 @@ took {w} {w1} p n hp g z e f = rw f (record {
 })
   where
     hn : n < 32
-    hn = omega arith
+    hn = z .low
 
     hs : p < length w
     hs = omega (arith, g .size)
 
     has : bit n (cell w p) ≡ true
-    has = rw e (low-bit (cell w p) (g .below p) z)
+    has = z .marked refl
 
     less : without (cell w p) n < cell w p
     less = without-less (cell w p) n (g .below p) hn has

@@ -7,54 +7,56 @@ use mathlib.Core.Bool.{Bool, true, false, false≢true, true≢false}
 use mathlib.Core.Logic.{_⊎_, inl, inr, _≢_}
 use mathlib.Core.List.{List}
 use lib.ListN.{length, set, replicate, length-set, length-replicate}
-use lib.Seq.{getD-set-other, set-getD}
-use lib.Bits.{bitOr}
+use lib.Seq.{getD-set-same, getD-set-other, set-getD}
+use lib.Bits.{bitOr, or-lt}
 use lib.Pow.{pow-lt}
 use lib.Dec.{eqb, ltb}
-use borrow.Author.Tests.{eqb-true, eqb-false, ltb-true, ltb-false}
+use borrow.Author.Tests.{eqb-true, eqb-false}
 use Rattle.table.specs.Mask.{pick, bit}
 use Rattle.table.specs.Table.{procAt, nodeAt, nodeIn}
 use Rattle.table.specs.declared.Node.{Node}
 use Rattle.table.specs.declared.Proc.{Proc}
 use Rattle.table.specs.declared.Table.{Table}
-use Rattle.masks.specs.Bits.{bit-zero, bit-one, bit-low}
-use Rattle.masks.specs.Cells.{cell, sum, grown, Masks, masks-sum, Grows, Flag, grown-grows, grown-has, grown-adds, grown-masks, Filled, filled-masks}
+use Rattle.masks.specs.Bits.{bit-zero, bit-one, bit-low, bit-or-l, bit-or-r}
+use Rattle.masks.specs.Cells.{cell, sum, grown, Masks, masks-sum, Flag, grown-grows, grown-has, grown-adds, grown-masks, Filled, filled-masks, set-more}
 use Rattle.flow.specs.declared.Flow.{Flow}
 use Rattle.flow.specs.Flow.{flowOf}
 use Rattle.closing.specs.ReachLaws.{cases}
 use Rattle.analysis.specs.Ready.{Ready}
 use Rattle.analysis.specs.Decides.{Decides}
-use Rattle.analysis.specs.Steps.{In, entered, passedOn, stepWith, Held, Rests}
+use Rattle.analysis.specs.Steps.{entered, passedOn, stepWith, Held, Rests}
 use Rattle.analysis.specs.NodeLaws.{Places, flow-places, flow-small}
-use Rattle.analysis.specs.Decide.{Good, step-good, start-good, decided}
-use Rattle.analysis.specs.Todo.{Took}
+use Rattle.analysis.specs.Decide.{Good, step-good, decided}
+use Rattle.analysis.specs.Todo.{Leads, Took}
+use Rattle.analysis.specs.Receivers.{Receivers, flow-blank}
 
 -- 265 cells, and 8 masks of nodes
 abbrev pub Sized : List ℕ → List ℕ → Type 0
 Sized l w = (length l ≡ 265) × (length w ≡ 8)
 
--- The cells grow from l to l′, the nodes to be seen go from w to w′. A node that is not to be seen was not before, and what comes to it is the same.
-pub record Moves (l w l′ w′ : List ℕ) : Type 0 where
+-- The cells grow from l to l′, the nodes to be seen go from w to w′. A node that is not to be seen was not before, and what comes to it is
+-- the same; r are the nodes to which the blank queues come.
+pub record Moves (r l w l′ w′ : List ℕ) : Type 0 where
   pub has : (a k : ℕ) → bit k (cell l a) ≡ true → bit k (cell l′ a) ≡ true
   pub size : length l′ ≡ length l
   pub size-todo : length w′ ≡ length w
   pub small : Masks 8 32 w → Masks 8 32 w′
   pub up : sum l ≤ sum l′
   pub stays : sum l′ ≡ sum l → w′ ≡ w
-  pub keeps : (p n : ℕ) → p < 8 → n < 32 → bit n (cell w′ p) ≡ false → (bit n (cell w p) ≡ false) × (cell l′ (p * 32 + n) ≡ cell l (p * 32 + n)) × (cell l′ 264 ≡ cell l 264)
+  pub keeps : (p n : ℕ) → p < 8 → n < 32 → bit n (cell w′ p) ≡ false → (bit n (cell w p) ≡ false) × (cell l′ (p * 32 + n) ≡ cell l (p * 32 + n)) × (bit n (cell r p) ≡ true → cell l′ 264 ≡ cell l 264)
 
-pub moves-refl : (l w : List ℕ) → Moves l w l w
-moves-refl l w = record { has = λ a k h. h; size = refl; size-todo = refl; small = λ m. m; up = omega arith; stays = λ e. refl; keeps = λ p n hp hn h. (h, refl, refl) }
+pub moves-refl : (r l w : List ℕ) → Moves r l w l w
+moves-refl r l w = record { has = λ a k h. h; size = refl; size-todo = refl; small = λ m. m; up = omega arith; stays = λ e. refl; keeps = λ p n hp hn h. (h, refl, λ y. refl) }
 
-pub moves-trans : {l w l1 w1 l2 w2 : List ℕ} → Moves l w l1 w1 → Moves l1 w1 l2 w2 → Moves l w l2 w2
-moves-trans {l} {w} {l1} {w1} {l2} {w2} f g = record {
+pub moves-trans : {r l w l1 w1 l2 w2 : List ℕ} → Moves r l w l1 w1 → Moves r l1 w1 l2 w2 → Moves r l w l2 w2
+moves-trans {r} {l} {w} {l1} {w1} {l2} {w2} f g = record {
   has = λ a k h. g .has a k (f .has a k h);
   size = g .size ∙ f .size;
   size-todo = g .size-todo ∙ f .size-todo;
   small = λ m. g .small (f .small m);
   up = omega (arith, f .up, g .up);
   stays = λ e. g .stays (omega (arith, f .up, g .up)) ∙ f .stays (omega (arith, f .up, g .up));
-  keeps = λ p n hp hn h. let b = g .keeps p n hp hn h in let a = f .keeps p n hp hn (b .0) in (a .0, b .1 ∙ a .1, b .2 ∙ a .2);
+  keeps = λ p n hp hn h. let b = g .keeps p n hp hn h in let a = f .keeps p n hp hn (b .0) in (a .0, b .1 ∙ a .1, λ y. b .2 y ∙ a .2 y);
 }
 
 grown-other : (l : List ℕ) (a m b : ℕ) → b ≢ a → cell (grown l a m) b ≡ cell l b
@@ -65,14 +67,14 @@ grown-other l a m b h = getD-set-other l a b (bitOr (cell l a) m) 0 h
 not-before : (w : List ℕ) (p m a b : ℕ) → bit b (cell (grown w p m) a) ≡ false → bit b (cell w a) ≡ false
 not-before w p m a b h = cases (bit b (cell w a)) (λ e. absurd (true≢false (sym (grown-has w p m a b e) ∙ h))) (λ e. e)
 
-pub sized-after : {l w l′ w′ : List ℕ} → Sized l w → Moves l w l′ w′ → Sized l′ w′
+pub sized-after : {r l w l′ w′ : List ℕ} → Sized l w → Moves r l w l′ w′ → Sized l′ w′
 sized-after s f = (f .size ∙ s .0, f .size-todo ∙ s .1)
 
 -- ---- one cell grows
 
 module _ {l l′ w w′ : List ℕ} {yes′ : Bool} (p n m : ℕ) (hp : p < 8) (hn : n < 32) (s : Sized l w) (e : l′ ≡ grown l (p * 32 + n) m) (f : Flag l l′ yes′) where
-  reach-new : yes′ ≡ true → w′ ≡ grown w p (2 ^ n) → Moves l w l′ w′
-  reach-new y z = rw (e, z) (record {
+  reach-new : (r : List ℕ) → yes′ ≡ true → w′ ≡ grown w p (2 ^ n) → Moves r l w l′ w′
+  reach-new r y z = rw (e, z) (record {
     has = λ a k h. grown-has l (p * 32 + n) m a k h;
     size = grown-grows l (p * 32 + n) m .same-size;
     size-todo = grown-grows w p (2 ^ n) .same-size;
@@ -88,26 +90,37 @@ module _ {l l′ w w′ : List ℕ} {yes′ : Bool} (p n m : ℕ) (hp : p < 8) (
           let zb : b ≡ n = omega arith in
           true≢false (sym (grown-adds w p (2 ^ n) n (omega (arith, s .1)) (bit-one n)) ∙ (rw (za, zb) at h))
 
-      keep : (a b : ℕ) → a < 8 → b < 32 → bit b (cell (grown w p (2 ^ n)) a) ≡ false → (bit b (cell w a) ≡ false) × (cell (grown l (p * 32 + n) m) (a * 32 + b) ≡ cell l (a * 32 + b)) × (cell (grown l (p * 32 + n) m) 264 ≡ cell l 264)
-      keep a b ha hb h = (not-before w p (2 ^ n) a b h, grown-other l (p * 32 + n) m (a * 32 + b) (apart a b hb h), grown-other l (p * 32 + n) m 264 (λ q. omega arith))
+      keep : (a b : ℕ) → a < 8 → b < 32 → bit b (cell (grown w p (2 ^ n)) a) ≡ false → (bit b (cell w a) ≡ false) × (cell (grown l (p * 32 + n) m) (a * 32 + b) ≡ cell l (a * 32 + b)) × (bit b (cell r a) ≡ true → cell (grown l (p * 32 + n) m) 264 ≡ cell l 264)
+      keep a b ha hb h = (not-before w p (2 ^ n) a b h, grown-other l (p * 32 + n) m (a * 32 + b) (apart a b hb h), λ y. grown-other l (p * 32 + n) m 264 (λ q. omega arith))
 
-  pub reach-moves : w′ ≡ set w p (pick yes′ (bitOr (cell w p) (1 * 2 ^ n)) (cell w p)) → Moves l w l′ w′
+  pub reach-moves : w′ ≡ set w p (pick yes′ (bitOr (cell w p) (1 * 2 ^ n)) (cell w p)) → (r : List ℕ) → Moves r l w l′ w′
   unfolding grown
-  reach-moves z = go yes′ refl z
+  reach-moves z r = go yes′ refl z
     where
-      go : (y : Bool) → yes′ ≡ y → w′ ≡ set w p (pick y (bitOr (cell w p) (1 * 2 ^ n)) (cell w p)) → Moves l w l′ w′
-      go true y z = reach-new y (z ∙ ap (λ (x : ℕ). set w p (bitOr (cell w p) x)) (one-mul (2 ^ n)))
-      go false y z = rw (f .same y, z ∙ set-getD w p 0) (moves-refl l w)
+      go : (y : Bool) → yes′ ≡ y → w′ ≡ set w p (pick y (bitOr (cell w p) (1 * 2 ^ n)) (cell w p)) → Moves r l w l′ w′
+      go true y z = reach-new r y (z ∙ ap (λ (x : ℕ). set w p (bitOr (cell w p) x)) (one-mul (2 ^ n)))
+      go false y z = rw (f .same y, z ∙ set-getD w p 0) (moves-refl r l w)
 
-pub drop-moves : {l l′ w : List ℕ} (k m : ℕ) → k < 8 → l′ ≡ grown l (256 + k) m → Moves l w l′ w
-drop-moves {l} {l′} {w} k m hk e = rw e (record {
+pub reach-leads : {w′ : List ℕ} {yes′ : Bool} (w : List ℕ) (p n : ℕ) → p < 8 → n < 32 → length w ≡ 8 → w′ ≡ set w p (pick yes′ (bitOr (cell w p) (1 * 2 ^ n)) (cell w p)) → Leads p n yes′ w′
+reach-leads {w′} {yes′} w p n hp hn s z = record { low = hn; marked = λ y. go yes′ y z }
+  where
+    go : (y : Bool) → y ≡ true → w′ ≡ set w p (pick y (bitOr (cell w p) (1 * 2 ^ n)) (cell w p)) → bit n (cell w′ p) ≡ true
+    go true y z = rw (z, getD-set-same w p (bitOr (cell w p) (1 * 2 ^ n)) 0 (omega arith)) (bit-or-r n (cell w p) (1 * 2 ^ n) (rw (one-mul (2 ^ n)) (bit-one n)))
+    go false y z = absurd (false≢true y)
+
+-- what is to be seen stays so
+pub leads-on : {r l w l′ w′ : List ℕ} {p n : ℕ} {on : Bool} → p < 8 → Leads p n on w → Moves r l w l′ w′ → Leads p n on w′
+leads-on {r} {l} {w} {l′} {w′} {p} {n} hp d m = record { low = d .low; marked = λ y. cases (bit n (cell w′ p)) (λ e. e) (λ e. absurd (true≢false (sym (d .marked y) ∙ m .keeps p n hp (d .low) e .0))) }
+
+pub drop-moves : {r l l′ w : List ℕ} (k m : ℕ) → k < 8 → l′ ≡ grown l (256 + k) m → Moves r l w l′ w
+drop-moves {r} {l} {l′} {w} k m hk e = rw e (record {
   has = λ a j h. grown-has l (256 + k) m a j h;
   size = grown-grows l (256 + k) m .same-size;
   size-todo = refl;
   small = λ h. h;
   up = grown-grows l (256 + k) m .up;
   stays = λ q. refl;
-  keeps = λ a b ha hb h. (h, grown-other l (256 + k) m (a * 32 + b) (λ q. omega arith), grown-other l (256 + k) m 264 (λ q. omega arith));
+  keeps = λ a b ha hb h. (h, grown-other l (256 + k) m (a * 32 + b) (λ q. omega arith), λ y. grown-other l (256 + k) m 264 (λ q. omega arith));
 })
 
 -- every node is to be seen
@@ -120,19 +133,25 @@ full-masks {w} f = filled-masks (λ a. 4294967295) 8 32 w (f .0) (f .1) (λ a h.
 full-bit : (w : List ℕ) (p n : ℕ) → p < 8 → n < 32 → Full w → bit n (cell w p) ≡ true
 full-bit w p n hp hn f = rw (f .1 p hp) (bit-low n 32 hn)
 
-pub blank-moves : {l l′ w w′ : List ℕ} {yes′ : Bool} (m : ℕ) → length w ≡ 8 → l′ ≡ grown l 264 m → Flag l l′ yes′ → yes′ ≡ true → Full w′ → Moves l w l′ w′
-blank-moves {l} {l′} {w} {w′} m s e f y z = record {
+-- the nodes r are to be seen, too
+pub record Woken (r w w′ : List ℕ) : Type 0 where
+  pub size : length w′ ≡ 8
+  pub each : Filled (λ a. bitOr (cell w a) (cell r a)) 8 w′
+
+pub blank-moves : {r l l′ w w′ : List ℕ} {yes′ : Bool} (m : ℕ) → Masks 8 32 r → length w ≡ 8 → l′ ≡ grown l 264 m → Flag l l′ yes′ → yes′ ≡ true → Woken r w w′ → Moves r l w l′ w′
+blank-moves {r} {l} {l′} {w} {w′} m g s e f y z = record {
   has = λ a j h. rw e (grown-has l 264 m a j h);
   size = f .grows .same-size;
-  size-todo = z .0 ∙ sym s;
-  small = λ h. full-masks z;
+  size-todo = z .size ∙ sym s;
+  small = λ h. filled-masks (λ a. bitOr (cell w a) (cell r a)) 8 32 w′ (z .size) (z .each) (λ a i. or-lt 32 (cell w a) (cell r a) (h .below a) (g .below a));
   up = f .grows .up;
   stays = λ q. absurd (omega (arith, q, f .more y));
-  keeps = λ a b ha hb h. absurd (true≢false (sym (full-bit w′ a b ha hb z) ∙ h));
+  keeps = λ a b ha hb h. let k : bit b (bitOr (cell w a) (cell r a)) ≡ false = rw (z .each a ha) at h in
+      (cases (bit b (cell w a)) (λ q. absurd (true≢false (sym (bit-or-l b (cell w a) (cell r a) q) ∙ k))) (λ q. q), rw e (grown-other l 264 m (a * 32 + b) (λ q. omega arith)), λ q. absurd (true≢false (sym (bit-or-r b (cell w a) (cell r a) q) ∙ k)));
 }
 
-pub same-moves : {l l′ w : List ℕ} {yes′ : Bool} → Flag l l′ yes′ → yes′ ≡ false → Moves l w l′ w
-same-moves {l} {l′} {w} f y = rw (f .same y) (moves-refl l w)
+pub same-moves : {r l l′ w : List ℕ} {yes′ : Bool} → Flag l l′ yes′ → yes′ ≡ false → Moves r l w l′ w
+same-moves {r} {l} {l′} {w} f y = rw (f .same y) (moves-refl r l w)
 
 -- ---- one node's step
 
@@ -213,11 +232,11 @@ module _ (t : Table) (o : Ready t) where
   pub work-start : {l w : List ℕ} → Good t o l → Full w → Work l w
   work-start {l} {w} g f = record { good = g; todo = full-masks f; done = λ p n hp hn h. absurd (true≢false (sym (full-bit w p n hp hn f) ∙ h)) }
 
-  work-next : {l w w1 l′ w′ : List ℕ} (p n : ℕ) → p < 8 → Work l w → Took w p n w1 → l′ ≡ stepped (nodeAt t p n) p n l → Moves l w1 l′ w′ → Work l′ w′
-  work-next {l} {w} {w1} {l′} {w′} p n hp k c e m = record {
+  work-next : {r l w w1 l′ w′ : List ℕ} (p n : ℕ) → p < 8 → Receivers t r → Work l w → Took w p n w1 → l′ ≡ stepped (nodeAt t p n) p n l → Moves r l w1 l′ w′ → Work l′ w′
+  work-next {r} {l} {w} {w1} {l′} {w′} p n hp rc k c e m = record {
     good = rw e (step-good t o l p n hp (c .low) (k .good));
     todo = m .small (c .small);
-    done = λ a b ha hb h. let j = m .keeps a b ha hb h in rw (j .1, j .2) (go a b ha hb (c .other a b (j .0)));
+    done = λ a b ha hb h. let j = m .keeps a b ha hb h in rw (j .1, flow-blank (nodeAt t a b) b (cell l (a * 32 + b)) (cell l 264) (cell l′ 264) (λ y. j .2 (rc .right a b ha hb ∙ y))) (go a b ha hb (c .other a b (j .0)));
   }
     where
       own : Held (flowOf (nodeAt t p n) n (cell l (p * 32 + n)) (cell l 264)) p l′
@@ -252,42 +271,64 @@ less-left c k l w w1 l′ w′ hl hw up stays f = go (eqb (sum l′) (sum l)) re
 -- ---- the nodes of one procedure
 
 -- l and w on the way from l₀ and w₀
-pub record Going (q : Proc) (p : ℕ) (l₀ w₀ l w : List ℕ) : Type 0 where
+pub record Going (r : List ℕ) (q : Proc) (p : ℕ) (l₀ w₀ l w : List ℕ) : Type 0 where
   pub masks : Masks 265 32 l
   pub todo : Masks 8 32 w
-  pub keeps : (t : Table) (o : Ready t) → procAt t p ≡ q → Work t o l₀ w₀ → Work t o l w
+  pub keeps : (t : Table) (o : Ready t) → procAt t p ≡ q → Receivers t r → Work t o l₀ w₀ → Work t o l w
   pub less : (left 265 8 l w < left 265 8 l₀ w₀) ⊎ ((l ≡ l₀) × (w ≡ w₀))
 
-pub going-start : (q : Proc) (p : ℕ) (l w : List ℕ) → Masks 265 32 l → Masks 8 32 w → Going q p l w l w
-going-start q p l w g h = record { masks = g; todo = h; keeps = λ t o e k. k; less = inr (refl, refl) }
+pub going-start : (r : List ℕ) (q : Proc) (p : ℕ) (l w : List ℕ) → Masks 265 32 l → Masks 8 32 w → Going r q p l w l w
+going-start r q p l w g h = record { masks = g; todo = h; keeps = λ t o e rc k. k; less = inr (refl, refl) }
 
-module _ (q : Proc) {p : ℕ} {l w w1 l′ w′ : List ℕ} (n : ℕ) (hp : p < 8) (g : Masks 265 32 l) (c : Took w p n w1) (e : l′ ≡ stepped (nodeIn q n) p n l) (m : Moves l w1 l′ w′) where
+module _ (q : Proc) {p : ℕ} {r l w w1 l′ w′ : List ℕ} (n : ℕ) (hp : p < 8) (g : Masks 265 32 l) (c : Took w p n w1) (e : l′ ≡ stepped (nodeIn q n) p n l) (m : Moves r l w1 l′ w′) where
   next-masks : Masks 265 32 l′
   next-masks = rw e (step-masks (nodeIn q n) p n l g)
 
   pub next-less : left 265 8 l′ w′ < left 265 8 l w
   next-less = less-left 265 8 l w w1 l′ w′ (masks-sum next-masks) (masks-sum (m .small (c .small))) (m .up) (m .stays) (c .fewer)
 
-module _ {q : Proc} {p : ℕ} {l₀ w₀ l w w1 l′ w′ : List ℕ} (n : ℕ) (hp : p < 8) (g : Going q p l₀ w₀ l w) (c : Took w p n w1) (e : l′ ≡ stepped (nodeIn q n) p n l) (m : Moves l w1 l′ w′) where
-  pub going-next : Going q p l₀ w₀ l′ w′
-  going-next = record {
-    masks = next-masks q n hp (g .masks) c e m;
-    todo = m .small (c .small);
-    keeps = λ t o z k. work-next t o p n hp (g .keeps t o z k) c (subst (λ (x : Proc). l′ ≡ stepped (nodeIn x n) p n l) (sym z) e) m;
-    less = inl (go (g .less));
-  }
+module _ {q : Proc} {p : ℕ} {r l₀ w₀ l w w1 l′ w′ : List ℕ} (n : ℕ) (hp : p < 8) (g : Going r q p l₀ w₀ l w) (c : Took w p n w1) (e : l′ ≡ stepped (nodeIn q n) p n l) (m : Moves r l w1 l′ w′) where
+  fallen-next : left 265 8 l′ w′ < left 265 8 l₀ w₀
+  fallen-next = go (g .less)
     where
       go : (left 265 8 l w < left 265 8 l₀ w₀) ⊎ ((l ≡ l₀) × (w ≡ w₀)) → left 265 8 l′ w′ < left 265 8 l₀ w₀
       go (inl x) = lt-trans (next-less q n hp (g .masks) c e m) x
       go (inr x) = rw (x .0, x .1) at (next-less q n hp (g .masks) c e m)
 
+  going-next : Going r q p l₀ w₀ l′ w′
+  going-next = record {
+    masks = next-masks q n hp (g .masks) c e m;
+    todo = m .small (c .small);
+    keeps = λ t o z rc k. work-next t o p n hp rc (g .keeps t o z rc k) c (subst (λ (x : Proc). l′ ≡ stepped (nodeIn x n) p n l) (sym z) e) m;
+    less = inl fallen-next;
+  }
+
+-- along a chain from l₀ and w₀: the next node is n, if the chain goes on
+pub record Along (r : List ℕ) (q : Proc) (p : ℕ) (l₀ w₀ l w : List ℕ) (n : ℕ) (on : Bool) : Type 0 where
+  pub going : Going r q p l₀ w₀ l w
+  pub leads : Leads p n on w
+  pub fallen : on ≡ false → left 265 8 l w < left 265 8 l₀ w₀
+
+pub along-start : (r : List ℕ) (q : Proc) {p n : ℕ} {l w : List ℕ} → Masks 265 32 l → Masks 8 32 w → Leads p n true w → Along r q p l w l w n true
+along-start r q {p} {n} {l} {w} g h d = record { going = going-start r q p l w g h; leads = d; fallen = λ e. absurd (true≢false e) }
+
+pub along-next : {q : Proc} {p n′ : ℕ} {on on′ : Bool} {r l₀ w₀ l w w1 l′ w′ : List ℕ} (n : ℕ) → p < 8 → Along r q p l₀ w₀ l w n on → Took w p n w1 → l′ ≡ stepped (nodeIn q n) p n l → Moves r l w1 l′ w′ → Leads p n′ on′ w′ → Along r q p l₀ w₀ l′ w′ n′ on′
+along-next n hp g c e m d = record { going = going-next n hp (g .going) c e m; leads = d; fallen = λ z. fallen-next n hp (g .going) c e m }
+
+pub along-end : {q : Proc} {p n : ℕ} {on : Bool} {r l₀ w₀ l w l′ w′ : List ℕ} → Going r q p l₀ w₀ l w → Along r q p l w l′ w′ n on → on ≡ false → Going r q p l₀ w₀ l′ w′
+along-end {q} {p} {n} {on} {r} {l₀} {w₀} {l} {w} {l′} {w′} f g e = record { masks = g .going .masks; todo = g .going .todo; keeps = λ t o z rc k. g .going .keeps t o z rc (f .keeps t o z rc k); less = inl (go (f .less)) }
+  where
+    go : (left 265 8 l w < left 265 8 l₀ w₀) ⊎ ((l ≡ l₀) × (w ≡ w₀)) → left 265 8 l′ w′ < left 265 8 l₀ w₀
+    go (inl x) = lt-trans (g .fallen e) x
+    go (inr x) = rw (x .0, x .1) at (g .fallen e)
+
 -- what the work on procedure p does
-pub record Works (q : Proc) (p : ℕ) (l w l′ w′ : List ℕ) : Type 0 where
-  pub keeps : (t : Table) (o : Ready t) → procAt t p ≡ q → Work t o l w → Work t o l′ w′
+pub record Works (r : List ℕ) (q : Proc) (p : ℕ) (l w l′ w′ : List ℕ) : Type 0 where
+  pub keeps : (t : Table) (o : Ready t) → procAt t p ≡ q → Receivers t r → Work t o l w → Work t o l′ w′
   pub less : cell w p ≢ 0 → left 265 8 l′ w′ < left 265 8 l w
 
-pub going-end : {q : Proc} {p : ℕ} {l w l′ w′ : List ℕ} → Going q p l w l′ w′ → cell w′ p ≡ 0 → Works q p l w l′ w′
-going-end {q} {p} {l} {w} {l′} {w′} g z = record { keeps = g .keeps; less = λ f. go f (g .less) }
+pub going-end : {q : Proc} {p : ℕ} {r l w l′ w′ : List ℕ} → Going r q p l w l′ w′ → cell w′ p ≡ 0 → Works r q p l w l′ w′
+going-end {q} {p} {r} {l} {w} {l′} {w′} g z = record { keeps = g .keeps; less = λ f. go f (g .less) }
   where
     go : cell w p ≢ 0 → (left 265 8 l′ w′ < left 265 8 l w) ⊎ ((l′ ≡ l) × (w′ ≡ w)) → left 265 8 l′ w′ < left 265 8 l w
     go f (inl x) = x
@@ -310,3 +351,25 @@ full = (length-replicate {A = ℕ} 8 4294967295, λ a h. cell-each 8 4294967295 
 
 pub full-pending : {w : List ℕ} → Full w → Pending w 0
 full-pending f = record { some′ = λ h e. let z = f .1 0 h in omega arith; none′ = λ h. absurd (omega arith) }
+
+-- ---- the nodes r are woken, procedure by procedure
+
+pub record Waking (r w₀ w : List ℕ) (i : ℕ) : Type 0 where
+  pub low : i ≤ 8
+  pub size : length w ≡ 8
+  pub before : Filled (λ a. bitOr (cell w₀ a) (cell r a)) i w
+  pub after : (a : ℕ) → i ≤ a → cell w a ≡ cell w₀ a
+
+pub waking-start : (r w : List ℕ) → length w ≡ 8 → Waking r w w 0
+waking-start r w s = record { low = omega arith; size = s; before = λ a h. absurd (omega arith); after = λ a h. refl }
+
+pub waking-next : {r w₀ w : List ℕ} {i : ℕ} → i < 8 → Waking r w₀ w i → Waking r w₀ (set w i (bitOr (cell w i) (cell r i))) (i + 1)
+waking-next {r} {w₀} {w} {i} h k = record {
+  low = omega arith;
+  size = length-set w i _ ∙ k .size;
+  before = set-more 0 (λ a. bitOr (cell w₀ a) (cell r a)) i _ w (omega (arith, k .size)) (ap (λ (x : ℕ). bitOr x (cell r i)) (k .after i (omega arith))) (k .before);
+  after = λ a j. getD-set-other w i a (bitOr (cell w i) (cell r i)) 0 (λ q. omega arith) ∙ k .after a (omega arith);
+}
+
+pub waking-end : {r w₀ w : List ℕ} {i : ℕ} → Waking r w₀ w i → 8 ≤ i → Woken r w₀ w
+waking-end {r} {w₀} {w} {i} k h = let z : i ≡ 8 = omega (arith, k .low) in record { size = k .size; each = subst (λ (x : ℕ). Filled (λ a. bitOr (cell w₀ a) (cell r a)) x w) z (k .before) }

@@ -5,9 +5,10 @@ use table::Slot;
 use table::Table;
 use table::Task;
 ghost use mathlib.Core.Path.{_≡_};
-ghost use mathlib.Core.Logic.{_≢_};
+ghost use mathlib.Core.Bool.{true};
+ghost use mathlib.Core.List.{List};
 ghost use Prim.Native.Nat.{ℕ, _<_, _≤_, _^_, _+_, _-_, _*_};
-ghost use lib.ListN.{length, getD, replicate};
+ghost use lib.ListN.{length, replicate};
 ghost use lib.Bits.{bitOr};
 ghost use Rattle.table.specs.Mask.{pick, maskOf};
 ghost use Rattle.masks.specs.Cells.{cell, grown, Flag, sweep, Masks};
@@ -15,8 +16,9 @@ ghost use Rattle.flow.specs.Flow.{flowOf};
 ghost use Rattle.analysis.specs.Ready.{Ready};
 ghost use Rattle.analysis.specs.Decides.{Decides, KeptMasks};
 ghost use Rattle.analysis.specs.Steps.{entered, passedOn, stepWith, topStep, keptIn};
-ghost use Rattle.analysis.specs.Todo.{Took, without};
-ghost use Rattle.analysis.specs.Work.{Sized, Moves, Full, Works, Pending};
+ghost use Rattle.analysis.specs.Todo.{Leads, Took, without};
+ghost use Rattle.analysis.specs.Receivers.{isRecv, recvIn, Receivers};
+ghost use Rattle.analysis.specs.Work.{Sized, Moves, Woken, Works, Pending};
 
 // The mask m is added to the cell a; the answer says whether something was new.
 fn grow(cells: &mut [u32; 265], a: usize, m: u32) -> bool
@@ -38,71 +40,89 @@ fn with(m: u32, n: usize, yes: bool) -> u32
     if yes { m | (1 << (n as u32)) } else { m }
 }
 
-// The mask m is added to the cell of node n of procedure p. If something was new, the node is to be seen.
-fn reach(cells: &mut [u32; 265], todo: &mut [u32; 8], p: usize, n: usize, m: u32)
+// The mask m is added to the cell of node n of procedure p. If something was new, which is the answer, the node is to be seen.
+fn reach(cells: &mut [u32; 265], todo: &mut [u32; 8], p: usize, n: usize, m: u32) -> bool
     requires { ⌜ (p < 8) × ((n < 32) × Sized (now cells) (now todo)) ⌝ }
     ensures list { λ r. ⌜ now (cells .exit) ≡ grown (now (cells .entry)) (p * 32 + n) m ⌝ }
-    ensures moves { λ r. ⌜ Moves (now (cells .entry)) (now (todo .entry)) (now (cells .exit)) (now (todo .exit)) ⌝ }
+    ensures moves { λ r. ⌜ ((s : List ℕ) → Moves s (now (cells .entry)) (now (todo .entry)) (now (cells .exit)) (now (todo .exit))) ⌝ }
+    ensures marked { λ r. ⌜ Leads p n r (now (todo .exit)) ⌝ }
 {
     let at = p * 32 + n;
     let yes = grow(cells, at, m);
     let w = todo[p];
     todo[p] = with(w, n, yes);
+    yes
 }
 
 // The parameters m of procedure k are dropped.
 fn enter(cells: &mut [u32; 265], todo: &mut [u32; 8], k: usize, m: u32)
     requires { ⌜ (k < 8) × Sized (now cells) (now todo) ⌝ }
     ensures list { λ r. ⌜ now (cells .exit) ≡ entered (now (cells .entry)) k m ⌝ }
-    ensures moves { λ r. ⌜ Moves (now (cells .entry)) (now (todo .entry)) (now (cells .exit)) (now (todo .exit)) ⌝ }
+    ensures moves { λ r. ⌜ ((s : List ℕ) → Moves s (now (cells .entry)) (now (todo .entry)) (now (cells .exit)) (now (todo .exit))) ⌝ }
 {
     reach(cells, todo, k, 0, m);
     grow(cells, 256 + k, m);
 }
 
-// Every node is to be seen.
-fn all_again(todo: &mut [u32; 8])
+// The nodes of recvs are to be seen.
+fn wake(todo: &mut [u32; 8], recvs: &[u32; 8])
     requires { ⌜ length (now todo) ≡ 8 ⌝ }
-    ensures { λ r. ⌜ Full (now (todo .exit)) ⌝ }
+    ensures { λ r. ⌜ Woken (now (recvs .entry)) (now (todo .entry)) (now (todo .exit)) ⌝ }
 {
     let mut i: usize = 0;
     while i < 8 {
-        todo[i] = 4294967295;
+        let w = todo[i];
+        let r = recvs[i];
+        todo[i] = w | r;
         i += 1;
     }
 }
 
 // The queues m are blank.
-fn blank(cells: &mut [u32; 265], todo: &mut [u32; 8], m: u32)
-    requires { ⌜ Sized (now cells) (now todo) ⌝ }
+fn blank(cells: &mut [u32; 265], todo: &mut [u32; 8], recvs: &[u32; 8], m: u32)
+    requires { ⌜ Sized (now cells) (now todo) × Masks 8 32 (now recvs) ⌝ }
     ensures list { λ r. ⌜ now (cells .exit) ≡ grown (now (cells .entry)) 264 m ⌝ }
-    ensures moves { λ r. ⌜ Moves (now (cells .entry)) (now (todo .entry)) (now (cells .exit)) (now (todo .exit)) ⌝ }
+    ensures moves { λ r. ⌜ Moves (now (recvs .entry)) (now (cells .entry)) (now (todo .entry)) (now (cells .exit)) (now (todo .exit)) ⌝ }
 {
     let yes = grow(cells, 264, m);
     if yes {
-        all_again(todo);
+        wake(todo, recvs);
         return;
     }
 }
 
 // What a node adds to the cell a: dropped parameters, or blank queues.
-fn pass_on(cells: &mut [u32; 265], todo: &mut [u32; 8], a: usize, m: u32)
-    requires { ⌜ (256 ≤ a) × ((a < 265) × Sized (now cells) (now todo)) ⌝ }
+fn pass_on(cells: &mut [u32; 265], todo: &mut [u32; 8], recvs: &[u32; 8], a: usize, m: u32)
+    requires { ⌜ (256 ≤ a) × ((a < 265) × (Sized (now cells) (now todo) × Masks 8 32 (now recvs))) ⌝ }
     ensures list { λ r. ⌜ now (cells .exit) ≡ passedOn (now (cells .entry)) a m ⌝ }
-    ensures moves { λ r. ⌜ Moves (now (cells .entry)) (now (todo .entry)) (now (cells .exit)) (now (todo .exit)) ⌝ }
+    ensures moves { λ r. ⌜ Moves (now (recvs .entry)) (now (cells .entry)) (now (todo .entry)) (now (cells .exit)) (now (todo .exit)) ⌝ }
 {
     if a < 264 {
         enter(cells, todo, a - 256, m);
         return;
     }
-    blank(cells, todo, m);
+    blank(cells, todo, recvs, m);
+}
+
+// The first target of a node, and whether it is to be seen.
+struct Next {
+    on: bool,
+    to: usize,
 }
 
 // One node: what is dirty before it goes where the node leads.
-fn visit(x: Node, p: usize, n: usize, cells: &mut [u32; 265], todo: &mut [u32; 8])
-    requires { ⌜ (p < 8) × ((n < 32) × Sized (now cells) (now todo)) ⌝ }
+fn visit(
+    x: Node,
+    p: usize,
+    n: usize,
+    cells: &mut [u32; 265],
+    todo: &mut [u32; 8],
+    recvs: &[u32; 8],
+) -> Next
+    requires { ⌜ (p < 8) × ((n < 32) × (Sized (now cells) (now todo) × Masks 8 32 (now recvs))) ⌝ }
     ensures list { λ r. ⌜ now (cells .exit) ≡ stepWith (flowOf x n (cell (now (cells .entry)) (p * 32 + n)) (cell (now (cells .entry)) 264)) p (now (cells .entry)) ⌝ }
-    ensures moves { λ r. ⌜ Moves (now (cells .entry)) (now (todo .entry)) (now (cells .exit)) (now (todo .exit)) ⌝ }
+    ensures moves { λ r. ⌜ Moves (now (recvs .entry)) (now (cells .entry)) (now (todo .entry)) (now (cells .exit)) (now (todo .exit)) ⌝ }
+    ensures next { λ r. ⌜ Leads p (r .to) (r .on) (now (todo .exit)) ⌝ }
 {
     let at = p * 32 + n;
     let i = cells[at];
@@ -113,9 +133,10 @@ fn visit(x: Node, p: usize, n: usize, cells: &mut [u32; 265], todo: &mut [u32; 8
     let second = f.second;
     let extra = f.extra;
     let add = f.add;
-    reach(cells, todo, p, first, o);
+    let on = reach(cells, todo, p, first, o);
     reach(cells, todo, p, second, o);
-    pass_on(cells, todo, extra, add);
+    pass_on(cells, todo, recvs, extra, add);
+    Next { on, to: first }
 }
 
 // m without n.
@@ -126,27 +147,32 @@ fn minus(m: u32, n: usize) -> u32
     m ^ (m & (1 << (n as u32)))
 }
 
-// The least node of procedure p that is to be seen is taken out.
-fn take(p: usize, todo: &mut [u32; 8]) -> usize
-    requires { ⌜ (p < 8) × (Masks 8 32 (now todo) × (cell (now todo) p ≢ 0)) ⌝ }
-    ensures { λ r. ⌜ Took (now (todo .entry)) p r (now (todo .exit)) ⌝ }
+// Node n of procedure p, which is to be seen, is taken out.
+fn take(p: usize, n: usize, todo: &mut [u32; 8])
+    requires { ⌜ (p < 8) × (Masks 8 32 (now todo) × Leads p n true (now todo)) ⌝ }
+    ensures { λ r. ⌜ Took (now (todo .entry)) p n (now (todo .exit)) ⌝ }
 {
     let m = todo[p];
-    let n = flow::target(m);
     todo[p] = minus(m, n);
-    n
 }
 
-// The nodes of procedure p, until none is to be seen.
-fn proc_work(q: Proc, p: usize, cells: &mut [u32; 265], todo: &mut [u32; 8])
-    requires { ⌜ (p < 8) × (Masks 265 32 (now cells) × Masks 8 32 (now todo)) ⌝ }
-    ensures { λ r. ⌜ Works q p (now (cells .entry)) (now (todo .entry)) (now (cells .exit)) (now (todo .exit)) ⌝ }
+// The nodes of procedure p, until none is to be seen: along each chain as far as it leads.
+fn proc_work(q: Proc, p: usize, cells: &mut [u32; 265], todo: &mut [u32; 8], recvs: &[u32; 8])
+    requires { ⌜ (p < 8) × (Masks 265 32 (now cells) × (Masks 8 32 (now todo) × Masks 8 32 (now recvs))) ⌝ }
+    ensures { λ r. ⌜ Works (now (recvs .entry)) q p (now (cells .entry)) (now (todo .entry)) (now (cells .exit)) (now (todo .exit)) ⌝ }
 {
     while todo[p] != 0 {
-        let n = take(p, todo);
-        let s = q.slots[n];
-        let x = s.node;
-        visit(x, p, n, cells, todo);
+        let m = todo[p];
+        let mut n = flow::target(m);
+        let mut on = true;
+        while on {
+            take(p, n, todo);
+            let s = q.slots[n];
+            let x = s.node;
+            let f = visit(x, p, n, cells, todo, recvs);
+            n = f.to;
+            on = f.on;
+        }
     }
 }
 
@@ -192,17 +218,93 @@ fn start(t: Table) -> [u32; 265]
     cells
 }
 
+// Whether a node receives.
+fn is_recv(x: Node) -> bool
+    ensures { λ r. ⌜ r ≡ isRecv x ⌝ }
+{
+    match x {
+        Node::Absent => false,
+        Node::Start { to: _ } => false,
+        Node::Set {
+            var: _,
+            op: _,
+            a: _,
+            b: _,
+            to: _,
+        } => false,
+        Node::Test {
+            op: _,
+            a: _,
+            b: _,
+            yes: _,
+            no: _,
+        } => false,
+        Node::Read { var: _, to: _ } => false,
+        Node::Call {
+            callee: _,
+            args: _,
+            to: _,
+        } => false,
+        Node::Wait { sem: _, to: _ } => false,
+        Node::Signal { sem: _, to: _ } => false,
+        Node::Send {
+            queue: _,
+            var: _,
+            to: _,
+        } => false,
+        Node::Recv {
+            queue: _,
+            var: _,
+            to: _,
+        } => true,
+        Node::Assert { var: _, to: _ } => false,
+        Node::Out { var: _, to: _ } => false,
+        Node::Return => false,
+    }
+}
+
+// The receiving nodes of a procedure.
+fn recv_mask(q: Proc) -> u32
+    ensures { λ r. ⌜ r ≡ maskOf 32 (recvIn q) ⌝ }
+{
+    let mut m: u32 = 0;
+    let mut n: usize = 0;
+    while n < 32 {
+        let s = q.slots[n];
+        let x = s.node;
+        let yes = is_recv(x);
+        m = with(m, n, yes);
+        n += 1;
+    }
+    m
+}
+
+// The receiving nodes of each procedure.
+fn receivers(t: Table) -> [u32; 8]
+    ensures { λ r. ⌜ Receivers t r ⌝ }
+{
+    let mut r = [0u32; 8];
+    let mut p: usize = 0;
+    while p < 8 {
+        let q = t.proc[p];
+        r[p] = recv_mask(q);
+        p += 1;
+    }
+    r
+}
+
 // What is dirty: each node at first, and again after what comes to it has grown.
 pub fn dirty_cells(t: Table) -> [u32; 265]
     requires { ⌜ Ready t ⌝ }
     ensures { λ r. ⌜ Decides t r ⌝ }
 {
+    let recvs = receivers(t);
     let mut cells = start(t);
     let mut todo = [4294967295u32; 8];
     let mut p: usize = 0;
     while p < 8 {
         let q = t.proc[p];
-        proc_work(q, p, &mut cells, &mut todo);
+        proc_work(q, p, &mut cells, &mut todo, &recvs);
         p = pending(&todo);
     }
     cells

@@ -2,7 +2,6 @@ use Prim.Native.Nat.{ℕ}
 use Rattle.masks.specs.Bits.{one-shl}
 use lib.Bits.{bitAnd, bitXor}
 use mathlib.Core.Path.{ap}
-use native.Mathlib.Omega.{arith}
 use borrow.Author.Needs.{needs}
 use Rattle.analysis.proofs.minus.Statement.{statement}
 use Rattle.analysis.proofs.minus.Tie as tie

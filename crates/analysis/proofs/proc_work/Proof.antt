@@ -1,58 +1,91 @@
-use Rattle.analysis.specs.Work.{left, Going, going-start, next-less, going-next, going-end}
+use Rattle.analysis.specs.Todo.{leads-low, leads-yes}
+use Rattle.analysis.specs.Work.{left, Going, Along, going-start, next-less, along-start, along-next, along-end, going-end}
 use borrow.Author.Needs.{needs}
 use native.Mathlib.Omega.{arith}
 use Rattle.analysis.proofs.proc_work.Statement.{statement}
 use Rattle.analysis.proofs.proc_work.Tie as tie
 
+abbrev Inv-loop2 : tie.InvT-loop2
+Inv-loop2 p cells₀ todo₀ recvs q m n₀ on₀ cells todo n on = Along recvs q p cells₀ todo₀ cells todo n on
+
+abbrev μ-loop2 : tie.MeasureT-loop2
+μ-loop2 p cells₀ todo₀ recvs q m n₀ on₀ cells todo n on = left 265 8 cells todo
+
 abbrev Inv-loop : tie.InvT-loop
-Inv-loop p cells₀ todo₀ q cells todo = Going q p cells₀ todo₀ cells todo
+Inv-loop p cells₀ todo₀ recvs q cells todo = Going recvs q p cells₀ todo₀ cells todo
 
 abbrev μ-loop : tie.MeasureT-loop
-μ-loop p cells₀ todo₀ q cells todo = left 265 8 cells todo
+μ-loop p cells₀ todo₀ recvs q cells todo = left 265 8 cells todo
 
-loop-holds : tie.Need-loop-holds Inv-loop μ-loop
-loop-holds c = going-start _ _ _ _ (c .pre .1 .0) (c .pre .1 .1)
+loop-holds : tie.Need-loop-holds Inv-loop2 μ-loop2 Inv-loop μ-loop
+loop-holds c = going-start _ _ _ _ _ (c .pre .1 .0) (c .pre .1 .1 .0)
 
-mul-if1 : tie.Need-mul-if1 Inv-loop μ-loop
+mul-if1 : tie.Need-mul-if1 Inv-loop2 μ-loop2 Inv-loop μ-loop
 mul-if1 c = search needs
 
-element-copy-out-if1 : tie.Need-element-copy-out-if1 Inv-loop μ-loop
+element-copy-out-if1 : tie.Need-element-copy-out-if1 Inv-loop2 μ-loop2 Inv-loop μ-loop
 element-copy-out-if1 c = search needs
 
-take-requires : tie.Need-take-requires Inv-loop μ-loop
-take-requires c κs = (c .before .before .before .before .pre .0, (c .before .before .before .loop .inv .todo, c .before .if1 .taken))
+mul-m : tie.Need-mul-m Inv-loop2 μ-loop2 Inv-loop μ-loop
+mul-m c = search needs
 
-mul-s : tie.Need-mul-s Inv-loop μ-loop
+element-copy-out-m : tie.Need-element-copy-out-m Inv-loop2 μ-loop2 Inv-loop μ-loop
+element-copy-out-m c = search needs
+
+target-requires : tie.Need-target-requires Inv-loop2 μ-loop2 Inv-loop μ-loop
+target-requires c κs = search needs
+
+loop2-holds : tie.Need-loop2-holds Inv-loop2 μ-loop2 Inv-loop μ-loop
+loop2-holds c = let h = c .before .before .before .before .loop in along-start _ _ (h .inv .masks) (h .inv .todo) (leads-low (c .before .before .before .before .before .args .p) (h .todo) (h .inv .todo) (c .before .before .if1 .taken) (c .target .ensures))
+
+loop-less : tie.Need-loop-less Inv-loop2 μ-loop2 Inv-loop μ-loop
+loop-less c = c .before .loop2 .inv .fallen (c .loop2-test .left)
+
+loop-again : tie.Need-loop-again Inv-loop2 μ-loop2 Inv-loop μ-loop
+loop-again c = along-end (c .before .before .before .before .before .before .loop .inv) (c .before .loop2 .inv) (c .loop2-test .left)
+
+take-requires : tie.Need-take-requires Inv-loop2 μ-loop2 Inv-loop μ-loop
+take-requires c κs = (c .before .before .before .before .before .before .before .before .pre .0, (c .before .before .loop2 .inv .going .todo, leads-yes (c .before .loop2-test .taken) (c .before .before .loop2 .inv .leads)))
+
+mul-s : tie.Need-mul-s Inv-loop2 μ-loop2 Inv-loop μ-loop
 mul-s c = omega (arith, c .take .ensures .low)
 
-element-copy-out-s : tie.Need-element-copy-out-s Inv-loop μ-loop
+element-copy-out-s : tie.Need-element-copy-out-s Inv-loop2 μ-loop2 Inv-loop μ-loop
 element-copy-out-s c = c .take .ensures .low
 
-visit-requires : tie.Need-visit-requires Inv-loop μ-loop
-visit-requires c κs = (c .before .before .before .before .before .before .before .before .pre .0, (c .before .before .before .take .ensures .low, (c .before .before .before .before .before .before .before .loop .inv .masks .size, c .before .before .before .take .ensures .small .size)))
+visit-requires : tie.Need-visit-requires Inv-loop2 μ-loop2 Inv-loop μ-loop
+visit-requires c κs = (c .before .before .before .before .before .before .before .before .before .before .before .before .pre .0, (c .before .before .before .take .ensures .low, ((c .before .before .before .before .before .before .loop2 .inv .going .masks .size, c .before .before .before .take .ensures .small .size), c .before .before .before .before .before .before .before .before .before .before .before .before .pre .1 .1 .1)))
 
-loop-less : tie.Need-loop-less Inv-loop μ-loop
-loop-less c = next-less (c .before .before .before .before .before .before .before .before .before .args .t1) _ (c .before .before .before .before .before .before .before .before .before .pre .0) (c .before .before .before .before .before .before .before .before .loop .inv .masks) (c .before .before .before .before .take .ensures) (c .visit .ensures .0) (c .visit .ensures .1)
+loop2-less : tie.Need-loop2-less Inv-loop2 μ-loop2 Inv-loop μ-loop
+loop2-less c = next-less (c .before .before .before .before .before .before .before .before .before .before .before .before .before .args .t1) _ (c .before .before .before .before .before .before .before .before .before .before .before .before .before .pre .0) (c .before .before .before .before .before .before .before .loop2 .inv .going .masks) (c .before .before .before .before .take .ensures) (c .visit .ensures .0) (c .visit .ensures .1 .0)
 
-loop-again : tie.Need-loop-again Inv-loop μ-loop
-loop-again c = going-next _ (c .before .before .before .before .before .before .before .before .before .pre .0) (c .before .before .before .before .before .before .before .before .loop .inv) (c .before .before .before .before .take .ensures) (c .visit .ensures .0) (c .visit .ensures .1)
+loop2-again : tie.Need-loop2-again Inv-loop2 μ-loop2 Inv-loop μ-loop
+loop2-again c = along-next _ (c .before .before .before .before .before .before .before .before .before .before .before .before .before .pre .0) (c .before .before .before .before .before .before .before .loop2 .inv) (c .before .before .before .before .take .ensures) (c .visit .ensures .0) (c .visit .ensures .1 .0) (c .visit .ensures .1 .1)
 
-returns : tie.Need-returns Inv-loop μ-loop
+returns : tie.Need-returns Inv-loop2 μ-loop2 Inv-loop μ-loop
 returns c = going-end (c .before .before .loop .inv) (c .if1 .left)
 
 pub proc-work-spec : {M : Type 1} → statement M
 proc-work-spec =
     tie.close
     (tie.spec
+    Inv-loop2
+    μ-loop2
     Inv-loop
     μ-loop
     loop-holds
     mul-if1
     element-copy-out-if1
+    mul-m
+    element-copy-out-m
+    target-requires
+    loop2-holds
+    loop-less
+    loop-again
     take-requires
     mul-s
     element-copy-out-s
     visit-requires
-    loop-less
-    loop-again
+    loop2-less
+    loop2-again
     returns)

@@ -1,7 +1,6 @@
-use Rattle.analysis.specs.Work.{reach-moves}
+use Rattle.analysis.specs.Work.{reach-moves, reach-leads}
 use lib.ListN.{set}
 use mathlib.Core.Path.{ap}
-use native.Mathlib.Omega.{arith}
 use borrow.Author.Needs.{needs}
 use Rattle.analysis.proofs.reach.Statement.{statement}
 use Rattle.analysis.proofs.reach.Tie as tie
@@ -31,7 +30,7 @@ element-write-todo : tie.Need-element-write-todo
 element-write-todo c = search needs
 
 returns : tie.Need-returns
-returns c = (c .before .before .grow .ensures .0, reach-moves (c .before .before .before .before .args .p) (c .before .before .before .before .args .n) (c .before .before .before .before .args .m) (c .before .before .before .before .pre .0) (c .before .before .before .before .pre .1 .0) (c .before .before .before .before .pre .1 .1) (c .before .before .grow .ensures .0) (c .before .before .grow .ensures .1) (ap (set (c .before .before .before .before .args .todo .now) (c .before .before .before .before .args .p)) (c .with .ensures)))
+returns c = (c .before .before .grow .ensures .0, (reach-moves (c .before .before .before .before .args .p) (c .before .before .before .before .args .n) (c .before .before .before .before .args .m) (c .before .before .before .before .pre .0) (c .before .before .before .before .pre .1 .0) (c .before .before .before .before .pre .1 .1) (c .before .before .grow .ensures .0) (c .before .before .grow .ensures .1) (ap (set (c .before .before .before .before .args .todo .now) (c .before .before .before .before .args .p)) (c .with .ensures)), reach-leads (c .before .before .before .before .args .todo .now) (c .before .before .before .before .args .p) (c .before .before .before .before .args .n) (c .before .before .before .before .pre .0) (c .before .before .before .before .pre .1 .0) (c .before .before .before .before .pre .1 .1 .1) (ap (set (c .before .before .before .before .args .todo .now) (c .before .before .before .before .args .p)) (c .with .ensures))))
 
 pub reach-spec : {M : Type 1} → statement M
 reach-spec =

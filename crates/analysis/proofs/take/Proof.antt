@@ -1,7 +1,6 @@
 use Rattle.analysis.specs.Todo.{took}
 use lib.ListN.{set}
 use mathlib.Core.Path.{ap}
-use native.Mathlib.Omega.{arith}
 use borrow.Author.Needs.{needs}
 use Rattle.analysis.proofs.take.Statement.{statement}
 use Rattle.analysis.proofs.take.Tie as tie
@@ -11,9 +10,6 @@ mul-m c = search needs
 
 element-copy-out-m : tie.Need-element-copy-out-m
 element-copy-out-m c = search needs
-
-target-requires : tie.Need-target-requires
-target-requires c κs = search needs
 
 minus-requires : tie.Need-minus-requires
 minus-requires c κs = search needs
@@ -25,16 +21,9 @@ element-write-todo : tie.Need-element-write-todo
 element-write-todo c = search needs
 
 returns : tie.Need-returns
-returns c = took (c .before .before .before .args .p) _ (c .before .before .before .pre .0) (c .before .before .before .pre .1 .0) (c .before .before .before .pre .1 .1) (c .before .target .ensures) (ap (set (c .before .before .before .args .todo .now) (c .before .before .before .args .p)) (c .minus .ensures))
+returns c = took (c .before .before .args .p) (c .before .before .args .n) (c .before .before .pre .0) (c .before .before .pre .1 .0) (c .before .before .pre .1 .1) (ap (set (c .before .before .args .todo .now) (c .before .before .args .p)) (c .minus .ensures))
 
 pub take-spec : {M : Type 1} → statement M
 take-spec =
     tie.close
-    (tie.spec
-    mul-m
-    element-copy-out-m
-    target-requires
-    minus-requires
-    mul-todo
-    element-write-todo
-    returns)
+    (tie.spec mul-m element-copy-out-m minus-requires mul-todo element-write-todo returns)
