@@ -1,42 +1,5 @@
 // Prints what the program `run` prints for many words and texts, so that it can be compared with what it should print. Standard input holds
 // the cases: the words SCHEDULE, VALUES, MOST and LOG and a text, each behind its length in five digits.
-ghost use Prim.Native.Nat.{_≤_};
-ghost use lib.ListN.{length};
-
-// The value of a digit.
-fn digit(b: u8) -> usize
-    ensures { λ r. ⌜ r ≤ 9 ⌝ }
-{
-    ((b as usize) + 2) % 10
-}
-
-// A number of five digits.
-fn size(h: [u8; 5]) -> usize
-    ensures { λ r. ⌜ r ≤ 99999 ⌝ }
-{
-    digit(h[0]) * 10000 + digit(h[1]) * 1000 + digit(h[2]) * 100 + digit(h[3]) * 10 + digit(h[4])
-}
-
-// Reads n bytes into a buffer that has room for them; how many were read.
-fn bytes(n: usize, buffer: &mut [u8]) -> usize
-    ensures { λ r. ⌜ r ≤ length (now (buffer .exit)) ⌝ }
-{
-    if buffer.len() < n {
-        return 0;
-    }
-    io::read_full(0, &mut buffer[..n])
-}
-
-// Reads a part of a case.
-fn part(buffer: &mut [u8]) -> usize
-    ensures { λ r. ⌜ r ≤ length (now (buffer .exit)) ⌝ }
-{
-    let mut h = [0u8; 5];
-    if io::read_full(0, &mut h) < 5 {
-        return 0;
-    }
-    bytes(size(h), buffer)
-}
 
 fn print(first: &[u8], second: &[u8], third: &[u8], fourth: &[u8], text: &[u8]) {
     let mut out = [0u8; 65536];
@@ -54,14 +17,15 @@ fn last(
     fourth: &mut [u8],
     text: &mut [u8],
 ) -> bool {
-    let a = part(first);
-    let b = part(second);
-    let c = part(third);
-    let d = part(fourth);
-    let n = part(text);
-    if n == 0 {
+    let a = parts::next(first).len;
+    let b = parts::next(second).len;
+    let c = parts::next(third).len;
+    let d = parts::next(fourth).len;
+    let p = parts::next(text);
+    if !p.there {
         return true;
     }
+    let n = p.len;
     print(
         &first[..a],
         &second[..b],

@@ -65,39 +65,16 @@ fn print(s: &[u8]) {
     io::write_all(1, &out[..n]);
 }
 
-// The value of a digit.
-fn digit(b: u8) -> usize
-    ensures { λ r. ⌜ r ≤ 9 ⌝ }
-{
-    ((b as usize) + 2) % 10
-}
-
-// A number of five digits.
-fn size(h: [u8; 5]) -> usize
-    ensures { λ r. ⌜ r ≤ 99999 ⌝ }
-{
-    digit(h[0]) * 10000 + digit(h[1]) * 1000 + digit(h[2]) * 100 + digit(h[3]) * 10 + digit(h[4])
-}
-
-// The next text, read into a buffer that has room for it.
-fn next(n: usize, text: &mut [u8]) {
-    if n <= text.len() {
-        let got = io::read_full(0, &mut text[..n]);
-        if got == n {
-            answers(&text[..n]);
-        }
-    }
-}
-
 fn main() {
     let mut text = [0u8; 65537];
-    let mut h = [0u8; 5];
     let mut left: usize = 100000;
     while left > 0 {
-        if io::read_full(0, &mut h) < 5 {
+        let p = parts::next(&mut text);
+        if !p.there {
             return;
         }
-        next(size(h), &mut text);
+        let n = p.len;
+        answers(&text[..n]);
         left -= 1;
     }
 }

@@ -3,33 +3,33 @@ use mathlib.Core.Path.{sym}
 use lib.Seq.{length-take-le}
 use native.Mathlib.Omega.{arith}
 use borrow.Author.Needs.{needs}
-use Rattle.runs.proofs.bytes.Statement.{statement}
-use Rattle.runs.proofs.bytes.Tie as tie
-use Rattle.runs.proofs.bytes.Reads as reads
-use Rattle.runs.proofs.bytes.Lts as lts
+use Rattle.parts.proofs.bytes.Statement.{statement}
+use Rattle.parts.proofs.bytes.Tie as tie
+use Rattle.parts.proofs.bytes.Reads as reads
+use Rattle.parts.proofs.bytes.Lts as lts
 use Rattle.io.proofs.read_full.Reads as read-full-reads
 
--- src/main.rt:25:9
+-- src/lib.rt:30:9
 returns : tie.Need-returns
 returns c = search needs
 
--- src/main.rt:27:22
+-- src/lib.rt:35:32
 slice-relend-prefix-read-full : tie.Need-slice-relend-prefix-read-full
 slice-relend-prefix-read-full c = search needs
 
--- src/main.rt:27:22
+-- src/lib.rt:35:32
 slice-aggregate-read-full : tie.Need-slice-aggregate-read-full
 slice-aggregate-read-full c = sym (length-take-le _ _ (omega arith))
 
--- src/main.rt:27:5
+-- src/lib.rt:35:9
 read-full-requires : tie.Need-read-full-requires
 read-full-requires c κs = search needs
 
--- src/main.rt:21:1
+-- src/lib.rt:26:1
 same-length : tie.Need-same-length
 same-length c = search needs
 
--- src/main.rt:21:1
+-- src/lib.rt:26:1
 returns-2 : tie.Need-returns-2
 returns-2 c = simp length-append (omega (arith, c .before .before .read-full .ensures))
 
