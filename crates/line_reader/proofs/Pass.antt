@@ -125,7 +125,30 @@ module _ (Ds : List Datum) (R : RattleType) where
   abbrev At : Ended
   At = record { signature = record { lifetimes = 1; outlives = []; params = shrSliceOf (0 ∷ []) tt (plain (λ _. u8)) ∷ plain (λ _. usize) ∷ slots Ds; result = plain (λ _. R) }; kept = (yes, (yes, kept Ds)) }
 
--- ---- the contract's part of a proof
+-- ---- a contract passed on
+
+module _ (Ds : List Datum) (R : RattleType) {M : Type 1} (𝓤 : URA M) where
+  -- what a contract says at a reader, where it is over the reader and where it is over the text and the position
+  pub record Says (κs : Lfts 1) (xs : Data Ds κs) : Type 2 where
+    pub ghost : Type 0
+    pub requires : ghost → SProp 𝓤
+    pub ensures : ghost → R .Denot → Fins κs (slots Ds) (kept Ds) xs → SProp 𝓤
+
+  abbrev pub over : Clauses 𝓤 (Over Ds R) → (κs : Lfts 1) → LineReader → (xs : Data Ds κs) → Says κs xs
+  over f κs d xs = record { ghost = f κs (d, xs) .ghost; requires = f κs (d, xs) .requires; ensures = λ x r ws. f κs (d, xs) .ensures x r (atExit (Over Ds R) κs (d, xs) (tt, ws)) }
+
+  abbrev pub at-its : Clauses 𝓤 (At Ds R) → (κs : Lfts 1) → LineReader → (xs : Data Ds κs) → Says κs xs
+  at-its g κs d xs = record {
+    ghost = g κs (d .text, (d .at, xs)) .ghost;
+    requires = g κs (d .text, (d .at, xs)) .requires;
+    ensures = λ x r ws. g κs (d .text, (d .at, xs)) .ensures x r (atExit (At Ds R) κs (d .text, (d .at, xs)) (tt, (tt, ws)));
+  }
+
+  -- f asks what g asks, and promises what g promises
+  pub record Passes (f g : (κs : Lfts 1) → LineReader → (xs : Data Ds κs) → Says κs xs) : Type 2 where
+    pub to : (κs : Lfts 1) (d : LineReader) (xs : Data Ds κs) → f κs d xs .ghost → g κs d xs .ghost
+    pub asks : (κs : Lfts 1) (d : LineReader) (xs : Data Ds κs) (x : f κs d xs .ghost) → ent 𝓤 (f κs d xs .requires x) (g κs d xs .requires (to κs d xs x))
+    pub tells : (κs : Lfts 1) (d : LineReader) (xs : Data Ds κs) (x : f κs d xs .ghost) (r : R .Denot) (ws : Fins κs (slots Ds) (kept Ds) xs) → ent 𝓤 (g κs d xs .ensures (to κs d xs x) r ws) (f κs d xs .ensures x r ws)
 
 -- the machine values are those that the arguments spell
 spelled : {M : Type 1} (𝓤 : URA M) (H : Heap 𝓤) (A : Atoms 𝓤) (S : Signature) (c : Spec 𝓤 S) (run : Fun 𝓤)
@@ -155,7 +178,7 @@ module _ {M : Type 1} (𝓤 : URA M) (H : Heap 𝓤) (R : RattleType) where
     gives : (t : SProp 𝓤) (E E′ : R .Denot → SProp 𝓤) → ((r : R .Denot) → ent 𝓤 (E r) (E′ r)) → (u : Val) → ent 𝓤 (Gives t E u) (Result (Gives t E′) u)
     gives t E E′ h u =
         qed W (later (some (λ (r : R .Denot). (raw t ⊛ ‵ (R .own r (u ∷ []))) ⊛ raw (E r))) ∷ []) ∵
-        updating ! $ await ! tt $ pick ! (λ r. split ! $ split ! $ move ! (1 ∷ []) $ peeks ! (R) (Is (R)) (shows 𝓤 H A (R)) r (u ∷ []) (λ is. move ! (2 ∷ []) $ use1 W (raw (E′ r)) (h r) $
+        updating ! $ await ! tt $ pick ! (λ r. split ! $ split ! $ move ! (1 ∷ []) $ peeks ! R (Is R) (shows 𝓤 H A R) r (u ∷ []) (λ is. move ! (2 ∷ []) $ use1 W (raw (E′ r)) (h r) $
         now ! $ says ! (res .typed r (u ∷ []) is) $ updating ! $ now ! $
         show ! (λ (r′ : R .Denot). sep 𝓤 (sep 𝓤 t (sem 𝓤 H A (R .own r′ (u ∷ [])))) (E′ r′)) r $ move ! (2 ∷ 1 ∷ []) $ join ! $ done !))
 
@@ -166,11 +189,7 @@ module _ (Ds : List Datum) (R : RattleType) {M : Type 1} (𝓤 : URA M) (H : Hea
   Takes-apart k run = (κs : Lfts 1) (d : LineReader) (xs : Data Ds κs) (Q : Val → SProp 𝓤) → Typed (types-over Ds κs) (T′.lowered d ∷ vals Ds κs xs)
       → ent 𝓤 (C k (slice (d .text) ∷ vint w64 (d .at) ∷ vals Ds κs xs) (Result 𝓤 H R Q)) (run (T′.lowered d ∷ vals Ds κs xs) Q)
 
-  module _ (A : Atoms 𝓤) (W : Given 𝓤 H A) (res : Lawful 𝓤 H A R) (fm : FmC 𝓤 H (W .laws) C) (f : Clauses 𝓤 (Over Ds R)) (g : Clauses 𝓤 (At Ds R))
-      (to : (κs : Lfts 1) (d : LineReader) (xs : Data Ds κs) → f κs (d, xs) .ghost → g κs (d .text, (d .at, xs)) .ghost)
-      (asks : (κs : Lfts 1) (d : LineReader) (xs : Data Ds κs) (x : f κs (d, xs) .ghost) → ent 𝓤 (f κs (d, xs) .requires x) (g κs (d .text, (d .at, xs)) .requires (to κs d xs x)))
-      (tells : (κs : Lfts 1) (d : LineReader) (xs : Data Ds κs) (x : f κs (d, xs) .ghost) (r : R .Denot) (ws : Fins κs (slots Ds) (kept Ds) xs)
-      → ent 𝓤 (g κs (d .text, (d .at, xs)) .ensures (to κs d xs x) r (atExit (At Ds R) κs (d .text, (d .at, xs)) (tt, (tt, ws)))) (f κs (d, xs) .ensures x r (atExit (Over Ds R) κs (d, xs) (tt, ws)))) where
+  module _ (A : Atoms 𝓤) (W : Given 𝓤 H A) (res : Lawful 𝓤 H A R) (fm : FmC 𝓤 H (W .laws) C) (f : Clauses 𝓤 (Over Ds R)) (g : Clauses 𝓤 (At Ds R)) (c : Passes Ds R 𝓤 (over Ds R 𝓤 f) (at-its Ds R 𝓤 g)) where
     -- what the reader owns is what the text and the position own
     apart : (κs : Lfts 1) (qs : Shares 1) (d : LineReader) (xs : Data Ds κs) (vss : Valss (typesAt (slots Ds) κs))
         → ent 𝓤 (onEntry 𝓤 H A (Over Ds R .signature) κs qs (d, xs) (T′.lowered d ∷ [], vss)) (onEntry 𝓤 H A (At Ds R .signature) κs qs (d .text, (d .at, xs)) (slice (d .text) ∷ [], (vint w64 (d .at) ∷ [], vss)))
@@ -181,22 +200,22 @@ module _ (Ds : List Datum) (R : RattleType) {M : Type 1} (𝓤 : URA M) (H : Hea
         -- [what the position owns; what the text owns; what the data own]
         move ! (0 ∷ 2 ∷ []) $ fjoin ! $ move ! (1 ∷ 0 ∷ []) $ fjoin ! $ done !)
 
-    ensures : (κs : Lfts 1) (d : LineReader) (xs : Data Ds κs) (x : f κs (d, xs) .ghost) (r : R .Denot)
-        → ent 𝓤 (ensured 𝓤 H A (At Ds R) g κs (d .text, (d .at, xs)) (to κs d xs x) r) (ensured 𝓤 H A (Over Ds R) f κs (d, xs) x r)
-    ensures κs d xs x r = exE 𝓤 _ (λ ws. qed W (‵ (fsep ftrue (fsep ftrue (lastsOf κs (slots Ds) (kept Ds) xs (ws .1 .1)))) ∷ raw (g κs (d .text, (d .at, xs)) .ensures (to κs d xs x) r (atExit (At Ds R) κs (d .text, (d .at, xs)) (tt, (tt, ws .1 .1)))) ∷ []) ∵
-        fsplit ! $ drop ! $ move ! (1 ∷ []) $ use1 W (raw (f κs (d, xs) .ensures x r (atExit (Over Ds R) κs (d, xs) (tt, ws .1 .1)))) (tells κs d xs x r (ws .1 .1)) $ move ! (1 ∷ []) $
+    promised : (κs : Lfts 1) (d : LineReader) (xs : Data Ds κs) (x : f κs (d, xs) .ghost) (r : R .Denot)
+        → ent 𝓤 (ensured 𝓤 H A (At Ds R) g κs (d .text, (d .at, xs)) (c .to κs d xs x) r) (ensured 𝓤 H A (Over Ds R) f κs (d, xs) x r)
+    promised κs d xs x r = exE 𝓤 _ (λ ws. qed W (‵ (fsep ftrue (fsep ftrue (lastsOf κs (slots Ds) (kept Ds) xs (ws .1 .1)))) ∷ raw (g κs (d .text, (d .at, xs)) .ensures (c .to κs d xs x) r (atExit (At Ds R) κs (d .text, (d .at, xs)) (tt, (tt, ws .1 .1)))) ∷ []) ∵
+        fsplit ! $ drop ! $ move ! (1 ∷ []) $ use1 W (raw (f κs (d, xs) .ensures x r (atExit (Over Ds R) κs (d, xs) (tt, ws .1 .1)))) (c .tells κs d xs x r (ws .1 .1)) $ move ! (1 ∷ []) $
         show ! (λ (ws′ : Fins κs (Over Ds R .signature .params) (Over Ds R .kept) (d, xs)). sep 𝓤 (sem 𝓤 H A (lasts (Over Ds R) κs (d, xs) ws′)) (f κs (d, xs) .ensures x r (atExit (Over Ds R) κs (d, xs) ws′))) (tt, ws .1 .1) $ done !)
 
-    meets : (k : Name) (run : Fun 𝓤) → Takes-apart k run → Triple 𝓤 (C k) (tripleOf 𝓤 H A (At Ds R .signature) (closing 𝓤 H A (At Ds R) g)) → Meets 𝓤 H A (Over Ds R .signature) run (closing 𝓤 H A (Over Ds R) f)
-    meets k run passes known =
+    thin-meets : (k : Name) (run : Fun 𝓤) → Takes-apart k run → Triple 𝓤 (C k) (tripleOf 𝓤 H A (At Ds R .signature) (closing 𝓤 H A (At Ds R) g)) → Meets 𝓤 H A (Over Ds R .signature) run (closing 𝓤 H A (Over Ds R) f)
+    thin-meets k run passes known =
         spelled 𝓤 H A (Over Ds R .signature) (closing 𝓤 H A (Over Ds R) f) run (λ κs. (LL.vals (T.the-type (namedLft 1 0 tt κs)) (T′.the-laws (namedLft 1 0 tt κs)), spells Ds κs)) (λ κs. (LL.tells (T.the-type (namedLft 1 0 tt κs)) (T′.the-laws (namedLft 1 0 tt κs)), told Ds κs))
         (λ κs qs o a x are.
         let vss : Valss (typesAt (slots Ds) κs) = each Ds κs (a .1) in
         let Q : Val → SProp 𝓤 = tripleOf 𝓤 H A (Over Ds R .signature) (closing 𝓤 H A (Over Ds R) f) .post ((κs, qs, o, a, (T′.lowered (a .0) ∷ [], vss)), x) in
         via 𝓤 (C k (slice (a .0 .text) ∷ vint w64 (a .0 .at) ∷ vals Ds κs (a .1)) (Result 𝓤 H R Q))
-        (via 𝓤 _ (mono∗ 𝓤 (apart κs qs (a .0) (a .1) vss) (asks κs (a .0) (a .1) x))
-        (via 𝓤 _ (known ((κs, qs, o, (a .0 .text, (a .0 .at, a .1)), (slice (a .0 .text) ∷ [], (vint w64 (a .0 .at) ∷ [], vss))), to κs (a .0) (a .1) x))
-        (fm→mono 𝓤 _ (fm k (slice (a .0 .text) ∷ vint w64 (a .0 .at) ∷ vals Ds κs (a .1))) _ _ (gives 𝓤 H R A W res (alive 𝓤 H A (At Ds R .signature) κs qs) (ensured 𝓤 H A (At Ds R) g κs (a .0 .text, (a .0 .at, a .1)) (to κs (a .0) (a .1) x)) (ensured 𝓤 H A (Over Ds R) f κs a x) (ensures κs (a .0) (a .1) x)))))
+        (via 𝓤 _ (mono∗ 𝓤 (apart κs qs (a .0) (a .1) vss) (c .asks κs (a .0) (a .1) x))
+        (via 𝓤 _ (known ((κs, qs, o, (a .0 .text, (a .0 .at, a .1)), (slice (a .0 .text) ∷ [], (vint w64 (a .0 .at) ∷ [], vss))), c .to κs (a .0) (a .1) x))
+        (fm→mono 𝓤 _ (fm k (slice (a .0 .text) ∷ vint w64 (a .0 .at) ∷ vals Ds κs (a .1))) _ _ (gives 𝓤 H R A W res (alive 𝓤 H A (At Ds R .signature) κs qs) (ensured 𝓤 H A (At Ds R) g κs (a .0 .text, (a .0 .at, a .1)) (c .to κs (a .0) (a .1) x)) (ensured 𝓤 H A (Over Ds R) f κs a x) (promised κs (a .0) (a .1) x)))))
         (passes κs (a .0) (a .1) Q (all-typed 𝓤 H A (B κs ∷ typesAt (slots Ds) κs) (LL.lawful (T.the-type (namedLft 1 0 tt κs)) (T′.the-laws (namedLft 1 0 tt κs)) 𝓤 H A W, lawfuls Ds κs 𝓤 H A W) a (T′.lowered (a .0) ∷ [], vss) are)))
 
 -- ---- from a text and a position to a reader
@@ -206,11 +225,7 @@ module _ (Ds : List Datum) (R : RattleType) {M : Type 1} (𝓤 : URA M) (H : Hea
   Puts-together n k run = (κs : Lfts 1) (s : RefT (List ℕ)) (at : ℕ) (xs : Data Ds κs) (Q : Val → SProp 𝓤) → Typed (types-at Ds κs) (slice s ∷ vint w64 at ∷ vals Ds κs xs)
       → ent 𝓤 (C n (slice s ∷ vint w64 at ∷ []) (Result 𝓤 H (Local κs) (λ u. C k (u ∷ vals Ds κs xs) (Result 𝓤 H R Q)))) (run (slice s ∷ vint w64 at ∷ vals Ds κs xs) Q)
 
-  module _ (A : Atoms 𝓤) (W : Given 𝓤 H A) (res : Lawful 𝓤 H A R) (fm : FmC 𝓤 H (W .laws) C) (mem : Memory → SProp 𝓤) (running : Routine → Fun 𝓤) (g : Clauses 𝓤 (At Ds R)) (f : Clauses 𝓤 (Over Ds R))
-      (to : (κs : Lfts 1) (s : RefT (List ℕ)) (at : ℕ) (xs : Data Ds κs) → g κs (s, (at, xs)) .ghost → f κs (made s at, xs) .ghost)
-      (asks : (κs : Lfts 1) (s : RefT (List ℕ)) (at : ℕ) (xs : Data Ds κs) (x : g κs (s, (at, xs)) .ghost) → ent 𝓤 (g κs (s, (at, xs)) .requires x) (f κs (made s at, xs) .requires (to κs s at xs x)))
-      (tells : (κs : Lfts 1) (s : RefT (List ℕ)) (at : ℕ) (xs : Data Ds κs) (x : g κs (s, (at, xs)) .ghost) (r : R .Denot) (ws : Fins κs (slots Ds) (kept Ds) xs)
-      → ent 𝓤 (f κs (made s at, xs) .ensures (to κs s at xs x) r (atExit (Over Ds R) κs (made s at, xs) (tt, ws))) (g κs (s, (at, xs)) .ensures x r (atExit (At Ds R) κs (s, (at, xs)) (tt, (tt, ws))))) where
+  module _ (A : Atoms 𝓤) (W : Given 𝓤 H A) (res : Lawful 𝓤 H A R) (fm : FmC 𝓤 H (W .laws) C) (mem : Memory → SProp 𝓤) (running : Routine → Fun 𝓤) (g : Clauses 𝓤 (At Ds R)) (f : Clauses 𝓤 (Over Ds R)) (c : Passes Ds R 𝓤 (at-its Ds R 𝓤 g) (over Ds R 𝓤 f)) where
     abbrev New : Contract 𝓤
     New = tripleOf 𝓤 H A new.signature (new.spec 𝓤 H A mem running)
 
@@ -222,7 +237,7 @@ module _ (Ds : List Datum) (R : RattleType) {M : Type 1} (𝓤 : URA M) (H : Hea
       to-new = ((κs, qs, o, (s, (at, tt)), (slice s ∷ [], (vint w64 at ∷ [], tt))), tt)
 
       abbrev to-callee : Val → Callee .Ghost
-      to-callee u = ((κs, qs, o, (made s at, xs), (u ∷ [], each Ds κs xs)), to κs s at xs x)
+      to-callee u = ((κs, qs, o, (made s at, xs), (u ∷ [], each Ds κs xs)), c .to κs (made s at) xs x)
 
       abbrev Post : Val → SProp 𝓤
       Post = tripleOf 𝓤 H A (At Ds R .signature) (closing 𝓤 H A (At Ds R) g) .post ((κs, qs, o, (s, (at, xs)), (slice s ∷ [], (vint w64 at ∷ [], each Ds κs xs))), x)
@@ -239,16 +254,16 @@ module _ (Ds : List Datum) (R : RattleType) {M : Type 1} (𝓤 : URA M) (H : Hea
           nothing ! $ move ! (1 ∷ 0 ∷ []) $ fjoin ! $ move ! (2 ∷ 0 ∷ []) $ fjoin ! $ move ! (2 ∷ 0 ∷ []) $ join ! $
           use1 W (raw (New .pre to-new)) (qed W ((raw (alive 𝓤 H A new.signature κs qs) ⊛ ‵ (owns (typesAt (new.signature .params) κs) (s, (at, tt)) (slice s ∷ [], (vint w64 at ∷ [], tt)))) ∷ []) ∵ frame ! $ done !) $ done !
 
-      said-back : (r : R .Denot) → ent 𝓤 (ensured 𝓤 H A (Over Ds R) f κs (made s at, xs) (to κs s at xs x) r) (ensured 𝓤 H A (At Ds R) g κs (s, (at, xs)) x r)
-      said-back r = exE 𝓤 _ (λ ws.
-          qed W (‵ (fsep ftrue (lastsOf κs (slots Ds) (kept Ds) xs (ws .1))) ∷ raw (f κs (made s at, xs) .ensures (to κs s at xs x) r (atExit (Over Ds R) κs (made s at, xs) (tt, ws .1))) ∷ []) ∵
-          move ! (1 ∷ []) $ use1 W (raw (g κs (s, (at, xs)) .ensures x r (atExit (At Ds R) κs (s, (at, xs)) (tt, (tt, ws .1))))) (tells κs s at xs x r (ws .1)) $ move ! (1 ∷ []) $ nothing ! $ fjoin ! $
+      promised-at : (r : R .Denot) → ent 𝓤 (ensured 𝓤 H A (Over Ds R) f κs (made s at, xs) (c .to κs (made s at) xs x) r) (ensured 𝓤 H A (At Ds R) g κs (s, (at, xs)) x r)
+      promised-at r = exE 𝓤 _ (λ ws.
+          qed W (‵ (fsep ftrue (lastsOf κs (slots Ds) (kept Ds) xs (ws .1))) ∷ raw (f κs (made s at, xs) .ensures (c .to κs (made s at) xs x) r (atExit (Over Ds R) κs (made s at, xs) (tt, ws .1))) ∷ []) ∵
+          move ! (1 ∷ []) $ use1 W (raw (g κs (s, (at, xs)) .ensures x r (atExit (At Ds R) κs (s, (at, xs)) (tt, (tt, ws .1))))) (c .tells κs (made s at) xs x r (ws .1)) $ move ! (1 ∷ []) $ nothing ! $ fjoin ! $
           show ! (λ (ws′ : Fins κs (At Ds R .signature .params) (At Ds R .kept) (s, (at, xs))). sep 𝓤 (sem 𝓤 H A (lasts (At Ds R) κs (s, (at, xs)) ws′)) (g κs (s, (at, xs)) .ensures x r (atExit (At Ds R) κs (s, (at, xs)) ws′))) (tt, (tt, ws .1)) $ done !)
 
       module _ (k : Name) (known : Triple 𝓤 (C k) Callee) where
         call : (u : Val) → ent 𝓤 (Callee .pre (to-callee u)) (C k (u ∷ vals Ds κs xs) (Result 𝓤 H R Post))
         call u = via 𝓤 _ (known (to-callee u)) (fm→mono 𝓤 _ (fm k (u ∷ vals Ds κs xs)) _ _
-            (gives 𝓤 H R A W res (alive 𝓤 H A (Over Ds R .signature) κs qs) (ensured 𝓤 H A (Over Ds R) f κs (made s at, xs) (to κs s at xs x)) (ensured 𝓤 H A (At Ds R) g κs (s, (at, xs)) x) said-back))
+            (gives 𝓤 H R A W res (alive 𝓤 H A (Over Ds R .signature) κs qs) (ensured 𝓤 H A (Over Ds R) f κs (made s at, xs) (c .to κs (made s at) xs x)) (ensured 𝓤 H A (At Ds R) g κs (s, (at, xs)) x) promised-at))
 
         -- once `new` has returned u, the callee is called on it
         then : (u : Val) → ent 𝓤 (sep 𝓤 (New .post to-new u) Rest) (Result 𝓤 H (Local κs) (λ u. C k (u ∷ vals Ds κs xs) (Result 𝓤 H R Post)) u)
@@ -259,10 +274,10 @@ module _ (Ds : List Datum) (R : RattleType) {M : Type 1} (𝓤 : URA M) (H : Hea
             rewrite ! 0 (λ (d : LineReader). ‵ (B κs .own d (u ∷ []))) (λ i. record { text = e .0 i; at = e .1 i }) refl $
             -- [what the reader owns; the token; what the data own; what is asked]
             now ! $ says ! (LL.lawful (T.the-type (unnamed κs)) (T′.the-laws (unnamed κs)) 𝓤 H A W .typed r (u ∷ []) is) $ move ! (0 ∷ 2 ∷ []) $ fjoin ! $ move ! (1 ∷ 0 ∷ []) $ join ! $
-            move ! (1 ∷ []) $ use1 W (raw (f κs (made s at, xs) .requires (to κs s at xs x))) (asks κs s at xs x) $ move ! (1 ∷ 0 ∷ []) $ join ! $ by ! (call u))))
+            move ! (1 ∷ []) $ use1 W (raw (f κs (made s at, xs) .requires (c .to κs (made s at) xs x))) (c .asks κs (made s at) xs x) $ move ! (1 ∷ 0 ∷ []) $ join ! $ by ! (call u))))
 
-    meets′ : (n k : Name) → Triple 𝓤 (C n) New → Triple 𝓤 (C k) Callee → (run : Fun 𝓤) → Puts-together n k run → Meets 𝓤 H A (At Ds R .signature) run (closing 𝓤 H A (At Ds R) g)
-    meets′ n k makes known run passes =
+    above-meets : (n k : Name) → Triple 𝓤 (C n) New → Triple 𝓤 (C k) Callee → (run : Fun 𝓤) → Puts-together n k run → Meets 𝓤 H A (At Ds R .signature) run (closing 𝓤 H A (At Ds R) g)
+    above-meets n k makes known run passes =
         spelled 𝓤 H A (At Ds R .signature) (closing 𝓤 H A (At Ds R) g) run (λ κs. (slice-vals, (uint-vals w64, spells Ds κs))) (λ κs. (shr-slice-tells (named 0) (κs .0) u8, (uint-tells w64, told Ds κs)))
         (λ κs qs o a x are.
         let s : RefT (List ℕ) = a .0 in
@@ -285,26 +300,18 @@ module _ (Ds : List Datum) (R : RattleType) {M : Type 1} (𝓤 : URA M) (H : Hea
   abbrev Meet : (T : Ended) → Clauses 𝓤 T → Routine → Type 1
   Meet T c r = Meets 𝓤 H (𝓖 .A) (T .signature) (𝓡 .run r) (closing 𝓤 H (𝓖 .A) T c)
 
-  pub thin : (f : Clauses 𝓤 (Over Ds R)) (g : Clauses 𝓤 (At Ds R)) (k : Name) (r : Routine) → γ k ≡ r → Meet (At Ds R) g r → Takes-apart Ds R 𝓤 H (tables 𝓤 H 𝓜 𝓡 γ .C) k Walk
-      → (to : (κs : Lfts 1) (d : LineReader) (xs : Data Ds κs) → f κs (d, xs) .ghost → g κs (d .text, (d .at, xs)) .ghost)
-      → ((κs : Lfts 1) (d : LineReader) (xs : Data Ds κs) (x : f κs (d, xs) .ghost) → ent 𝓤 (f κs (d, xs) .requires x) (g κs (d .text, (d .at, xs)) .requires (to κs d xs x)))
-      → ((κs : Lfts 1) (d : LineReader) (xs : Data Ds κs) (x : f κs (d, xs) .ghost) (r : R .Denot) (ws : Fins κs (slots Ds) (kept Ds) xs)
-      → ent 𝓤 (g κs (d .text, (d .at, xs)) .ensures (to κs d xs x) r (atExit (At Ds R) κs (d .text, (d .at, xs)) (tt, (tt, ws)))) (f κs (d, xs) .ensures x r (atExit (Over Ds R) κs (d, xs) (tt, ws))))
+  pub thin : (f : Clauses 𝓤 (Over Ds R)) (g : Clauses 𝓤 (At Ds R)) (k : Name) (r : Routine) → γ k ≡ r → Meet (At Ds R) g r → Takes-apart Ds R 𝓤 H (tables 𝓤 H 𝓜 𝓡 γ .C) k Walk → Passes Ds R 𝓤 (over Ds R 𝓤 f) (at-its Ds R 𝓤 g)
       → Meet (Over Ds R) f (γ key)
-  thin f g k r is met walk to asks tells =
+  thin f g k r is met walk c =
       entered 𝓤 H (tripleOf 𝓤 H (𝓖 .A) (Over Ds R .signature) (closing 𝓤 H (𝓖 .A) (Over Ds R) f)) (tables 𝓤 H 𝓜 𝓡 γ .C) (tables 𝓤 H 𝓜 𝓡 γ .Λ) key e closed
-      (meets Ds R 𝓤 H (tables 𝓤 H 𝓜 𝓡 γ .C) (𝓖 .A) (givenOf 𝓤 H 𝓜 𝓖) res (framed 𝓤 H 𝓜 (tables 𝓤 H 𝓜 𝓡 γ)) f g to asks tells k Walk walk
+      (thin-meets Ds R 𝓤 H (tables 𝓤 H 𝓜 𝓡 γ .C) (𝓖 .A) (givenOf 𝓤 H 𝓜 𝓖) res (framed 𝓤 H 𝓜 (tables 𝓤 H 𝓜 𝓡 γ)) f g c k Walk walk
       (cited 𝓤 H (tripleOf 𝓤 H (𝓖 .A) (At Ds R .signature) (closing 𝓤 H (𝓖 .A) (At Ds R) g)) 𝓜 𝓡 γ k r is met))
 
   pub above : (g : Clauses 𝓤 (At Ds R)) (f : Clauses 𝓤 (Over Ds R)) (n k : Name) (q r : Routine) → γ n ≡ q → γ k ≡ r → Meets 𝓤 H (𝓖 .A) new.signature (𝓡 .run q) (new.spec 𝓤 H (𝓖 .A) (𝓜 .mem) (𝓡 .run)) → Meet (Over Ds R) f r
-      → Puts-together Ds R 𝓤 H (tables 𝓤 H 𝓜 𝓡 γ .C) n k Walk
-      → (to : (κs : Lfts 1) (s : RefT (List ℕ)) (at : ℕ) (xs : Data Ds κs) → g κs (s, (at, xs)) .ghost → f κs (made s at, xs) .ghost)
-      → ((κs : Lfts 1) (s : RefT (List ℕ)) (at : ℕ) (xs : Data Ds κs) (x : g κs (s, (at, xs)) .ghost) → ent 𝓤 (g κs (s, (at, xs)) .requires x) (f κs (made s at, xs) .requires (to κs s at xs x)))
-      → ((κs : Lfts 1) (s : RefT (List ℕ)) (at : ℕ) (xs : Data Ds κs) (x : g κs (s, (at, xs)) .ghost) (r : R .Denot) (ws : Fins κs (slots Ds) (kept Ds) xs)
-      → ent 𝓤 (f κs (made s at, xs) .ensures (to κs s at xs x) r (atExit (Over Ds R) κs (made s at, xs) (tt, ws))) (g κs (s, (at, xs)) .ensures x r (atExit (At Ds R) κs (s, (at, xs)) (tt, (tt, ws)))))
+      → Puts-together Ds R 𝓤 H (tables 𝓤 H 𝓜 𝓡 γ .C) n k Walk → Passes Ds R 𝓤 (at-its Ds R 𝓤 g) (over Ds R 𝓤 f)
       → Meet (At Ds R) g (γ key)
-  above g f n k q r is-new is met-new met walk to asks tells =
+  above g f n k q r is-new is met-new met walk c =
       entered 𝓤 H (tripleOf 𝓤 H (𝓖 .A) (At Ds R .signature) (closing 𝓤 H (𝓖 .A) (At Ds R) g)) (tables 𝓤 H 𝓜 𝓡 γ .C) (tables 𝓤 H 𝓜 𝓡 γ .Λ) key e closed
-      (meets′ Ds R 𝓤 H (tables 𝓤 H 𝓜 𝓡 γ .C) (𝓖 .A) (givenOf 𝓤 H 𝓜 𝓖) res (framed 𝓤 H 𝓜 (tables 𝓤 H 𝓜 𝓡 γ)) (𝓜 .mem) (𝓡 .run) g f to asks tells n k
+      (above-meets Ds R 𝓤 H (tables 𝓤 H 𝓜 𝓡 γ .C) (𝓖 .A) (givenOf 𝓤 H 𝓜 𝓖) res (framed 𝓤 H 𝓜 (tables 𝓤 H 𝓜 𝓡 γ)) (𝓜 .mem) (𝓡 .run) g f c n k
       (cited 𝓤 H (tripleOf 𝓤 H (𝓖 .A) new.signature (new.spec 𝓤 H (𝓖 .A) (𝓜 .mem) (𝓡 .run))) 𝓜 𝓡 γ n q is-new met-new)
       (cited 𝓤 H (tripleOf 𝓤 H (𝓖 .A) (Over Ds R .signature) (closing 𝓤 H (𝓖 .A) (Over Ds R) f)) 𝓜 𝓡 γ k r is met) Walk walk)
