@@ -1,5 +1,5 @@
-// The reader moves over a lent text one line after another. A struct that holds a reference is walked by hand, so each function over it
-// is thin: it takes the reader apart and calls a covered function on the slice and the number.
+// The reader moves over a lent text one line after another. The proof of a function over a struct that holds a reference is a walk by hand,
+// so each is thin: it takes the reader apart and calls a function of `records` or `nodes` on the slice and the number.
 ghost use Prim.Native.Nat.{_≤_, _<_};
 ghost use mathlib.Core.Path.{_≡_};
 ghost use lib.ListN.{length};
@@ -21,7 +21,7 @@ pub fn new<'a>(text: &'a [u8], at: usize) -> LineReader<'a>
     LineReader { text, at }
 }
 
-// ---- the next line of each kind
+// ---- the line that stands at the position reached, of each kind
 
 pub fn head<'a>(r: LineReader<'a>) -> records::HeadLine
     requires { ⌜ r .at ≤ length (now (r .text)) ⌝ }
@@ -72,7 +72,7 @@ pub fn node<'a>(r: LineReader<'a>, line: usize, c: nodes::Scope, lo: u64, below:
     nodes::node_line(r.text, r.at, line, c, lo, below)
 }
 
-// ---- the line at a place, for callers that hold no reader
+// ---- the same for a caller that holds a text and a place
 
 pub fn next_head(s: &[u8], at: usize) -> records::HeadLine
     requires { ⌜ at ≤ length (now s) ⌝ }
