@@ -64,7 +64,7 @@ fn open_nodes(s: &[u8], at: usize, line: usize, c: nodes::Scope) -> Slots
     let mut i = 0;
     while i < n {
         let j = i as u64;
-        let row = nodes::node_line(s, p, l, c, j, j + 1);
+        let row = line_reader::next_node(s, p, l, c, j, j + 1);
         let nodes::Line::Node(node, _, e) = row else {
             return stopped(row, slots);
         };
@@ -109,7 +109,7 @@ fn further_nodes(
     let mut l = line;
     let mut last = 0u64;
     while node_stands(s, p) {
-        let row = nodes::node_line(s, p, l, c, last + 1, n);
+        let row = line_reader::next_node(s, p, l, c, last + 1, n);
         let nodes::Line::Node(node, j, e) = row else {
             return stopped(row, slots);
         };
@@ -135,7 +135,7 @@ fn closed_nodes(s: &[u8], at: usize, line: usize, c: nodes::Scope) -> Slots
         node: table::Node::Absent,
     };
     let mut slots = [none; 32];
-    let row = nodes::node_line(s, at, line, c, 0, 1);
+    let row = line_reader::next_node(s, at, line, c, 0, 1);
     let nodes::Line::Node(node, _, e) = row else {
         return stopped(row, slots);
     };
@@ -211,7 +211,7 @@ fn proc_row(
     requires { ⌜ (at ≤ length (now s)) × Counted counts × (i < 8) × (line < 999) ⌝ }
     ensures { λ r. ⌜ ProcRowAt closed counts i (now (s .entry)) at line r ⌝ }
 {
-    let head = records::proc_line(s, at, closed, i);
+    let head = line_reader::next_proc(s, at, closed, i);
     let records::ProcLine::Is(h, e) = head else {
         return ProcRow {
             end: rows::End::Refused(proc_fault(head)),

@@ -190,7 +190,7 @@ fn body(s: &[u8], at: usize, trap: u8, closed: bool, counts: records::Counts) ->
 fn table_rows(s: &[u8]) -> Whole
     ensures { λ r. ⌜ WholeAt (now (s .entry)) r ⌝ }
 {
-    let head = records::head_line(s, 0);
+    let head = line_reader::next_head(s, 0);
     let records::HeadLine::Is(trap, closed, a) = head else {
         return Whole {
             end: rows::End::Refused(head_fault(head)),
@@ -198,7 +198,7 @@ fn table_rows(s: &[u8]) -> Whole
             table: no_table(),
         };
     };
-    let row = records::counts_line(s, a);
+    let row = line_reader::next_counts(s, a);
     let records::CountsLine::Is(counts, b) = row else {
         return Whole {
             end: rows::End::Refused(counts_fault(row)),

@@ -68,7 +68,7 @@ pub fn task_rows(s: &[u8], at: usize, line: usize, n: usize, procs: u64) -> Task
     let mut l = line;
     let mut i = 0;
     while i < n {
-        let row = records::task_line(s, p, i as u64, procs);
+        let row = line_reader::next_task(s, p, i as u64, procs);
         let records::TaskLine::Is(t, e) = row else {
             return Tasks {
                 end: End::Refused(task_fault(row)),
@@ -98,7 +98,7 @@ pub fn sem_rows(s: &[u8], at: usize, line: usize, n: usize) -> Sems
     let mut l = line;
     let mut i = 0;
     while i < n {
-        let row = records::sem_line(s, p, i as u64);
+        let row = line_reader::next_sem(s, p, i as u64);
         let records::SemLine::Is(x, e) = row else {
             return Sems {
                 end: End::Refused(sem_fault(row)),
@@ -131,7 +131,7 @@ pub fn queue_rows(s: &[u8], at: usize, line: usize, n: usize, closed: bool) -> Q
     let mut l = line;
     let mut i = 0;
     while i < n {
-        let row = records::queue_line(s, p, closed, i as u64);
+        let row = line_reader::next_queue(s, p, closed, i as u64);
         let records::QueueLine::Is(x, e) = row else {
             return Queues {
                 end: End::Refused(queue_fault(row)),

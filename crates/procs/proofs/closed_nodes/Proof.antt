@@ -5,13 +5,13 @@ use Rattle.procs.proofs.closed_nodes.Statement.{statement}
 use Rattle.procs.proofs.closed_nodes.Tie as tie
 use Rattle.procs.proofs.closed_nodes.Reads as reads
 use Rattle.procs.proofs.closed_nodes.Lts as lts
-use Rattle.nodes.proofs.node_line.Reads as node-line-reads
+use Rattle.line_reader.proofs.next_node.Reads as next-node-reads
 use Rattle.procs.proofs.further_nodes.Reads as further-nodes-reads
 use Rattle.procs.proofs.stopped.Reads as stopped-reads
 
 -- src/lib.rt:132:9
-node-line-requires : tie.Need-node-line-requires
-node-line-requires c κs = search needs
+next-node-requires : tie.Need-next-node-requires
+next-node-requires c κs = search needs
 
 -- src/lib.rt:133:27
 enum-known-row : tie.Need-enum-known-row
@@ -49,7 +49,7 @@ pub closed-nodes-spec : {M : Type 1} → statement M
 closed-nodes-spec =
     tie.close
     (tie.spec
-    node-line-requires
+    next-node-requires
     enum-known-row
     enum-told
     stopped-requires

@@ -7,7 +7,7 @@ use Rattle.procs.proofs.further_nodes.Statement.{statement}
 use Rattle.procs.proofs.further_nodes.Tie as tie
 use Rattle.procs.proofs.further_nodes.Reads as reads
 use Rattle.procs.proofs.further_nodes.Lts as lts
-use Rattle.nodes.proofs.node_line.Reads as node-line-reads
+use Rattle.line_reader.proofs.next_node.Reads as next-node-reads
 use Rattle.procs.proofs.node_stands.Reads as node-stands-reads
 use Rattle.procs.proofs.stopped.Reads as stopped-reads
 
@@ -26,12 +26,12 @@ node-stands-requires : tie.Need-node-stands-requires Inv-loop μ-loop
 node-stands-requires c κs = search needs
 
 -- src/lib.rt:88:48
-add-node-line : tie.Need-add-node-line Inv-loop μ-loop
-add-node-line c = search needs
+add-next-node : tie.Need-add-next-node Inv-loop μ-loop
+add-next-node c = search needs
 
 -- src/lib.rt:88:13
-node-line-requires : tie.Need-node-line-requires Inv-loop μ-loop
-node-line-requires c κs = search needs
+next-node-requires : tie.Need-next-node-requires Inv-loop μ-loop
+next-node-requires c κs = search needs
 
 -- src/lib.rt:89:31
 enum-known-row : tie.Need-enum-known-row Inv-loop μ-loop
@@ -59,7 +59,7 @@ mul-slots c = search needs
 
 -- src/lib.rt:93:9
 array-set-from-slots : tie.Need-array-set-from-slots Inv-loop μ-loop
-array-set-from-slots c = further-index (c .before .before .before .before .before .before .loop .inv) (c .before .before .before .node-line .ensures) (c .before .row .given .1)
+array-set-from-slots c = further-index (c .before .before .before .before .before .before .loop .inv) (c .before .before .before .next-node .ensures) (c .before .row .given .1)
 
 -- src/lib.rt:95:9
 add-l : tie.Need-add-l Inv-loop μ-loop
@@ -71,7 +71,7 @@ cast-last c = search needs
 
 -- src/lib.rt:87:5
 loop-less : tie.Need-loop-less Inv-loop μ-loop
-loop-less c = further-less (c .before .before .before .before .before .before .loop .inv) (c .before .before .before .node-line .ensures) (c .before .row .given .1)
+loop-less c = further-less (c .before .before .before .before .before .before .loop .inv) (c .before .before .before .next-node .ensures) (c .before .row .given .1)
 
 -- src/lib.rt:87:5
 loop-again : tie.Need-loop-again Inv-loop μ-loop
@@ -89,8 +89,8 @@ further-nodes-spec =
     μ-loop
     loop-holds
     node-stands-requires
-    add-node-line
-    node-line-requires
+    add-next-node
+    next-node-requires
     enum-known-row
     enum-told
     stopped-requires

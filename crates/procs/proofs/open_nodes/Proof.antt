@@ -7,7 +7,7 @@ use Rattle.procs.proofs.open_nodes.Statement.{statement}
 use Rattle.procs.proofs.open_nodes.Tie as tie
 use Rattle.procs.proofs.open_nodes.Reads as reads
 use Rattle.procs.proofs.open_nodes.Lts as lts
-use Rattle.nodes.proofs.node_line.Reads as node-line-reads
+use Rattle.line_reader.proofs.next_node.Reads as next-node-reads
 use Rattle.procs.proofs.stopped.Reads as stopped-reads
 
 abbrev Inv-loop : tie.InvT-loop
@@ -21,12 +21,12 @@ loop-holds : tie.Need-loop-holds Inv-loop μ-loop
 loop-holds c = search (needs, open-start)
 
 -- src/lib.rt:49:51
-add-node-line : tie.Need-add-node-line Inv-loop μ-loop
-add-node-line c = search needs
+add-next-node : tie.Need-add-next-node Inv-loop μ-loop
+add-next-node c = search needs
 
 -- src/lib.rt:49:13
-node-line-requires : tie.Need-node-line-requires Inv-loop μ-loop
-node-line-requires c κs = search needs
+next-node-requires : tie.Need-next-node-requires Inv-loop μ-loop
+next-node-requires c κs = search needs
 
 -- src/lib.rt:50:31
 enum-known-row : tie.Need-enum-known-row Inv-loop μ-loop
@@ -79,8 +79,8 @@ open-nodes-spec =
     Inv-loop
     μ-loop
     loop-holds
-    add-node-line
-    node-line-requires
+    add-next-node
+    next-node-requires
     enum-known-row
     enum-told
     stopped-requires

@@ -5,15 +5,15 @@ use Rattle.procs.proofs.proc_row.Statement.{statement}
 use Rattle.procs.proofs.proc_row.Tie as tie
 use Rattle.procs.proofs.proc_row.Reads as reads
 use Rattle.procs.proofs.proc_row.Lts as lts
-use Rattle.records.proofs.proc_line.Reads as proc-line-reads
+use Rattle.line_reader.proofs.next_proc.Reads as next-proc-reads
 use Rattle.procs.proofs.empty_proc.Reads as empty-proc-reads
 use Rattle.procs.proofs.node_rows.Reads as node-rows-reads
 use Rattle.procs.proofs.proc_fault.Reads as proc-fault-reads
 use Rattle.procs.proofs.with_nodes.Reads as with-nodes-reads
 
 -- src/lib.rt:201:9
-proc-line-requires : tie.Need-proc-line-requires
-proc-line-requires c κs = search needs
+next-proc-requires : tie.Need-next-proc-requires
+next-proc-requires c κs = search needs
 
 -- src/lib.rt:202:29
 enum-known-head : tie.Need-enum-known-head
@@ -75,7 +75,7 @@ pub proc-row-spec : {M : Type 1} → statement M
 proc-row-spec =
     tie.close
     (tie.spec
-    proc-line-requires
+    next-proc-requires
     enum-known-head
     enum-told
     proc-fault-requires

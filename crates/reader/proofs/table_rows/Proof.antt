@@ -9,12 +9,12 @@ use Rattle.reader.proofs.body.Reads as body-reads
 use Rattle.reader.proofs.counts_fault.Reads as counts-fault-reads
 use Rattle.reader.proofs.head_fault.Reads as head-fault-reads
 use Rattle.reader.proofs.no_table.Reads as no-table-reads
-use Rattle.records.proofs.counts_line.Reads as counts-line-reads
-use Rattle.records.proofs.head_line.Reads as head-line-reads
+use Rattle.line_reader.proofs.next_counts.Reads as next-counts-reads
+use Rattle.line_reader.proofs.next_head.Reads as next-head-reads
 
 -- src/lib.rt:190:9
-head-line-requires : tie.Need-head-line-requires
-head-line-requires c κs = search needs
+next-head-requires : tie.Need-next-head-requires
+next-head-requires c κs = search needs
 
 -- src/lib.rt:191:31
 enum-known-head : tie.Need-enum-known-head
@@ -37,8 +37,8 @@ returns : tie.Need-returns
 returns c = search (needs, head-stop)
 
 -- src/lib.rt:198:9
-counts-line-requires : tie.Need-counts-line-requires
-counts-line-requires c κs = search (needs, head-place)
+next-counts-requires : tie.Need-next-counts-requires
+next-counts-requires c κs = search (needs, head-place)
 
 -- src/lib.rt:199:33
 enum-known-row : tie.Need-enum-known-row
@@ -72,13 +72,13 @@ pub table-rows-spec : {M : Type 1} → statement M
 table-rows-spec =
     tie.close
     (tie.spec
-    head-line-requires
+    next-head-requires
     enum-known-head
     enum-told
     head-fault-requires
     no-table-requires
     returns
-    counts-line-requires
+    next-counts-requires
     enum-known-row
     enum-told-2
     counts-fault-requires

@@ -9,7 +9,7 @@ use Rattle.rows.proofs.queue_rows.Statement.{statement}
 use Rattle.rows.proofs.queue_rows.Tie as tie
 use Rattle.rows.proofs.queue_rows.Reads as reads
 use Rattle.rows.proofs.queue_rows.Lts as lts
-use Rattle.records.proofs.queue_line.Reads as queue-line-reads
+use Rattle.line_reader.proofs.next_queue.Reads as next-queue-reads
 use Rattle.rows.proofs.queue_fault.Reads as queue-fault-reads
 
 abbrev Inv-loop : tie.InvT-loop
@@ -23,8 +23,8 @@ loop-holds : tie.Need-loop-holds Inv-loop μ-loop
 loop-holds c = search (needs, rows-start)
 
 -- src/lib.rt:131:13
-queue-line-requires : tie.Need-queue-line-requires Inv-loop μ-loop
-queue-line-requires c κs = search needs
+next-queue-requires : tie.Need-next-queue-requires Inv-loop μ-loop
+next-queue-requires c κs = search needs
 
 -- src/lib.rt:132:34
 enum-known-row : tie.Need-enum-known-row Inv-loop μ-loop
@@ -77,7 +77,7 @@ queue-rows-spec =
     Inv-loop
     μ-loop
     loop-holds
-    queue-line-requires
+    next-queue-requires
     enum-known-row
     enum-told
     queue-fault-requires

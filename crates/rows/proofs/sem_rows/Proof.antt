@@ -9,7 +9,7 @@ use Rattle.rows.proofs.sem_rows.Statement.{statement}
 use Rattle.rows.proofs.sem_rows.Tie as tie
 use Rattle.rows.proofs.sem_rows.Reads as reads
 use Rattle.rows.proofs.sem_rows.Lts as lts
-use Rattle.records.proofs.sem_line.Reads as sem-line-reads
+use Rattle.line_reader.proofs.next_sem.Reads as next-sem-reads
 use Rattle.rows.proofs.sem_fault.Reads as sem-fault-reads
 
 abbrev Inv-loop : tie.InvT-loop
@@ -23,8 +23,8 @@ loop-holds : tie.Need-loop-holds Inv-loop μ-loop
 loop-holds c = search (needs, rows-start)
 
 -- src/lib.rt:71:13
-sem-line-requires : tie.Need-sem-line-requires Inv-loop μ-loop
-sem-line-requires c κs = search needs
+next-sem-requires : tie.Need-next-sem-requires Inv-loop μ-loop
+next-sem-requires c κs = search needs
 
 -- src/lib.rt:72:33
 enum-known-row : tie.Need-enum-known-row Inv-loop μ-loop
@@ -73,7 +73,7 @@ sem-rows-spec =
     Inv-loop
     μ-loop
     loop-holds
-    sem-line-requires
+    next-sem-requires
     enum-known-row
     enum-told
     sem-fault-requires

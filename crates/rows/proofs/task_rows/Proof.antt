@@ -9,7 +9,7 @@ use Rattle.rows.proofs.task_rows.Statement.{statement}
 use Rattle.rows.proofs.task_rows.Tie as tie
 use Rattle.rows.proofs.task_rows.Reads as reads
 use Rattle.rows.proofs.task_rows.Lts as lts
-use Rattle.records.proofs.task_line.Reads as task-line-reads
+use Rattle.line_reader.proofs.next_task.Reads as next-task-reads
 use Rattle.rows.proofs.task_fault.Reads as task-fault-reads
 
 abbrev Inv-loop : tie.InvT-loop
@@ -23,8 +23,8 @@ loop-holds : tie.Need-loop-holds Inv-loop μ-loop
 loop-holds c = search (needs, rows-start)
 
 -- src/lib.rt:71:13
-task-line-requires : tie.Need-task-line-requires Inv-loop μ-loop
-task-line-requires c κs = search needs
+next-task-requires : tie.Need-next-task-requires Inv-loop μ-loop
+next-task-requires c κs = search needs
 
 -- src/lib.rt:72:33
 enum-known-row : tie.Need-enum-known-row Inv-loop μ-loop
@@ -73,7 +73,7 @@ task-rows-spec =
     Inv-loop
     μ-loop
     loop-holds
-    task-line-requires
+    next-task-requires
     enum-known-row
     enum-told
     task-fault-requires
