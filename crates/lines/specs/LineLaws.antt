@@ -1,7 +1,7 @@
 -- The bytes of each line.
-use Prim.Native.Nat.{ℕ}
-use mathlib.Core.Path.{_≡_, refl}
-use mathlib.Core.List.{List, []}
+use Prim.Native.Nat.{ℕ, _+_}
+use mathlib.Core.Path.{_≡_, refl, _∙_, ap}
+use mathlib.Core.List.{List, [], _++_, append-nil, append-assoc}
 use mathlib.Core.Bool.{Bool, true, false}
 use Rattle.table.specs.declared.Operand.{Operand}
 use Rattle.table.specs.declared.Op.{Op}
@@ -10,14 +10,15 @@ use Rattle.table.specs.declared.Node.{Node}
 use Rattle.table.specs.declared.Node.the-variants.{Absent, Start, Set, Test, Read, Call, Wait, Signal, Send, Recv, Assert, Out, Return}
 use Rattle.table.specs.declared.Queue.{Queue}
 use Rattle.table.specs.declared.Proc.{Proc}
-use Rattle.text.specs.Number.{bytes}
-use Rattle.text.specs.Value.{spell}
+use Rattle.text.specs.Number.{bytes, digits}
+use Rattle.text.specs.Value.{spell, spellOperand, opWord}
 use Rattle.text.specs.Line.{write}
 use Rattle.text.specs.Format.{Scope, headLine, countsLine, taskLine, semLine, queueLine, procLine, describe}
 use Rattle.text.specs.Writer.{nodeText, queueVals, procVals}
 use native.Mathlib.Omega.{arith}
 use Rattle.put.specs.Put.{Put}
-use Rattle.lines.specs.Lines.{pairText, countsText, headText, queueText, procLineText, numberText, variableText, passText, startText, callText, setText, testText, returnText, nodeBytes}
+use Rattle.put.specs.PutLaws.{put-after}
+use Rattle.lines.specs.Lines.{pairText, countsText, headText, queueText, procLineText, node, operandsText, numberText, variableText, passText, startText, callText, setText, testText, returnText, nodeBytes}
 
 -- ---- the lines before the nodes
 
@@ -121,3 +122,20 @@ node-scope c j Return = refl
 -- where there is no node nothing is written
 pub node-none : {l : List ℕ} {at : ℕ} (j : ℕ) → Put 240 l at (nodeBytes j Absent) l at
 node-none j = rw (node-absent j) (record { few = omega arith; bytes = refl; same = refl; next = omega arith })
+
+-- ---- a node line, piece by piece
+
+pub put-end : {k : ℕ} {l m t : List ℕ} {at r : ℕ} → Put k l at t m r → Put k l at (t ++ []) m r
+put-end {t = t} a = rw (append-nil t) a
+
+pub index-then : {i k : ℕ} {l m n u : List ℕ} {at p r : ℕ} (j : ℕ) → Put i l at (node j []) m p → Put k m p u n r → Put (i + k) l at (node j u) n r
+index-then j a b = put-after (rw (append-nil (digits j)) at a) b
+
+pub operands-then : {i k : ℕ} {l m n u : List ℕ} {at p r : ℕ} (o : Op) (x y : Operand) → Put i l at (operandsText o x y []) m p → Put k m p u n r
+    → Put (i + k) l at (operandsText o x y u) n r
+operands-then {u = u} o x y a b =
+    let e : operandsText o x y [] ++ u ≡ operandsText o x y u =
+    ap (λ (z : List ℕ). bytes " op=" ++ z) (append-assoc (opWord o) _ u)
+    ∙ ap (λ (z : List ℕ). bytes " op=" ++ (opWord o ++ (bytes " a=" ++ z))) (append-assoc (spellOperand x) _ u)
+    ∙ ap (λ (z : List ℕ). bytes " op=" ++ (opWord o ++ (bytes " a=" ++ (spellOperand x ++ (bytes " b=" ++ (z ++ u)))))) (append-nil (spellOperand y)) in
+    rw e at (put-after a b)

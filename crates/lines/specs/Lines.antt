@@ -52,6 +52,14 @@ node j rest = bytes "node=" ++ (digits j ++ rest)
 abbrev pub toText : ℕ → List ℕ
 toText to = bytes " to=" ++ (listText to ++ lf)
 
+-- an operation and its operands, and what follows them
+abbrev pub operandsText : Op → Operand → Operand → List ℕ → List ℕ
+operandsText o a b rest = bytes " op=" ++ (opWord o ++ (bytes " a=" ++ (spellOperand a ++ (bytes " b=" ++ (spellOperand b ++ rest)))))
+
+-- the arcs of a test
+abbrev pub arcsText : ℕ → ℕ → List ℕ
+arcsText y n = bytes " yes=" ++ (listText y ++ (bytes " no=" ++ (listText n ++ lf)))
+
 -- with a number, or a variable, under a key
 abbrev pub numberText : ℕ → List ℕ → ℕ → ℕ → List ℕ
 numberText j key n to = node j (key ++ (digits n ++ toText to))
@@ -63,18 +71,16 @@ abbrev pub passText : ℕ → List ℕ → ℕ → ℕ → ℕ → List ℕ
 passText j key q v to = node j (key ++ (digits q ++ (bytes " var=" ++ (spellVariable (nameOf v) ++ toText to))))
 
 abbrev pub startText : ℕ → ℕ → List ℕ
-startText j to = node j (bytes " kind=start to=" ++ (listText to ++ lf))
+startText j to = node j (bytes " kind=start" ++ toText to)
 
 abbrev pub callText : ℕ → ℕ → Args → ℕ → List ℕ
 callText j q x to = node j (bytes " kind=call proc=" ++ (digits q ++ (bytes " args=" ++ (argsText x ++ toText to))))
 
 abbrev pub setText : ℕ → ℕ → Op → Operand → Operand → ℕ → List ℕ
-setText j v o a b to =
-    node j (bytes " kind=set var=" ++ (digits v ++ (bytes " op=" ++ (opWord o ++ (bytes " a=" ++ (spellOperand a ++ (bytes " b=" ++ (spellOperand b ++ toText to))))))))
+setText j v o a b to = node j (bytes " kind=set var=" ++ (digits v ++ operandsText o a b (toText to)))
 
 abbrev pub testText : ℕ → Op → Operand → Operand → ℕ → ℕ → List ℕ
-testText j o a b y n =
-    node j (bytes " kind=test op=" ++ (opWord o ++ (bytes " a=" ++ (spellOperand a ++ (bytes " b=" ++ (spellOperand b ++ (bytes " yes=" ++ (listText y ++ (bytes " no=" ++ (listText n ++ lf))))))))))
+testText j o a b y n = node j (bytes " kind=test" ++ operandsText o a b (arcsText y n))
 
 abbrev pub returnText : ℕ → List ℕ
 returnText j = node j (bytes " kind=return" ++ lf)

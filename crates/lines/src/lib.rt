@@ -1,23 +1,28 @@
 // Writing each line of a table's text into a lent buffer. Each function writes at a place, as far as the buffer reaches, and gives the
 // place after what it wrote: on an empty buffer it measures.
 
-use put::put_args;
+use put::fill_args;
+use put::fill_byte;
+use put::fill_list;
+use put::fill_op;
+use put::fill_operand;
+use put::fill_small;
+use put::fill_text;
+use put::fill_variable;
 use put::put_byte;
+use put::put_bytes;
 use put::put_count;
 use put::put_last_list;
-use put::put_list;
-use put::put_op;
-use put::put_operand;
 use put::put_text;
-use put::put_variable;
 use table::Args;
 use table::Node;
 use table::Op;
 use table::Operand;
-ghost use Prim.Native.Nat.{_≤_};
+ghost use mathlib.Core.List.{[]};
+ghost use Prim.Native.Nat.{_+_, _≤_};
 ghost use lib.ListN.{length};
 ghost use Rattle.put.specs.Put.{Put, FieldAt, LineAt};
-ghost use Rattle.lines.specs.Lines.{pairText, countsText, headText, blankText, queueText, dropText, procLineText, numberText, variableText, passText, startText, callText, setText, testText, returnText, nodeBytes, FewArgs};
+ghost use Rattle.lines.specs.Lines.{pairText, countsText, headText, blankText, queueText, dropText, procLineText, node, toText, operandsText, arcsText, numberText, variableText, passText, startText, callText, setText, testText, returnText, nodeBytes, FewArgs};
 
 pub fn put_pair_line(out: &mut [u8], at: usize, first: &[u8], i: u8, second: &[u8], n: u8) -> usize
     requires { ⌜ (LineAt at) × (length (now first) ≤ 16) × (length (now second) ≤ 16) ⌝ }
@@ -111,68 +116,127 @@ pub fn put_proc_line(
     put_drop(out, d, closed, drop)
 }
 
-fn put_start(out: &mut [u8], at: usize, j: u8, to: u32) -> usize
-    requires { ⌜ LineAt at ⌝ }
+// A node's number.
+fn fill_index(out: &mut [u8], at: usize, j: u8) -> usize
+    requires { ⌜ at + 8 ≤ length (now out) ⌝ }
+    ensures { λ r. ⌜ Put 8 (now (out .entry)) at (node j []) (now (out .exit)) r ⌝ }
+{
+    let a = fill_text(out, at, b"node=");
+    fill_small(out, a, j)
+}
+
+// A node line from its arc on.
+fn fill_arc(out: &mut [u8], at: usize, to: u32) -> usize
+    requires { ⌜ at + 100 ≤ length (now out) ⌝ }
+    ensures { λ r. ⌜ Put 91 (now (out .entry)) at (toText to) (now (out .exit)) r ⌝ }
+{
+    let a = fill_text(out, at, b" to=");
+    let b = fill_list(out, a, to);
+    fill_byte(out, b, 10)
+}
+
+fn fill_start(out: &mut [u8], at: usize, j: u8, to: u32) -> usize
+    requires { ⌜ at + 256 ≤ length (now out) ⌝ }
     ensures { λ r. ⌜ Put 240 (now (out .entry)) at (startText j to) (now (out .exit)) r ⌝ }
 {
-    let a = put_count(out, at, b"node=", j);
-    put_last_list(out, a, b" kind=start to=", to)
+    let a = fill_index(out, at, j);
+    let b = fill_text(out, a, b" kind=start");
+    fill_arc(out, b, to)
 }
 
 // A node with a number under a key: read, wait and signal.
-fn put_number_node(out: &mut [u8], at: usize, j: u8, key: &[u8], n: u8, to: u32) -> usize
-    requires { ⌜ (LineAt at) × (length (now key) ≤ 64) ⌝ }
+fn fill_number_node(out: &mut [u8], at: usize, j: u8, key: &[u8], n: u8, to: u32) -> usize
+    requires { ⌜ (at + 256 ≤ length (now out)) × (length (now key) ≤ 64) ⌝ }
     ensures { λ r. ⌜ Put 240 (now (out .entry)) at (numberText j (now (key .entry)) n to) (now (out .exit)) r ⌝ }
 {
-    let a = put_count(out, at, b"node=", j);
-    let b = put_count(out, a, key, n);
-    put_last_list(out, b, b" to=", to)
+    let a = fill_index(out, at, j);
+    let b = fill_text(out, a, key);
+    let c = fill_small(out, b, n);
+    fill_arc(out, c, to)
 }
 
 // A node with a variable under a key: assert and out.
-fn put_variable_node(out: &mut [u8], at: usize, j: u8, key: &[u8], v: u8, to: u32) -> usize
-    requires { ⌜ (LineAt at) × (length (now key) ≤ 64) ⌝ }
+fn fill_variable_node(out: &mut [u8], at: usize, j: u8, key: &[u8], v: u8, to: u32) -> usize
+    requires { ⌜ (at + 256 ≤ length (now out)) × (length (now key) ≤ 64) ⌝ }
     ensures { λ r. ⌜ Put 240 (now (out .entry)) at (variableText j (now (key .entry)) v to) (now (out .exit)) r ⌝ }
 {
-    let a = put_count(out, at, b"node=", j);
-    let b = put_variable(out, a, key, v);
-    put_last_list(out, b, b" to=", to)
+    let a = fill_index(out, at, j);
+    let b = fill_text(out, a, key);
+    let c = fill_variable(out, b, v);
+    fill_arc(out, c, to)
 }
 
 // A node with a queue and a variable: send and recv.
-fn put_pass(out: &mut [u8], at: usize, j: u8, key: &[u8], q: u8, v: u8, to: u32) -> usize
-    requires { ⌜ (LineAt at) × (length (now key) ≤ 64) ⌝ }
+fn fill_pass(out: &mut [u8], at: usize, j: u8, key: &[u8], q: u8, v: u8, to: u32) -> usize
+    requires { ⌜ (at + 256 ≤ length (now out)) × (length (now key) ≤ 64) ⌝ }
     ensures { λ r. ⌜ Put 240 (now (out .entry)) at (passText j (now (key .entry)) q v to) (now (out .exit)) r ⌝ }
 {
-    let a = put_count(out, at, b"node=", j);
-    let b = put_count(out, a, key, q);
-    let c = put_variable(out, b, b" var=", v);
-    put_last_list(out, c, b" to=", to)
+    let a = fill_index(out, at, j);
+    let b = fill_text(out, a, key);
+    let c = fill_small(out, b, q);
+    let d = fill_text(out, c, b" var=");
+    let e = fill_variable(out, d, v);
+    fill_arc(out, e, to)
 }
 
-fn put_call(out: &mut [u8], at: usize, j: u8, q: u8, x: Args, to: u32) -> usize
-    requires { ⌜ (LineAt at) × (x .len ≤ 4) ⌝ }
+fn fill_call(out: &mut [u8], at: usize, j: u8, q: u8, x: Args, to: u32) -> usize
+    requires { ⌜ (at + 256 ≤ length (now out)) × (x .len ≤ 4) ⌝ }
     ensures { λ r. ⌜ Put 240 (now (out .entry)) at (callText j q x to) (now (out .exit)) r ⌝ }
 {
-    let a = put_count(out, at, b"node=", j);
-    let b = put_count(out, a, b" kind=call proc=", q);
-    let c = put_args(out, b, b" args=", x);
-    put_last_list(out, c, b" to=", to)
+    let a = fill_index(out, at, j);
+    let b = fill_text(out, a, b" kind=call proc=");
+    let c = fill_small(out, b, q);
+    let d = fill_text(out, c, b" args=");
+    let e = fill_args(out, d, x);
+    fill_arc(out, e, to)
 }
 
-fn put_set(out: &mut [u8], at: usize, j: u8, v: u8, o: Op, x: Operand, y: Operand, to: u32) -> usize
-    requires { ⌜ LineAt at ⌝ }
+// An operation and its operands.
+fn fill_operands(out: &mut [u8], at: usize, o: Op, x: Operand, y: Operand) -> usize
+    requires { ⌜ at + 37 ≤ length (now out) ⌝ }
+    ensures { λ r. ⌜ Put 35 (now (out .entry)) at (operandsText o x y []) (now (out .exit)) r ⌝ }
+{
+    let a = fill_text(out, at, b" op=");
+    let b = fill_op(out, a, o);
+    let c = fill_text(out, b, b" a=");
+    let d = fill_operand(out, c, x);
+    let e = fill_text(out, d, b" b=");
+    fill_operand(out, e, y)
+}
+
+fn fill_set(
+    out: &mut [u8],
+    at: usize,
+    j: u8,
+    v: u8,
+    o: Op,
+    x: Operand,
+    y: Operand,
+    to: u32,
+) -> usize
+    requires { ⌜ at + 256 ≤ length (now out) ⌝ }
     ensures { λ r. ⌜ Put 240 (now (out .entry)) at (setText j v o x y to) (now (out .exit)) r ⌝ }
 {
-    let a = put_count(out, at, b"node=", j);
-    let b = put_count(out, a, b" kind=set var=", v);
-    let c = put_op(out, b, b" op=", o);
-    let d = put_operand(out, c, b" a=", x);
-    let e = put_operand(out, d, b" b=", y);
-    put_last_list(out, e, b" to=", to)
+    let a = fill_index(out, at, j);
+    let b = fill_text(out, a, b" kind=set var=");
+    let c = fill_small(out, b, v);
+    let d = fill_operands(out, c, o, x, y);
+    fill_arc(out, d, to)
 }
 
-fn put_test(
+// A test line from its arcs on.
+fn fill_arcs(out: &mut [u8], at: usize, yes: u32, no: u32) -> usize
+    requires { ⌜ at + 191 ≤ length (now out) ⌝ }
+    ensures { λ r. ⌜ Put 182 (now (out .entry)) at (arcsText yes no) (now (out .exit)) r ⌝ }
+{
+    let a = fill_text(out, at, b" yes=");
+    let b = fill_list(out, a, yes);
+    let c = fill_text(out, b, b" no=");
+    let d = fill_list(out, c, no);
+    fill_byte(out, d, 10)
+}
+
+fn fill_test(
     out: &mut [u8],
     at: usize,
     j: u8,
@@ -182,23 +246,58 @@ fn put_test(
     yes: u32,
     no: u32,
 ) -> usize
-    requires { ⌜ LineAt at ⌝ }
+    requires { ⌜ at + 256 ≤ length (now out) ⌝ }
     ensures { λ r. ⌜ Put 240 (now (out .entry)) at (testText j o x y yes no) (now (out .exit)) r ⌝ }
 {
-    let a = put_count(out, at, b"node=", j);
-    let b = put_op(out, a, b" kind=test op=", o);
-    let c = put_operand(out, b, b" a=", x);
-    let d = put_operand(out, c, b" b=", y);
-    let e = put_list(out, d, b" yes=", yes);
-    put_last_list(out, e, b" no=", no)
+    let a = fill_index(out, at, j);
+    let b = fill_text(out, a, b" kind=test");
+    let c = fill_operands(out, b, o, x, y);
+    fill_arcs(out, c, yes, no)
 }
 
-fn put_return(out: &mut [u8], at: usize, j: u8) -> usize
-    requires { ⌜ LineAt at ⌝ }
+fn fill_return(out: &mut [u8], at: usize, j: u8) -> usize
+    requires { ⌜ at + 256 ≤ length (now out) ⌝ }
     ensures { λ r. ⌜ Put 240 (now (out .entry)) at (returnText j) (now (out .exit)) r ⌝ }
 {
-    let a = put_count(out, at, b"node=", j);
-    put_text(out, a, b" kind=return\n")
+    let a = fill_index(out, at, j);
+    fill_text(out, a, b" kind=return\n")
+}
+
+fn fill_node(out: &mut [u8], at: usize, j: u8, x: Node) -> usize
+    requires { ⌜ (at + 256 ≤ length (now out)) × (FewArgs x) ⌝ }
+    ensures { λ r. ⌜ Put 240 (now (out .entry)) at (nodeBytes j x) (now (out .exit)) r ⌝ }
+{
+    match x {
+        Node::Absent => at,
+        Node::Start { to } => fill_start(out, at, j, to),
+        Node::Set { var, op, a, b, to } => fill_set(out, at, j, var, op, a, b, to),
+        Node::Test { op, a, b, yes, no } => fill_test(out, at, j, op, a, b, yes, no),
+        Node::Read { var, to } => fill_number_node(out, at, j, b" kind=read var=", var, to),
+        Node::Call { callee, args, to } => fill_call(out, at, j, callee, args, to),
+        Node::Wait { sem, to } => fill_number_node(out, at, j, b" kind=wait sem=", sem, to),
+        Node::Signal { sem, to } => fill_number_node(out, at, j, b" kind=signal sem=", sem, to),
+        Node::Send { queue, var, to } => fill_pass(
+            out,
+            at,
+            j,
+            b" kind=send queue=",
+            queue,
+            var,
+            to,
+        ),
+        Node::Recv { queue, var, to } => fill_pass(
+            out,
+            at,
+            j,
+            b" kind=recv queue=",
+            queue,
+            var,
+            to,
+        ),
+        Node::Assert { var, to } => fill_variable_node(out, at, j, b" kind=assert var=", var, to),
+        Node::Out { var, to } => fill_variable_node(out, at, j, b" kind=out var=", var, to),
+        Node::Return => fill_return(out, at, j),
+    }
 }
 
 // A node's line; nothing where there is no node.
@@ -206,19 +305,10 @@ pub fn put_node(out: &mut [u8], at: usize, j: u8, x: Node) -> usize
     requires { ⌜ (LineAt at) × (FewArgs x) ⌝ }
     ensures { λ r. ⌜ Put 240 (now (out .entry)) at (nodeBytes j x) (now (out .exit)) r ⌝ }
 {
-    match x {
-        Node::Absent => at,
-        Node::Start { to } => put_start(out, at, j, to),
-        Node::Set { var, op, a, b, to } => put_set(out, at, j, var, op, a, b, to),
-        Node::Test { op, a, b, yes, no } => put_test(out, at, j, op, a, b, yes, no),
-        Node::Read { var, to } => put_number_node(out, at, j, b" kind=read var=", var, to),
-        Node::Call { callee, args, to } => put_call(out, at, j, callee, args, to),
-        Node::Wait { sem, to } => put_number_node(out, at, j, b" kind=wait sem=", sem, to),
-        Node::Signal { sem, to } => put_number_node(out, at, j, b" kind=signal sem=", sem, to),
-        Node::Send { queue, var, to } => put_pass(out, at, j, b" kind=send queue=", queue, var, to),
-        Node::Recv { queue, var, to } => put_pass(out, at, j, b" kind=recv queue=", queue, var, to),
-        Node::Assert { var, to } => put_variable_node(out, at, j, b" kind=assert var=", var, to),
-        Node::Out { var, to } => put_variable_node(out, at, j, b" kind=out var=", var, to),
-        Node::Return => put_return(out, at, j),
+    if at + 256 <= out.len() {
+        return fill_node(out, at, j, x);
     }
+    let mut t = [0u8; 256];
+    let k = fill_node(&mut t, 0, j, x);
+    put_bytes(out, at, &t[..k])
 }

@@ -1,5 +1,5 @@
 -- How a list is written, item by item.
-use Prim.Native.Nat.{ℕ, zero, suc, _+_, _/_, _%_, min}
+use Prim.Native.Nat.{ℕ, zero, suc, _/_, _%_}
 use mathlib.Core.List.{List, [], _∷_, map}
 use lib.Dec.{eqb}
 use Rattle.table.specs.Mask.{pick, also, members}
@@ -20,13 +20,9 @@ itemsText m = commas (map digits (members m))
 abbrev pub listText : ℕ → List ℕ
 listText m = spellList (map digits (members m))
 
--- what the number k, in the list or not as b says, adds at a place of a list that begins at another
-abbrev pub itemText : ℕ → ℕ → ℕ → ℕ → List ℕ
-itemText from at k b = pick (eqb b 0) [] (pick (eqb at from) (digits k) (44 ∷ digits k))
-
--- the most bytes that it adds: a comma and a digit, or two
-abbrev pub itemSize : ℕ → ℕ
-itemSize k = 2 + min (k / 10) 1
+-- what the number k adds at a place of a list that begins at another
+abbrev pub itemText : ℕ → ℕ → ℕ → List ℕ
+itemText from at k = pick (eqb at from) (digits k) (44 ∷ digits k)
 
 -- a call's arguments
 abbrev pub argsText : Args → List ℕ

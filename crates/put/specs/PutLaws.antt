@@ -5,8 +5,8 @@ use mathlib.Core.List.{List, [], _∷_, _++_, append-assoc}
 use native.Mathlib.Omega.{arith}
 use native.Mathlib.Nat.{add-zero, add-suc, suc-add, pow-suc}
 use native.Mathlib.Numerals.{add-one}
-use lib.ListN.{length, set, getD, take, drop, length-append, take-append-drop}
-use lib.Seq.{sets, length-sets, set-out, take-suc, take-all, length-take-le}
+use lib.ListN.{length, set, getD, take, drop, length-append, take-append-drop, length-take}
+use lib.Seq.{sets, sets-eq, length-sets, set-out, take-suc, take-all, take-at, length-take-le}
 use Rattle.text.specs.Number.{digits}
 use Rattle.text.specs.NumberLaws.{digits-small, digits-large}
 use lib.IntN.{ℤ, pos, negsuc}
@@ -33,6 +33,22 @@ put-after {k} {j} {l} {m} {n} {t} {u} {at} {p} {q} a b = record {
 
 pub put-more : {k j : ℕ} {l m t : List ℕ} {at p : ℕ} → k ≤ j → Put k l at t m p → Put j l at t m p
 put-more h a = record { few = omega (arith, a .few); bytes = a .bytes; same = a .same; next = a .next }
+
+-- as few bytes as there are
+pub put-tight : {k : ℕ} {l m t : List ℕ} {at p : ℕ} → Put k l at t m p → Put (length t) l at t m p
+put-tight a = record { few = omega arith; bytes = a .bytes; same = a .same; next = a .next }
+
+-- a text written at the start of a buffer z is written on from there
+pub put-filled : {k j : ℕ} {l z m t o : List ℕ} {at n r : ℕ} → k ≤ length z → Put k z 0 t m n → Put j l at (take n m) o r → Put k l at t o r
+put-filled {z = z} {m = m} {t = t} {n = n} h a b =
+    let f : length t ≤ length z = omega (arith, a .few) in
+    let e : n ≡ length t = omega (arith, a .next) in
+    let w : take n m ≡ t = ap (λ (x : List ℕ). take n x) (a .bytes ∙ sets-eq t z 0 (omega arith)) ∙ take-at t _ n (sym e) in
+    let c = rw w at b in
+    record { few = a .few; bytes = c .bytes; same = c .same; next = c .next }
+
+pub filled-few : {j k : ℕ} {z m t : List ℕ} {n : ℕ} → Put k z 0 t m n → k ≤ j → length (take n m) ≤ j
+filled-few {m = m} {n = n} a h = omega (arith, length-take n m, a .few, a .next)
 
 -- a byte past the end
 pub put-past : {l : List ℕ} {at b : ℕ} → length l ≤ at → Put 1 l at (b ∷ []) l (at + 1)
@@ -94,13 +110,10 @@ small-length n h = rw (digits-small n h)
 large-length : (n : ℕ) → 10 ≤ n → length (digits n) ≡ length (digits (n / 10)) + 1
 large-length n h = ap length (digits-large n h) ∙ length-append (digits (n / 10)) _
 
-pub number-small : {l m : List ℕ} {at r : ℕ} (n : ℕ) → n < 10 → Put 1 l at ((48 + n) ∷ []) m r → Put (length (digits n)) l at (digits n) m r
-number-small n h a = rw (digits-small n h) a
+-- two digits, and four, at once
+abbrev pub lastTwo : ℕ → List ℕ
+lastTwo n = (48 + n / 10) ∷ (48 + n % 10) ∷ []
 
-pub number-large : {l k m : List ℕ} {at p r : ℕ} (n : ℕ) → 10 ≤ n → Put (length (digits (n / 10))) l at (digits (n / 10)) k p → Put 1 k p ((48 + n % 10) ∷ []) m r → Put (length (digits n)) l at (digits n) m r
-number-large n h a b = put-more {k = length (digits (n / 10)) + 1} (omega (arith, large-length n h)) (rw (digits-large n h) (put-after a b))
-
--- four digits at once
 abbrev pub lastFour : ℕ → List ℕ
 lastFour n = (48 + n / 1000) ∷ (48 + n / 100 % 10) ∷ (48 + n / 10 % 10) ∷ (48 + n % 10) ∷ []
 
@@ -121,8 +134,29 @@ pub number-four : {l k m : List ℕ} {at p r : ℕ} (n : ℕ) → 10000 ≤ n �
     → Put (length (digits n)) l at (digits n) m r
 number-four n h a b = put-more {k = length (digits (n / 10000)) + 4} (omega (arith, four-length n h)) (rw (four-digits n h) (put-after a b))
 
-pub four-is : {l m : List ℕ} {at r : ℕ} (n : ℕ) → 1000 ≤ n → n < 10000 → Put 4 l at (lastFour n) m r → Put (length (digits n)) l at (digits n) m r
-four-is n g h a =
+pub two-twos : {l m k : List ℕ} {at p r : ℕ} (n : ℕ) → Put 2 l at (lastTwo (n / 100)) m p → Put 2 m p (lastTwo (n % 100)) k r → Put 4 l at (lastFour n) k r
+two-twos n a b =
+    let p : n / 100 / 10 ≡ n / 1000 = omega arith in
+    let q : n % 100 / 10 ≡ n / 10 % 10 = omega arith in
+    let s : n % 100 % 10 ≡ n % 10 = omega arith in
+    rw (p, q, s) at (put-after a b)
+
+-- a number below 10,000
+pub few-one : {l m : List ℕ} {at r : ℕ} (n : ℕ) → n < 10 → Put 1 l at ((48 + n) ∷ []) m r → Put 4 l at (digits n) m r
+few-one n h a = rw (digits-small n h) (put-more (omega arith) a)
+
+pub few-two : {l m : List ℕ} {at r : ℕ} (n : ℕ) → 10 ≤ n → n < 100 → Put 2 l at (lastTwo n) m r → Put 4 l at (digits n) m r
+few-two n g h a = rw (digits-large n g, digits-small (n / 10) (omega arith)) (put-more (omega arith) a)
+
+pub few-three : {l m k : List ℕ} {at p r : ℕ} (n : ℕ) → 100 ≤ n → n < 1000 → Put 1 l at ((48 + n / 100) ∷ []) m p → Put 2 m p (lastTwo (n % 100)) k r → Put 4 l at (digits n) k r
+few-three n g h a b =
+    let e : n / 10 / 10 ≡ n / 100 = omega arith in
+    let q : n / 10 % 10 ≡ n % 100 / 10 = omega arith in
+    let s : n % 10 ≡ n % 100 % 10 = omega arith in
+    rw (digits-large n (omega arith), digits-large (n / 10) (omega arith), digits-small (n / 10 / 10) (omega arith), e, q, s) (put-more (omega arith) (put-after a b))
+
+pub few-four : {l m : List ℕ} {at r : ℕ} (n : ℕ) → 1000 ≤ n → n < 10000 → Put 4 l at (lastFour n) m r → Put 4 l at (digits n) m r
+few-four n g h a =
     let p : n / 10 / 10 / 10 ≡ n / 1000 = omega arith in
     let b : n / 10 / 10 % 10 ≡ n / 100 % 10 = omega arith in
     let e : digits n ≡ lastFour n =
@@ -153,6 +187,14 @@ digits-ten n h = digits-few 9 n h
 pub digits-twenty : (n : ℕ) → n < 100000000000000000000 → length (digits n) ≤ 20
 digits-twenty n h = digits-few 19 n h
 
+-- a number of 32 bits, four digits at a time
+pub ten-four : {l m k : List ℕ} {at p r : ℕ} (n : ℕ) → 10000 ≤ n → n < 10000000000 → Put 4 l at (digits (n / 10000)) m p → Put 4 m p (lastFour (n % 10000)) k r → Put 10 l at (digits n) k r
+ten-four n g h a b = put-more (digits-ten n h) (number-four n g (put-tight a) b)
+
+pub ten-eight : {l m k o : List ℕ} {at p q r : ℕ} (n : ℕ) → 10000 ≤ n / 10000 → n < 10000000000
+    → Put 4 l at (digits (n / 10000 / 10000)) m p → Put 4 m p (lastFour (n / 10000 % 10000)) k q → Put 4 k q (lastFour (n % 10000)) o r → Put 10 l at (digits n) o r
+ten-eight n g h a b c = put-more (digits-ten n h) (number-four n (omega arith) (number-four (n / 10000) g (put-tight a) b) c)
+
 -- ---- operands
 
 constant-plain : (c : ℤ) → SFits w32 c → ofZ w32 c < 2147483648 → spellOperand (Const c) ≡ digits (ofZ w32 c)
@@ -169,17 +211,17 @@ constant-below (negsuc n) f h =
 bits-back : (c : ℤ) → SFits w32 c → ofZ w32 (toZ w32 (ofZ w32 c)) ≡ ofZ w32 c
 bits-back c f = ap (ofZ w32) (toZ-ofZ f)
 
-pub put-constant : {l m : List ℕ} {at r b : ℕ} (c : ℤ) → SFits w32 c → b ≡ ofZ w32 (toZ w32 (ofZ w32 c)) → b < 2147483648 → Put (length (digits b)) l at (digits b) m r
+pub put-constant : {l m : List ℕ} {at r b : ℕ} (c : ℤ) → SFits w32 c → b ≡ ofZ w32 (toZ w32 (ofZ w32 c)) → b < 2147483648 → Put 10 l at (digits b) m r
     → Put 11 l at (spellOperand (Const c)) m r
 put-constant {b = b} c f e h a =
     let g = e ∙ bits-back c f in
-    rw (constant-plain c f (rw g at h), ← g) (put-more (omega (arith, digits-ten b (omega arith))) a)
+    rw (constant-plain c f (rw g at h), ← g) (put-more (omega arith) a)
 
-pub put-negative : {l m n : List ℕ} {at p r b : ℕ} (c : ℤ) → SFits w32 c → b ≡ ofZ w32 (toZ w32 (ofZ w32 c)) → 2147483648 ≤ b → b < 4294967296 → Put 1 l at (45 ∷ []) m p
-    → Put (length (digits (4294967295 - b + 1))) m p (digits (4294967295 - b + 1)) n r → Put 11 l at (spellOperand (Const c)) n r
-put-negative {b = b} c f e h u a o =
+pub put-negative : {l m n : List ℕ} {at p r b : ℕ} (c : ℤ) → SFits w32 c → b ≡ ofZ w32 (toZ w32 (ofZ w32 c)) → 2147483648 ≤ b → Put 1 l at (45 ∷ []) m p
+    → Put 10 m p (digits (4294967295 - b + 1)) n r → Put 11 l at (spellOperand (Const c)) n r
+put-negative {b = b} c f e h a o =
     let g = e ∙ bits-back c f in
-    rw (constant-below c f (rw g at h), ← g) (put-more (omega (arith, digits-ten (4294967295 - b + 1) (omega arith))) (put-after a o))
+    rw (constant-below c f (rw g at h), ← g) (put-after a o)
 
 -- a number of 64 bits stands below 1999999990, begun low
 pub number-room : (at n : ℕ) → at ≤ 1000000700 → n < 100000000000000000000 → at + length (digits n) ≤ 1999999990

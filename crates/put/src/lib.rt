@@ -12,8 +12,8 @@ ghost use Rattle.text.specs.Number.{digits};
 ghost use Rattle.text.specs.Value.{spellOperand, spellVariable, opWord};
 ghost use Rattle.text.specs.Format.{nameOf};
 ghost use Rattle.put.specs.Put.{Put, PutField, ByteAt, DigitsAt, ValueAt, FieldAt};
-ghost use Rattle.put.specs.Lists.{itemsText, listText, itemText, itemSize, argsText};
-ghost use Rattle.put.specs.PutLaws.{lastFour};
+ghost use Rattle.put.specs.Lists.{itemsText, listText, itemText, argsText};
+ghost use Rattle.put.specs.PutLaws.{lastTwo, lastFour};
 
 pub fn put_byte(out: &mut [u8], at: usize, b: u8) -> usize
     requires { ⌜ ByteAt at ⌝ }
@@ -26,83 +26,150 @@ pub fn put_byte(out: &mut [u8], at: usize, b: u8) -> usize
     at + 1
 }
 
-// Copies t to a place of the buffer.
-pub fn copy_in(out: &mut [u8], at: usize, t: &[u8])
+// Writes t where the buffer has room for it, as every function named fill does.
+pub fn fill_text(out: &mut [u8], at: usize, t: &[u8]) -> usize
     requires { ⌜ at + length (now t) ≤ length (now out) ⌝ }
-    ensures { λ r. ⌜ Put (length (now (t .entry))) (now (out .entry)) at (now (t .entry)) (now (out .exit)) (at + length (now (t .entry))) ⌝ }
+    ensures { λ r. ⌜ Put (length (now (t .entry))) (now (out .entry)) at (now (t .entry)) (now (out .exit)) r ⌝ }
 {
     let mut i = 0;
     while i < t.len() {
         out[at + i] = t[i];
         i += 1;
     }
+    at + t.len()
+}
+
+pub fn fill_byte(out: &mut [u8], at: usize, b: u8) -> usize
+    requires { ⌜ at < length (now out) ⌝ }
+    ensures { λ r. ⌜ Put 1 (now (out .entry)) at (b ∷ []) (now (out .exit)) r ⌝ }
+{
+    out[at] = b;
+    at + 1
+}
+
+// A text of a line's length or shorter.
+pub fn put_bytes(out: &mut [u8], at: usize, t: &[u8]) -> usize
+    requires { ⌜ (ByteAt at) × (length (now t) ≤ 256) ⌝ }
+    ensures { λ r. ⌜ Put (length (now (t .entry))) (now (out .entry)) at (now (t .entry)) (now (out .exit)) r ⌝ }
+{
+    let end = at + t.len();
+    if end <= out.len() {
+        return fill_text(out, at, t);
+    }
+    if out.len() <= at {
+        return end;
+    }
+    let n = out.len() - at;
+    fill_text(out, at, &t[..n]);
+    end
 }
 
 pub fn put_text(out: &mut [u8], at: usize, t: &[u8]) -> usize
     requires { ⌜ (ByteAt at) × (length (now t) ≤ 64) ⌝ }
     ensures { λ r. ⌜ Put (length (now (t .entry))) (now (out .entry)) at (now (t .entry)) (now (out .exit)) r ⌝ }
 {
-    let end = at + t.len();
-    if end <= out.len() {
-        copy_in(out, at, t);
-        return end;
-    }
-    if out.len() <= at {
-        return end;
-    }
-    let n = out.len() - at;
-    copy_in(out, at, &t[..n]);
-    end
+    put_bytes(out, at, t)
 }
 
 // The decimal digits of a small number.
+pub fn fill_small(out: &mut [u8], at: usize, n: u8) -> usize
+    requires { ⌜ at + 3 ≤ length (now out) ⌝ }
+    ensures { λ r. ⌜ Put 3 (now (out .entry)) at (digits n) (now (out .exit)) r ⌝ }
+{
+    if n < 10 {
+        return fill_byte(out, at, 48 + n);
+    }
+    if n < 100 {
+        let a = fill_byte(out, at, 48 + n / 10);
+        return fill_byte(out, a, 48 + n % 10);
+    }
+    let a = fill_byte(out, at, 48 + n / 100);
+    let b = fill_byte(out, a, 48 + n / 10 % 10);
+    fill_byte(out, b, 48 + n % 10)
+}
+
 pub fn put_small(out: &mut [u8], at: usize, n: u8) -> usize
     requires { ⌜ DigitsAt at ⌝ }
     ensures { λ r. ⌜ Put 3 (now (out .entry)) at (digits n) (now (out .exit)) r ⌝ }
 {
-    if n < 10 {
-        return put_byte(out, at, 48 + n);
+    if at + 3 <= out.len() {
+        return fill_small(out, at, n);
     }
-    if n < 100 {
-        let a = put_byte(out, at, 48 + n / 10);
-        return put_byte(out, a, 48 + n % 10);
-    }
-    let a = put_byte(out, at, 48 + n / 100);
-    let b = put_byte(out, a, 48 + n / 10 % 10);
-    put_byte(out, b, 48 + n % 10)
+    let mut t = [0u8; 3];
+    let k = fill_small(&mut t, 0, n);
+    put_text(out, at, &t[..k])
+}
+
+// The last two digits of a number, zeros among them.
+fn fill_two(out: &mut [u8], at: usize, n: u32) -> usize
+    requires { ⌜ (at + 2 ≤ length (now out)) × (n < 100) ⌝ }
+    ensures { λ r. ⌜ Put 2 (now (out .entry)) at (lastTwo n) (now (out .exit)) r ⌝ }
+{
+    let a = fill_byte(out, at, (48 + n / 10) as u8);
+    fill_byte(out, a, (48 + n % 10) as u8)
+}
+
+// The last four digits of a number, zeros among them.
+fn fill_four(out: &mut [u8], at: usize, n: u32) -> usize
+    requires { ⌜ (at + 4 ≤ length (now out)) × (n < 10000) ⌝ }
+    ensures { λ r. ⌜ Put 4 (now (out .entry)) at (lastFour n) (now (out .exit)) r ⌝ }
+{
+    let a = fill_two(out, at, n / 100);
+    fill_two(out, a, n % 100)
 }
 
 // The decimal digits of a number below 10,000.
+fn fill_few(out: &mut [u8], at: usize, n: u32) -> usize
+    requires { ⌜ (at + 4 ≤ length (now out)) × (n < 10000) ⌝ }
+    ensures { λ r. ⌜ Put 4 (now (out .entry)) at (digits n) (now (out .exit)) r ⌝ }
+{
+    if n < 10 {
+        return fill_byte(out, at, (48 + n) as u8);
+    }
+    if n < 100 {
+        return fill_two(out, at, n);
+    }
+    if n < 1000 {
+        let a = fill_byte(out, at, (48 + n / 100) as u8);
+        return fill_two(out, a, n % 100);
+    }
+    fill_four(out, at, n)
+}
+
+// The decimal digits of a number of 32 bits.
+fn fill_number(out: &mut [u8], at: usize, n: u32) -> usize
+    requires { ⌜ at + 12 ≤ length (now out) ⌝ }
+    ensures { λ r. ⌜ Put 10 (now (out .entry)) at (digits n) (now (out .exit)) r ⌝ }
+{
+    if n < 10000 {
+        return fill_few(out, at, n);
+    }
+    let q = n / 10000;
+    if q < 10000 {
+        let a = fill_few(out, at, q);
+        return fill_four(out, a, n % 10000);
+    }
+    let a = fill_few(out, at, q / 10000);
+    let b = fill_four(out, a, q % 10000);
+    fill_four(out, b, n % 10000)
+}
+
 fn put_few(out: &mut [u8], at: usize, n: u64) -> usize
     requires { ⌜ (at ≤ 1999999990) × (n < 10000) ⌝ }
     ensures { λ r. ⌜ Put (length (digits n)) (now (out .entry)) at (digits n) (now (out .exit)) r ⌝ }
 {
-    if n < 10 {
-        return put_byte(out, at, (48 + n) as u8);
-    }
-    let tens = n / 10;
-    if tens < 10 {
-        let a = put_byte(out, at, (48 + tens) as u8);
-        return put_byte(out, a, (48 + n % 10) as u8);
-    }
-    let hundreds = tens / 10;
-    if hundreds < 10 {
-        let a = put_byte(out, at, (48 + hundreds) as u8);
-        let b = put_byte(out, a, (48 + tens % 10) as u8);
-        return put_byte(out, b, (48 + n % 10) as u8);
-    }
-    put_four(out, at, n)
+    let mut t = [0u8; 4];
+    let k = fill_few(&mut t, 0, n as u32);
+    put_text(out, at, &t[..k])
 }
 
-// The last four digits of a number, zeros among them.
 fn put_four(out: &mut [u8], at: usize, n: u64) -> usize
     requires { ⌜ (at ≤ 1999999990) × (n < 10000) ⌝ }
     ensures { λ r. ⌜ Put 4 (now (out .entry)) at (lastFour n) (now (out .exit)) r ⌝ }
 {
-    let a = put_byte(out, at, (48 + n / 1000) as u8);
-    let b = put_byte(out, a, (48 + n / 100 % 10) as u8);
-    let c = put_byte(out, b, (48 + n / 10 % 10) as u8);
-    put_byte(out, c, (48 + n % 10) as u8)
+    let mut t = [0u8; 4];
+    let k = fill_four(&mut t, 0, n as u32);
+    put_text(out, at, &t[..k])
 }
 
 // The decimal digits of any number.
@@ -118,85 +185,128 @@ pub fn put_number(out: &mut [u8], at: usize, n: u64) -> usize
 }
 
 // An operand's constant.
-pub fn put_constant(out: &mut [u8], at: usize, c: i32) -> usize
-    requires { ⌜ ValueAt at ⌝ }
+pub fn fill_constant(out: &mut [u8], at: usize, c: i32) -> usize
+    requires { ⌜ at + 13 ≤ length (now out) ⌝ }
     ensures { λ r. ⌜ Put 11 (now (out .entry)) at (spellOperand (Const c)) (now (out .exit)) r ⌝ }
 {
     let b = values::bits_of(c);
     if b < 2147483648 {
-        return put_number(out, at, b as u64);
+        return fill_number(out, at, b);
     }
-    let a = put_byte(out, at, 45);
-    put_number(out, a, (4294967295 - b + 1) as u64)
+    let a = fill_byte(out, at, 45);
+    fill_number(out, a, 4294967295 - b + 1)
+}
+
+pub fn put_constant(out: &mut [u8], at: usize, c: i32) -> usize
+    requires { ⌜ ValueAt at ⌝ }
+    ensures { λ r. ⌜ Put 11 (now (out .entry)) at (spellOperand (Const c)) (now (out .exit)) r ⌝ }
+{
+    let mut t = [0u8; 13];
+    let k = fill_constant(&mut t, 0, c);
+    put_text(out, at, &t[..k])
+}
+
+pub fn fill_operand(out: &mut [u8], at: usize, o: Operand) -> usize
+    requires { ⌜ at + 13 ≤ length (now out) ⌝ }
+    ensures { λ r. ⌜ Put 11 (now (out .entry)) at (spellOperand o) (now (out .exit)) r ⌝ }
+{
+    match o {
+        Operand::Var(v) => {
+            let a = fill_byte(out, at, 118);
+            fill_small(out, a, v)
+        }
+        Operand::Const(c) => fill_constant(out, at, c),
+    }
 }
 
 pub fn put_operand_value(out: &mut [u8], at: usize, o: Operand) -> usize
     requires { ⌜ ValueAt at ⌝ }
     ensures { λ r. ⌜ Put 11 (now (out .entry)) at (spellOperand o) (now (out .exit)) r ⌝ }
 {
-    match o {
-        Operand::Var(v) => {
-            let a = put_byte(out, at, 118);
-            put_small(out, a, v)
-        }
-        Operand::Const(c) => put_constant(out, at, c),
-    }
+    let mut t = [0u8; 13];
+    let k = fill_operand(&mut t, 0, o);
+    put_text(out, at, &t[..k])
 }
 
 // A variable, or `-`.
+pub fn fill_variable(out: &mut [u8], at: usize, v: u8) -> usize
+    requires { ⌜ at + 3 ≤ length (now out) ⌝ }
+    ensures { λ r. ⌜ Put 3 (now (out .entry)) at (spellVariable (nameOf v)) (now (out .exit)) r ⌝ }
+{
+    if v == table::REMOVED {
+        return fill_byte(out, at, 45);
+    }
+    fill_small(out, at, v)
+}
+
 pub fn put_variable_value(out: &mut [u8], at: usize, v: u8) -> usize
     requires { ⌜ DigitsAt at ⌝ }
     ensures { λ r. ⌜ Put 3 (now (out .entry)) at (spellVariable (nameOf v)) (now (out .exit)) r ⌝ }
 {
-    if v == table::REMOVED {
-        return put_byte(out, at, 45);
+    let mut t = [0u8; 3];
+    let k = fill_variable(&mut t, 0, v);
+    put_text(out, at, &t[..k])
+}
+
+pub fn fill_op(out: &mut [u8], at: usize, o: Op) -> usize
+    requires { ⌜ at + 3 ≤ length (now out) ⌝ }
+    ensures { λ r. ⌜ Put 3 (now (out .entry)) at (opWord o) (now (out .exit)) r ⌝ }
+{
+    match o {
+        Op::Add => fill_text(out, at, b"add"),
+        Op::Sub => fill_text(out, at, b"sub"),
+        Op::And => fill_text(out, at, b"and"),
+        Op::Or => fill_text(out, at, b"or"),
+        Op::Xor => fill_text(out, at, b"xor"),
+        Op::Shr => fill_text(out, at, b"shr"),
+        Op::Lt => fill_text(out, at, b"lt"),
+        Op::Eq => fill_text(out, at, b"eq"),
     }
-    put_small(out, at, v)
 }
 
 pub fn put_op_value(out: &mut [u8], at: usize, o: Op) -> usize
     requires { ⌜ ValueAt at ⌝ }
     ensures { λ r. ⌜ Put 3 (now (out .entry)) at (opWord o) (now (out .exit)) r ⌝ }
 {
-    match o {
-        Op::Add => put_text(out, at, b"add"),
-        Op::Sub => put_text(out, at, b"sub"),
-        Op::And => put_text(out, at, b"and"),
-        Op::Or => put_text(out, at, b"or"),
-        Op::Xor => put_text(out, at, b"xor"),
-        Op::Shr => put_text(out, at, b"shr"),
-        Op::Lt => put_text(out, at, b"lt"),
-        Op::Eq => put_text(out, at, b"eq"),
-    }
+    let mut t = [0u8; 3];
+    let k = fill_op(&mut t, 0, o);
+    put_text(out, at, &t[..k])
 }
 
-// The number k, if b says that it is in the list that begins at from.
-pub fn put_item(out: &mut [u8], at: usize, from: usize, k: u8, b: u32) -> usize
-    requires { ⌜ (DigitsAt (at + 1)) × (k < 32) ⌝ }
-    ensures { λ r. ⌜ Put (itemSize k) (now (out .entry)) at (itemText from at k b) (now (out .exit)) r ⌝ }
+// The number k in a list that begins at from.
+fn fill_item(out: &mut [u8], at: usize, from: usize, k: u8) -> usize
+    requires { ⌜ at + 4 ≤ length (now out) ⌝ }
+    ensures { λ r. ⌜ Put 4 (now (out .entry)) at (itemText from at k) (now (out .exit)) r ⌝ }
 {
-    if b == 0 {
-        return at;
-    }
     if at == from {
-        return put_small(out, at, k);
+        return fill_small(out, at, k);
     }
-    let a = put_byte(out, at, 44);
-    put_small(out, a, k)
+    let a = fill_byte(out, at, 44);
+    fill_small(out, a, k)
 }
 
 // The numbers in a mask with commas between.
-pub fn put_items(out: &mut [u8], at: usize, m: u32) -> usize
-    requires { ⌜ ValueAt at ⌝ }
+fn fill_items(out: &mut [u8], at: usize, m: u32) -> usize
+    requires { ⌜ at + 96 ≤ length (now out) ⌝ }
     ensures { λ r. ⌜ Put 86 (now (out .entry)) at (itemsText m) (now (out .exit)) r ⌝ }
 {
     let mut p = at;
-    let mut k: u8 = 0;
     let mut rest = m;
     while rest != 0 {
-        p = put_item(out, p, at, k, rest % 2);
-        k += 1;
-        rest = rest / 2;
+        let k = u32::trailing_zeros(rest);
+        p = fill_item(out, p, at, k as u8);
+        rest = rest & (rest - 1);
+    }
+    p
+}
+
+pub fn fill_list(out: &mut [u8], at: usize, m: u32) -> usize
+    requires { ⌜ at + 96 ≤ length (now out) ⌝ }
+    ensures { λ r. ⌜ Put 86 (now (out .entry)) at (listText m) (now (out .exit)) r ⌝ }
+{
+    let p = fill_items(out, at, m);
+    if p == at {
+        return fill_text(out, at, b"none");
     }
     p
 }
@@ -205,42 +315,40 @@ pub fn put_list_value(out: &mut [u8], at: usize, m: u32) -> usize
     requires { ⌜ ValueAt at ⌝ }
     ensures { λ r. ⌜ Put 86 (now (out .entry)) at (listText m) (now (out .exit)) r ⌝ }
 {
-    let p = put_items(out, at, m);
-    if p == at {
-        return put_text(out, at, b"none");
-    }
-    p
+    let mut t = [0u8; 96];
+    let k = fill_list(&mut t, 0, m);
+    put_bytes(out, at, &t[..k])
 }
 
 // A comma and a further argument.
-pub fn put_further(out: &mut [u8], at: usize, v: u8) -> usize
-    requires { ⌜ DigitsAt (at + 1) ⌝ }
+fn fill_further(out: &mut [u8], at: usize, v: u8) -> usize
+    requires { ⌜ at + 4 ≤ length (now out) ⌝ }
     ensures { λ r. ⌜ Put 4 (now (out .entry)) at (44 ∷ spellVariable (nameOf v)) (now (out .exit)) r ⌝ }
 {
-    let a = put_byte(out, at, 44);
-    put_variable_value(out, a, v)
+    let a = fill_byte(out, at, 44);
+    fill_variable(out, a, v)
 }
 
-pub fn put_args_value(out: &mut [u8], at: usize, x: Args) -> usize
-    requires { ⌜ (ValueAt at) × (x .len ≤ 4) ⌝ }
+pub fn fill_args(out: &mut [u8], at: usize, x: Args) -> usize
+    requires { ⌜ (at + 16 ≤ length (now out)) × (x .len ≤ 4) ⌝ }
     ensures { λ r. ⌜ Put 16 (now (out .entry)) at (argsText x) (now (out .exit)) r ⌝ }
 {
     if x.len == 0 {
-        return put_text(out, at, b"none");
+        return fill_text(out, at, b"none");
     }
-    let a = put_variable_value(out, at, x.a0);
+    let a = fill_variable(out, at, x.a0);
     if x.len == 1 {
         return a;
     }
-    let b = put_further(out, a, x.a1);
+    let b = fill_further(out, a, x.a1);
     if x.len == 2 {
         return b;
     }
-    let c = put_further(out, b, x.a2);
+    let c = fill_further(out, b, x.a2);
     if x.len == 3 {
         return c;
     }
-    put_further(out, c, x.a3)
+    fill_further(out, c, x.a3)
 }
 
 // A key and a value of each kind.
@@ -268,36 +376,12 @@ pub fn put_variable(out: &mut [u8], at: usize, key: &[u8], v: u8) -> usize
     put_variable_value(out, a, v)
 }
 
-pub fn put_op(out: &mut [u8], at: usize, key: &[u8], v: Op) -> usize
-    requires { ⌜ (FieldAt at) × (length (now key) ≤ 64) ⌝ }
-    ensures { λ r. ⌜ PutField (length (now (key .entry)) + 3) (now (out .entry)) at (now (key .entry)) (opWord v) (now (out .exit)) r ⌝ }
-{
-    let a = put_text(out, at, key);
-    put_op_value(out, a, v)
-}
-
-pub fn put_operand(out: &mut [u8], at: usize, key: &[u8], v: Operand) -> usize
-    requires { ⌜ (FieldAt at) × (length (now key) ≤ 64) ⌝ }
-    ensures { λ r. ⌜ PutField (length (now (key .entry)) + 11) (now (out .entry)) at (now (key .entry)) (spellOperand v) (now (out .exit)) r ⌝ }
-{
-    let a = put_text(out, at, key);
-    put_operand_value(out, a, v)
-}
-
 pub fn put_list(out: &mut [u8], at: usize, key: &[u8], v: u32) -> usize
     requires { ⌜ (FieldAt at) × (length (now key) ≤ 64) ⌝ }
     ensures { λ r. ⌜ PutField (length (now (key .entry)) + 86) (now (out .entry)) at (now (key .entry)) (listText v) (now (out .exit)) r ⌝ }
 {
     let a = put_text(out, at, key);
     put_list_value(out, a, v)
-}
-
-pub fn put_args(out: &mut [u8], at: usize, key: &[u8], v: Args) -> usize
-    requires { ⌜ (FieldAt at) × (length (now key) ≤ 64) × (v .len ≤ 4) ⌝ }
-    ensures { λ r. ⌜ PutField (length (now (key .entry)) + 16) (now (out .entry)) at (now (key .entry)) (argsText v) (now (out .exit)) r ⌝ }
-{
-    let a = put_text(out, at, key);
-    put_args_value(out, a, v)
 }
 
 // A list that ends its line.

@@ -1,238 +1,56 @@
-use Rattle.lines.specs.LineLaws.{node-none, node-start, node-set, node-test, node-read, node-call, node-wait, node-signal, node-send, node-recv, node-assert, node-out, node-return}
+use lib.Seq.{length-take-le}
+use mathlib.Core.Path.{sym}
+use Rattle.put.specs.PutLaws.{put-filled, filled-few}
 use native.Mathlib.Omega.{arith}
 use borrow.Author.Needs.{needs}
 use Rattle.lines.proofs.put_node.Statement.{statement}
 use Rattle.lines.proofs.put_node.Tie as tie
 
-enum-told : tie.Need-enum-told
-enum-told c = search needs
+add-if1 : tie.Need-add-if1
+add-if1 c = search needs
 
-enum-known-x : tie.Need-enum-known-x
-enum-known-x c = search needs
-
-put-start-requires : tie.Need-put-start-requires
-put-start-requires c κs = search needs
-
-enum-known-x-2 : tie.Need-enum-known-x-2
-enum-known-x-2 c = search needs
-
-put-set-requires : tie.Need-put-set-requires
-put-set-requires c κs = search needs
-
-enum-known-x-3 : tie.Need-enum-known-x-3
-enum-known-x-3 c = search needs
-
-put-test-requires : tie.Need-put-test-requires
-put-test-requires c κs = search needs
-
-enum-known-x-4 : tie.Need-enum-known-x-4
-enum-known-x-4 c = search needs
-
-slice-aggregate-put-number-node : tie.Need-slice-aggregate-put-number-node
-slice-aggregate-put-number-node c = search needs
-
-put-number-node-requires : tie.Need-put-number-node-requires
-put-number-node-requires c κs = search needs
-
-enum-known-x-5 : tie.Need-enum-known-x-5
-enum-known-x-5 c = search needs
-
-put-call-requires : tie.Need-put-call-requires
-put-call-requires c κs = (omega arith, rw (c .before .before .x5 .given .1) at (c .before .before .before .before .before .pre .1))
-
-enum-known-x-6 : tie.Need-enum-known-x-6
-enum-known-x-6 c = search needs
-
-slice-aggregate-put-number-node-2 : tie.Need-slice-aggregate-put-number-node-2
-slice-aggregate-put-number-node-2 c = search needs
-
-put-number-node-requires-2 : tie.Need-put-number-node-requires-2
-put-number-node-requires-2 c κs = search needs
-
-enum-known-x-7 : tie.Need-enum-known-x-7
-enum-known-x-7 c = search needs
-
-slice-aggregate-put-number-node-3 : tie.Need-slice-aggregate-put-number-node-3
-slice-aggregate-put-number-node-3 c = search needs
-
-put-number-node-requires-3 : tie.Need-put-number-node-requires-3
-put-number-node-requires-3 c κs = search needs
-
-enum-known-x-8 : tie.Need-enum-known-x-8
-enum-known-x-8 c = search needs
-
-slice-aggregate-put-pass : tie.Need-slice-aggregate-put-pass
-slice-aggregate-put-pass c = search needs
-
-put-pass-requires : tie.Need-put-pass-requires
-put-pass-requires c κs = search needs
-
-enum-known-x-9 : tie.Need-enum-known-x-9
-enum-known-x-9 c = search needs
-
-slice-aggregate-put-pass-2 : tie.Need-slice-aggregate-put-pass-2
-slice-aggregate-put-pass-2 c = search needs
-
-put-pass-requires-2 : tie.Need-put-pass-requires-2
-put-pass-requires-2 c κs = search needs
-
-enum-known-x-10 : tie.Need-enum-known-x-10
-enum-known-x-10 c = search needs
-
-slice-aggregate-put-variable-node : tie.Need-slice-aggregate-put-variable-node
-slice-aggregate-put-variable-node c = search needs
-
-put-variable-node-requires : tie.Need-put-variable-node-requires
-put-variable-node-requires c κs = search needs
-
-enum-known-x-11 : tie.Need-enum-known-x-11
-enum-known-x-11 c = search needs
-
-slice-aggregate-put-variable-node-2 : tie.Need-slice-aggregate-put-variable-node-2
-slice-aggregate-put-variable-node-2 c = search needs
-
-put-variable-node-requires-2 : tie.Need-put-variable-node-requires-2
-put-variable-node-requires-2 c κs = search needs
-
-enum-told-2 : tie.Need-enum-told-2
-enum-told-2 c = search needs
-
-put-return-requires : tie.Need-put-return-requires
-put-return-requires c κs = search needs
-
-returns : tie.Need-returns
-returns c = rw (c .enum-told .given .1) (node-none _)
+fill-node-requires : tie.Need-fill-node-requires
+fill-node-requires c κs = search needs
 
 same-length : tie.Need-same-length
 same-length c = search needs
 
-returns-2 : tie.Need-returns-2
-returns-2 c = rw (c .before .before .before .before .before .x .given .1, node-start) (c .before .before .put-start .ensures)
+returns : tie.Need-returns
+returns c = search needs
+
+slice-aggregate-fill-node : tie.Need-slice-aggregate-fill-node
+slice-aggregate-fill-node c = search needs
+
+fill-node-requires-2 : tie.Need-fill-node-requires-2
+fill-node-requires-2 c κs = search needs
+
+array-share-prefix-t : tie.Need-array-share-prefix-t
+array-share-prefix-t c = search needs
+
+slice-aggregate-put-bytes : tie.Need-slice-aggregate-put-bytes
+slice-aggregate-put-bytes c = sym (length-take-le _ _ (omega arith))
+
+put-bytes-requires : tie.Need-put-bytes-requires
+put-bytes-requires c κs = (omega arith, filled-few (c .before .before .before .fill-node2 .ensures) (omega arith))
 
 same-length-2 : tie.Need-same-length-2
 same-length-2 c = search needs
 
-returns-3 : tie.Need-returns-3
-returns-3 c = rw (c .before .before .before .before .before .x2 .given .1, node-set) (c .before .before .put-set .ensures)
-
-same-length-3 : tie.Need-same-length-3
-same-length-3 c = search needs
-
-returns-4 : tie.Need-returns-4
-returns-4 c = rw (c .before .before .before .before .before .x3 .given .1, node-test) (c .before .before .put-test .ensures)
-
-same-length-4 : tie.Need-same-length-4
-same-length-4 c = search needs
-
-returns-5 : tie.Need-returns-5
-returns-5 c = rw (c .before .before .before .before .before .before .x4 .given .1, node-read) (c .before .before .put-number-node .ensures)
-
-same-length-5 : tie.Need-same-length-5
-same-length-5 c = search needs
-
-returns-6 : tie.Need-returns-6
-returns-6 c = rw (c .before .before .before .before .before .x5 .given .1, node-call) (c .before .before .put-call .ensures)
-
-same-length-6 : tie.Need-same-length-6
-same-length-6 c = search needs
-
-returns-7 : tie.Need-returns-7
-returns-7 c = rw (c .before .before .before .before .before .before .x6 .given .1, node-wait) (c .before .before .put-number-node2 .ensures)
-
-same-length-7 : tie.Need-same-length-7
-same-length-7 c = search needs
-
-returns-8 : tie.Need-returns-8
-returns-8 c = rw (c .before .before .before .before .before .before .x7 .given .1, node-signal) (c .before .before .put-number-node3 .ensures)
-
-same-length-8 : tie.Need-same-length-8
-same-length-8 c = search needs
-
-returns-9 : tie.Need-returns-9
-returns-9 c = rw (c .before .before .before .before .before .before .x8 .given .1, node-send) (c .before .before .put-pass .ensures)
-
-same-length-9 : tie.Need-same-length-9
-same-length-9 c = search needs
-
-returns-10 : tie.Need-returns-10
-returns-10 c = rw (c .before .before .before .before .before .before .x9 .given .1, node-recv) (c .before .before .put-pass2 .ensures)
-
-same-length-10 : tie.Need-same-length-10
-same-length-10 c = search needs
-
-returns-11 : tie.Need-returns-11
-returns-11 c = rw (c .before .before .before .before .before .before .x10 .given .1, node-assert) (c .before .before .put-variable-node .ensures)
-
-same-length-11 : tie.Need-same-length-11
-same-length-11 c = search needs
-
-returns-12 : tie.Need-returns-12
-returns-12 c = rw (c .before .before .before .before .before .before .x11 .given .1, node-out) (c .before .before .put-variable-node2 .ensures)
-
-same-length-12 : tie.Need-same-length-12
-same-length-12 c = search needs
-
-returns-13 : tie.Need-returns-13
-returns-13 c = rw (c .before .before .before .before .enum-told2 .given .1, node-return) (c .before .before .put-return .ensures)
+returns-2 : tie.Need-returns-2
+returns-2 c = put-filled (omega arith) (c .before .before .before .before .before .before .fill-node2 .ensures) (c .before .before .put-bytes .ensures)
 
 pub put-node-spec : {M : Type 1} → statement M
 put-node-spec =
     tie.close
     (tie.spec
-    enum-told
-    enum-known-x
-    put-start-requires
-    enum-known-x-2
-    put-set-requires
-    enum-known-x-3
-    put-test-requires
-    enum-known-x-4
-    slice-aggregate-put-number-node
-    put-number-node-requires
-    enum-known-x-5
-    put-call-requires
-    enum-known-x-6
-    slice-aggregate-put-number-node-2
-    put-number-node-requires-2
-    enum-known-x-7
-    slice-aggregate-put-number-node-3
-    put-number-node-requires-3
-    enum-known-x-8
-    slice-aggregate-put-pass
-    put-pass-requires
-    enum-known-x-9
-    slice-aggregate-put-pass-2
-    put-pass-requires-2
-    enum-known-x-10
-    slice-aggregate-put-variable-node
-    put-variable-node-requires
-    enum-known-x-11
-    slice-aggregate-put-variable-node-2
-    put-variable-node-requires-2
-    enum-told-2
-    put-return-requires
-    returns
+    add-if1
+    fill-node-requires
     same-length
-    returns-2
+    returns
+    slice-aggregate-fill-node
+    fill-node-requires-2
+    array-share-prefix-t
+    slice-aggregate-put-bytes
+    put-bytes-requires
     same-length-2
-    returns-3
-    same-length-3
-    returns-4
-    same-length-4
-    returns-5
-    same-length-5
-    returns-6
-    same-length-6
-    returns-7
-    same-length-7
-    returns-8
-    same-length-8
-    returns-9
-    same-length-9
-    returns-10
-    same-length-10
-    returns-11
-    same-length-11
-    returns-12
-    same-length-12
-    returns-13)
+    returns-2)

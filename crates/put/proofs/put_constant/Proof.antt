@@ -1,58 +1,44 @@
-use Rattle.put.specs.PutLaws.{number-room, put-constant, put-negative}
+use mathlib.Core.Path.{_≡_}
+use mir.Val.{toZ, ofZ}
+use mir.Syntax.{w32}
+use mir.Facts.{toZ-ofZ}
+use lib.Seq.{length-take-le}
+use mathlib.Core.Path.{sym}
+use Rattle.put.specs.PutLaws.{put-filled, filled-few}
 use native.Mathlib.Omega.{arith}
 use borrow.Author.Needs.{needs}
 use Rattle.put.proofs.put_constant.Statement.{statement}
 use Rattle.put.proofs.put_constant.Tie as tie
 
-bits-of-requires : tie.Need-bits-of-requires
-bits-of-requires c κs = search needs
+slice-aggregate-fill-constant : tie.Need-slice-aggregate-fill-constant
+slice-aggregate-fill-constant c = search needs
 
-cast-put-number : tie.Need-cast-put-number
-cast-put-number c = search needs
+fill-constant-requires : tie.Need-fill-constant-requires
+fill-constant-requires c κs = search needs
 
-put-number-requires : tie.Need-put-number-requires
-put-number-requires c κs = number-room _ _ (omega arith) (omega arith)
+array-share-prefix-t : tie.Need-array-share-prefix-t
+array-share-prefix-t c = search needs
+
+slice-aggregate-put-text : tie.Need-slice-aggregate-put-text
+slice-aggregate-put-text c = sym (length-take-le _ _ (omega arith))
+
+put-text-requires : tie.Need-put-text-requires
+put-text-requires c κs = (omega arith, filled-few (c .before .before .before .fill-constant .ensures) (omega arith))
 
 same-length : tie.Need-same-length
 same-length c = search needs
 
 returns : tie.Need-returns
-returns c = search (needs, put-constant)
-
-put-byte-requires : tie.Need-put-byte-requires
-put-byte-requires c κs = search needs
-
-sub-put-number : tie.Need-sub-put-number
-sub-put-number c = search needs
-
-add-put-number : tie.Need-add-put-number
-add-put-number c = search needs
-
-cast-put-number-2 : tie.Need-cast-put-number-2
-cast-put-number-2 c = search needs
-
-put-number-requires-2 : tie.Need-put-number-requires-2
-put-number-requires-2 c κs = number-room _ _ (omega arith) (omega arith)
-
-same-length-2 : tie.Need-same-length-2
-same-length-2 c = search needs
-
-returns-2 : tie.Need-returns-2
-returns-2 c = search (needs, put-negative)
+returns c = let z = c .before .before .before .before .before .before .before .before .before .args .c in let e : toZ w32 (ofZ w32 z) ≡ z = toZ-ofZ {w = w32} (c .before .before .before .before .before .before .before .before .before .fits .c) in put-filled (omega arith) (rw e at (c .before .before .before .before .before .before .fill-constant .ensures)) (c .before .before .put-text .ensures)
 
 pub put-constant-spec : {M : Type 1} → statement M
 put-constant-spec =
     tie.close
     (tie.spec
-    bits-of-requires
-    cast-put-number
-    put-number-requires
+    slice-aggregate-fill-constant
+    fill-constant-requires
+    array-share-prefix-t
+    slice-aggregate-put-text
+    put-text-requires
     same-length
-    returns
-    put-byte-requires
-    sub-put-number
-    add-put-number
-    cast-put-number-2
-    put-number-requires-2
-    same-length-2
-    returns-2)
+    returns)

@@ -1,37 +1,40 @@
-use Rattle.put.specs.ListLaws.{list-none, list-some}
+use lib.Seq.{length-take-le}
+use mathlib.Core.Path.{sym}
+use Rattle.put.specs.PutLaws.{put-filled, filled-few}
+use native.Mathlib.Omega.{arith}
 use borrow.Author.Needs.{needs}
 use Rattle.put.proofs.put_list_value.Statement.{statement}
 use Rattle.put.proofs.put_list_value.Tie as tie
 
-put-items-requires : tie.Need-put-items-requires
-put-items-requires c κs = search needs
+slice-aggregate-fill-list : tie.Need-slice-aggregate-fill-list
+slice-aggregate-fill-list c = search needs
 
-slice-aggregate-put-text : tie.Need-slice-aggregate-put-text
-slice-aggregate-put-text c = search needs
+fill-list-requires : tie.Need-fill-list-requires
+fill-list-requires c κs = search needs
 
-put-text-requires : tie.Need-put-text-requires
-put-text-requires c κs = search needs
+array-share-prefix-t : tie.Need-array-share-prefix-t
+array-share-prefix-t c = search needs
+
+slice-aggregate-put-bytes : tie.Need-slice-aggregate-put-bytes
+slice-aggregate-put-bytes c = sym (length-take-le _ _ (omega arith))
+
+put-bytes-requires : tie.Need-put-bytes-requires
+put-bytes-requires c κs = (omega arith, filled-few (c .before .before .before .fill-list .ensures) (omega arith))
 
 same-length : tie.Need-same-length
 same-length c = search needs
 
 returns : tie.Need-returns
-returns c = list-none _ (c .before .before .before .before .before .before .before .before .put-items .ensures) (c .before .before .before .before .before .if1 .taken) (c .before .before .put-text .ensures)
-
-same-length-2 : tie.Need-same-length-2
-same-length-2 c = search needs
-
-returns-2 : tie.Need-returns-2
-returns-2 c = list-some _ (c .before .before .before .put-items .ensures) (c .if1 .left)
+returns c = put-filled (omega arith) (c .before .before .before .before .before .before .fill-list .ensures) (c .before .before .put-bytes .ensures)
 
 pub put-list-value-spec : {M : Type 1} → statement M
 put-list-value-spec =
     tie.close
     (tie.spec
-    put-items-requires
-    slice-aggregate-put-text
-    put-text-requires
+    slice-aggregate-fill-list
+    fill-list-requires
+    array-share-prefix-t
+    slice-aggregate-put-bytes
+    put-bytes-requires
     same-length
-    returns
-    same-length-2
-    returns-2)
+    returns)

@@ -1,81 +1,56 @@
-use Rattle.put.specs.PutLaws.{put-digit, put-two, put-three}
+use lib.Seq.{length-take-le}
+use mathlib.Core.Path.{sym}
+use Rattle.put.specs.PutLaws.{put-filled, filled-few}
+use native.Mathlib.Omega.{arith}
 use borrow.Author.Needs.{needs}
 use Rattle.put.proofs.put_small.Statement.{statement}
 use Rattle.put.proofs.put_small.Tie as tie
 
-add-put-byte : tie.Need-add-put-byte
-add-put-byte c = search needs
+add-if1 : tie.Need-add-if1
+add-if1 c = search needs
 
-put-byte-requires : tie.Need-put-byte-requires
-put-byte-requires c κs = search needs
+fill-small-requires : tie.Need-fill-small-requires
+fill-small-requires c κs = search needs
 
 same-length : tie.Need-same-length
 same-length c = search needs
 
 returns : tie.Need-returns
-returns c = search (needs, put-digit)
+returns c = search needs
 
-add-put-byte-2 : tie.Need-add-put-byte-2
-add-put-byte-2 c = search needs
+slice-aggregate-fill-small : tie.Need-slice-aggregate-fill-small
+slice-aggregate-fill-small c = search needs
 
-put-byte-requires-2 : tie.Need-put-byte-requires-2
-put-byte-requires-2 c κs = search needs
+fill-small-requires-2 : tie.Need-fill-small-requires-2
+fill-small-requires-2 c κs = search needs
 
-add-put-byte-3 : tie.Need-add-put-byte-3
-add-put-byte-3 c = search needs
+array-share-prefix-t : tie.Need-array-share-prefix-t
+array-share-prefix-t c = search needs
 
-put-byte-requires-3 : tie.Need-put-byte-requires-3
-put-byte-requires-3 c κs = search needs
+slice-aggregate-put-text : tie.Need-slice-aggregate-put-text
+slice-aggregate-put-text c = sym (length-take-le _ _ (omega arith))
+
+put-text-requires : tie.Need-put-text-requires
+put-text-requires c κs = (omega arith, filled-few (c .before .before .before .fill-small2 .ensures) (omega arith))
 
 same-length-2 : tie.Need-same-length-2
 same-length-2 c = search needs
 
 returns-2 : tie.Need-returns-2
-returns-2 c = search (needs, put-two)
-
-add-put-byte-4 : tie.Need-add-put-byte-4
-add-put-byte-4 c = search needs
-
-put-byte-requires-4 : tie.Need-put-byte-requires-4
-put-byte-requires-4 c κs = search needs
-
-add-put-byte-5 : tie.Need-add-put-byte-5
-add-put-byte-5 c = search needs
-
-put-byte-requires-5 : tie.Need-put-byte-requires-5
-put-byte-requires-5 c κs = search needs
-
-add-put-byte-6 : tie.Need-add-put-byte-6
-add-put-byte-6 c = search needs
-
-put-byte-requires-6 : tie.Need-put-byte-requires-6
-put-byte-requires-6 c κs = search needs
-
-same-length-3 : tie.Need-same-length-3
-same-length-3 c = search needs
-
-returns-3 : tie.Need-returns-3
-returns-3 c = search (needs, put-three)
+returns-2 c = put-filled (omega arith) (c .before .before .before .before .before .before .fill-small2 .ensures) (c .before .before .put-text .ensures)
 
 pub put-small-spec : {M : Type 1} → statement M
 put-small-spec =
     tie.close
     (tie.spec
-    add-put-byte
-    put-byte-requires
+    add-if1
+    fill-small-requires
     same-length
     returns
-    add-put-byte-2
-    put-byte-requires-2
-    add-put-byte-3
-    put-byte-requires-3
+    slice-aggregate-fill-small
+    fill-small-requires-2
+    array-share-prefix-t
+    slice-aggregate-put-text
+    put-text-requires
     same-length-2
-    returns-2
-    add-put-byte-4
-    put-byte-requires-4
-    add-put-byte-5
-    put-byte-requires-5
-    add-put-byte-6
-    put-byte-requires-6
-    same-length-3
-    returns-3)
+    returns-2)

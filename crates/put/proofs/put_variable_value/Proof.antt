@@ -1,27 +1,40 @@
-use Rattle.put.specs.ListLaws.{variable-removed, variable-named}
+use lib.Seq.{length-take-le}
+use mathlib.Core.Path.{sym}
+use Rattle.put.specs.PutLaws.{put-filled, filled-few}
+use native.Mathlib.Omega.{arith}
 use borrow.Author.Needs.{needs}
 use Rattle.put.proofs.put_variable_value.Statement.{statement}
 use Rattle.put.proofs.put_variable_value.Tie as tie
 
-put-byte-requires : tie.Need-put-byte-requires
-put-byte-requires c κs = search needs
+slice-aggregate-fill-variable : tie.Need-slice-aggregate-fill-variable
+slice-aggregate-fill-variable c = search needs
+
+fill-variable-requires : tie.Need-fill-variable-requires
+fill-variable-requires c κs = search needs
+
+array-share-prefix-t : tie.Need-array-share-prefix-t
+array-share-prefix-t c = search needs
+
+slice-aggregate-put-text : tie.Need-slice-aggregate-put-text
+slice-aggregate-put-text c = sym (length-take-le _ _ (omega arith))
+
+put-text-requires : tie.Need-put-text-requires
+put-text-requires c κs = (omega arith, filled-few (c .before .before .before .fill-variable .ensures) (omega arith))
 
 same-length : tie.Need-same-length
 same-length c = search needs
 
 returns : tie.Need-returns
-returns c = search (needs, variable-removed)
-
-put-small-requires : tie.Need-put-small-requires
-put-small-requires c κs = search needs
-
-same-length-2 : tie.Need-same-length-2
-same-length-2 c = search needs
-
-returns-2 : tie.Need-returns-2
-returns-2 c = search (needs, variable-named)
+returns c = put-filled (omega arith) (c .before .before .before .before .before .before .fill-variable .ensures) (c .before .before .put-text .ensures)
 
 pub put-variable-value-spec : {M : Type 1} → statement M
 put-variable-value-spec =
     tie.close
-    (tie.spec put-byte-requires same-length returns put-small-requires same-length-2 returns-2)
+    (tie.spec
+    slice-aggregate-fill-variable
+    fill-variable-requires
+    array-share-prefix-t
+    slice-aggregate-put-text
+    put-text-requires
+    same-length
+    returns)
