@@ -1,8 +1,8 @@
 use Rattle.analysis.specs.StepLaws.{places, step-is}
 use Rattle.analysis.specs.Work.{sized-after, moves-trans, leads-on}
 use borrow.Author.Needs.{needs}
-use Rattle.analysis.proofs.visit.Statement.{statement}
-use Rattle.analysis.proofs.visit.Tie as tie
+use Rattle.analysis.proofs.spread.Statement.{statement}
+use Rattle.analysis.proofs.spread.Tie as tie
 
 mul-at : tie.Need-mul-at
 mul-at c = search needs
@@ -34,8 +34,8 @@ pass-on-requires c κs = let f = places _ _ _ _ (c .before .before .before .befo
 returns : tie.Need-returns
 returns c = let r = c .before .before .before .before .before .before .before .before .before .before .before .before .args .recvs .now in (step-is _ _ _ _ (c .before .before .before .before .before .before .before .before .before .before .before .before .args .p) _ _ _ (c .before .before .before .before .before .before .before .before .before .flow-of .ensures) (c .before .before .before .before .before .before .reach .ensures .0) (c .before .before .before .reach2 .ensures .0) (c .pass-on .ensures .0), (moves-trans (moves-trans (c .before .before .before .before .before .before .reach .ensures .1 .0 r) (c .before .before .before .reach2 .ensures .1 .0 r)) (c .pass-on .ensures .1), leads-on (c .before .before .before .before .before .before .before .before .before .before .before .before .pre .0) (leads-on (c .before .before .before .before .before .before .before .before .before .before .before .before .pre .0) (c .before .before .before .before .before .before .reach .ensures .1 .1) (c .before .before .before .reach2 .ensures .1 .0 r)) (c .pass-on .ensures .1)))
 
-pub visit-spec : {M : Type 1} → statement M
-visit-spec =
+pub spread-spec : {M : Type 1} → statement M
+spread-spec =
     tie.close
     (tie.spec
     mul-at

@@ -1,0 +1,19 @@
+use Rattle.analysis.specs.StepLaws.{pass-is}
+use borrow.Author.Needs.{needs}
+use Rattle.analysis.proofs.visit.Statement.{statement}
+use Rattle.analysis.proofs.visit.Tie as tie
+
+pass-requires : tie.Need-pass-requires
+pass-requires c κs = search needs
+
+returns : tie.Need-returns
+returns c = let b = c .before .before .before .before .before in (pass-is _ (b .args .x) _ _ _ _ (b .pre .1 .1 .1 .1) (c .before .before .before .if1 .taken) (c .pass .ensures .0), (c .pass .ensures .1 .0 (b .args .recvs .now), c .pass .ensures .1 .1))
+
+spread-requires : tie.Need-spread-requires
+spread-requires c κs = search needs
+
+returns-2 : tie.Need-returns-2
+returns-2 c = search needs
+
+pub visit-spec : {M : Type 1} → statement M
+visit-spec = tie.close (tie.spec pass-requires returns spread-requires returns-2)
