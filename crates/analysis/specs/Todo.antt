@@ -1,7 +1,6 @@
 -- Masks of what is still to be done: a step takes one number out of a mask, and adds again what has to be seen once more.
 use Prim.Native.Nat.{ℕ, _^_, _<_}
 use native.Mathlib.Omega.{arith}
-use native.Mathlib.Nat.{mod-eq-of-lt}
 use mathlib.Core.Path.{_≡_, refl, sym, _∙_}
 use mathlib.Core.Bool.{Bool, true, false, true≢false}
 use mathlib.Core.Logic.{_⊎_, inl, inr, _≢_}
@@ -11,14 +10,10 @@ use lib.Seq.{getD-set-same, getD-set-other}
 use lib.Dec.{eqb}
 use borrow.Author.Tests.{eqb-true, eqb-false}
 use Rattle.table.specs.Mask.{bit}
-use Rattle.masks.specs.Bits.{least, without, without-less, without-out}
+use Rattle.masks.specs.Bits.{without, without-less, without-out}
 use Rattle.masks.specs.Cells.{cell, sum, sum-set, Masks}
 use Rattle.flow.specs.Flow.{low}
-
--- ---- the least element of a mask
-
-pub low-bit : (m : ℕ) → m < 2 ^ 32 → m ≢ 0 → bit (low m) m ≡ true
-low-bit m h z = let i = least 32 m h z in rw (mod-eq-of-lt (i .0)) (i .1)
+use Rattle.flow.specs.FlowLaws.{low-bit}
 
 -- ---- a number is taken out of a mask
 

@@ -12,7 +12,6 @@ ghost use Prim.Native.Nat.{ℕ, _<_, _≤_, _^_, _+_, _-_, _*_};
 ghost use lib.ListN.{length, replicate};
 ghost use lib.Bits.{bitOr};
 ghost use Rattle.table.specs.Mask.{pick, maskOf};
-ghost use Rattle.masks.specs.Bits.{without};
 ghost use Rattle.masks.specs.Cells.{cell, grown, Flag, sweep, Masks};
 ghost use Rattle.flow.specs.Flow.{flowOf, passOf, afterPass};
 ghost use Rattle.analysis.specs.Ready.{Ready};
@@ -181,21 +180,13 @@ fn visit(
     spread(x, p, n, cells, todo, recvs)
 }
 
-// m without n.
-fn minus(m: u32, n: usize) -> u32
-    requires { ⌜ n < 32 ⌝ }
-    ensures { λ r. ⌜ r ≡ without m n ⌝ }
-{
-    m ^ (m & (1 << (n as u32)))
-}
-
 // Node n of procedure p, which is to be seen, is taken out.
 fn take(p: usize, n: usize, todo: &mut [u32; 8])
     requires { ⌜ (p < 8) × (Masks 8 32 (now todo) × Leads p n true (now todo)) ⌝ }
     ensures { λ r. ⌜ Took (now (todo .entry)) p n (now (todo .exit)) ⌝ }
 {
     let m = todo[p];
-    todo[p] = minus(m, n);
+    todo[p] = masks::minus(m, n);
 }
 
 // What each node of a procedure does, if it has one target.

@@ -1,7 +1,7 @@
 -- The flow of a node from the values that the code computes on the way.
 use Prim.Native.Nat.{ℕ, _+_, _%_, _^_, _<_, _≤_}
 use native.Mathlib.Omega.{arith}
-use native.Mathlib.Nat.{lt-of-le-of-lt}
+use native.Mathlib.Nat.{lt-of-le-of-lt, mod-eq-of-lt}
 use mathlib.Core.Path.{_≡_, refl, sym, _∙_, ap, subst}
 use mathlib.Core.Bool.{_&&_, Bool, true, false, not, _||_, false≢true}
 use mathlib.Core.Logic.{_⊎_, inl, inr, _≢_}
@@ -15,10 +15,13 @@ use Rattle.table.specs.declared.Operand.the-variants.{Var, Const}
 use Rattle.table.specs.declared.Args.{Args}
 use Rattle.table.specs.declared.Node.{Node}
 use Rattle.table.specs.declared.Node.the-variants.{Absent, Start, Set, Test, Read, Call, Wait, Signal, Send, Recv, Assert, Out, Return}
-use Rattle.masks.specs.Bits.{bit-zero, bit-one, bit-one-out, bit-or-out, bit-or-l, bit-or-r, bit-and-out, bit-and-in, bit-ext}
+use Rattle.masks.specs.Bits.{bit-zero, bit-one, bit-one-out, bit-or-out, bit-or-l, bit-or-r, bit-and-out, bit-and-in, bit-ext, least}
 use Rattle.flow.specs.declared.Flow.{Flow}
 use Rattle.flow.specs.declared.Pass.{Pass}
-use Rattle.flow.specs.Flow.{operandDirty, operandsDirty, afterSet, oneFlow, settingFlow, argBit, passedBits, callFlow, sentBit, sendFlow, flowOf, usesOf, plainPass, setPass, passOf, afterPass}
+use Rattle.flow.specs.Flow.{low, operandDirty, operandsDirty, afterSet, oneFlow, settingFlow, argBit, passedBits, callFlow, sentBit, sendFlow, flowOf, usesOf, plainPass, setPass, passOf, afterPass}
+
+pub low-bit : (m : ℕ) → m < 2 ^ 32 → m ≢ 0 → bit (low m) m ≡ true
+low-bit m h z = let i = least 32 m h z in rw (mod-eq-of-lt (i .0)) (i .1)
 
 pub both-dirty : (a b : Operand) (i : ℕ) (x y : Bool) {r : Bool} → x ≡ operandDirty a i → y ≡ operandDirty b i → r ≡ x || y → r ≡ operandsDirty a b i
 both-dirty a b i x y e f g = rw (← e, ← f) g

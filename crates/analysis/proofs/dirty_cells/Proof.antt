@@ -1,7 +1,7 @@
 use mathlib.Core.Path.{refl}
 use Rattle.analysis.specs.Ready.{Ready}
 use Rattle.analysis.specs.Decide.{start-good}
-use Rattle.analysis.specs.Work.{Work, Pending, left, work-start, work-end, full, full-pending}
+use Rattle.analysis.specs.Work.{Work, Pending, leftOf, work-start, work-end, full, full-pending}
 use borrow.Author.Needs.{needs}
 use native.Mathlib.Omega.{arith}
 use Rattle.analysis.proofs.dirty_cells.Statement.{statement}
@@ -11,7 +11,7 @@ abbrev Inv-loop : tie.InvT-loop
 Inv-loop t recvs plans cells₀ todo₀ p₀ cells todo p = ((o : Ready t) → Work t o cells todo) × Pending todo p
 
 abbrev μ-loop : tie.MeasureT-loop
-μ-loop t recvs plans cells₀ todo₀ p₀ cells todo p = left 265 8 cells todo
+μ-loop t recvs plans cells₀ todo₀ p₀ cells todo p = leftOf cells todo
 
 receivers-requires : tie.Need-receivers-requires Inv-loop μ-loop
 receivers-requires c κs = search needs

@@ -1,5 +1,5 @@
 use Rattle.analysis.specs.Todo.{leads-low, leads-yes}
-use Rattle.analysis.specs.Work.{left, Going, Along, going-start, next-less, along-start, along-next, along-end, going-end}
+use Rattle.analysis.specs.Work.{leftOf, Going, Along, going-start, next-less, along-start, along-next, along-end, going-end}
 use borrow.Author.Needs.{needs}
 use native.Mathlib.Omega.{arith}
 use Rattle.analysis.proofs.proc_work.Statement.{statement}
@@ -9,13 +9,13 @@ abbrev Inv-loop2 : tie.InvT-loop2
 Inv-loop2 p cells₀ todo₀ recvs q plan m n₀ on₀ cells todo n on = Along recvs q p cells₀ todo₀ cells todo n on
 
 abbrev μ-loop2 : tie.MeasureT-loop2
-μ-loop2 p cells₀ todo₀ recvs q plan m n₀ on₀ cells todo n on = left 265 8 cells todo
+μ-loop2 p cells₀ todo₀ recvs q plan m n₀ on₀ cells todo n on = leftOf cells todo
 
 abbrev Inv-loop : tie.InvT-loop
 Inv-loop p cells₀ todo₀ recvs q plan cells todo = Going recvs q p cells₀ todo₀ cells todo
 
 abbrev μ-loop : tie.MeasureT-loop
-μ-loop p cells₀ todo₀ recvs q plan cells todo = left 265 8 cells todo
+μ-loop p cells₀ todo₀ recvs q plan cells todo = leftOf cells todo
 
 loop-holds : tie.Need-loop-holds Inv-loop2 μ-loop2 Inv-loop μ-loop
 loop-holds c = going-start _ _ _ _ _ (c .pre .1 .0) (c .pre .1 .1 .0)
