@@ -1,11 +1,12 @@
 -- The kept nodes that a node leads to through nodes that are not kept, by the two targets of each node.
-use Prim.Native.Nat.{ℕ, _/_, _%_, _^_, _<_}
+use Prim.Native.Nat.{ℕ, _-_, _/_, _%_, _^_, _<_}
 use mathlib.Core.Path.{_≡_}
 use mathlib.Core.Bool.{true, false}
 use mathlib.Core.Logic.{_⊎_, _↔_}
 use mathlib.Core.List.{List}
 use lib.ListN.{length, getD}
 use lib.Bits.{bitOr, bitAnd, bitXor}
+use lib.Count.{leadingZeros}
 use Rattle.table.specs.Mask.{bit}
 use Rattle.masks.specs.Cells.{cell, grown, Masks}
 
@@ -47,3 +48,7 @@ pub record Sources (ends : List ℕ) (n : ℕ) (r : List ℕ) : Type 0 where
 -- the nodes that are not kept
 abbrev pub droppedOf : ℕ → ℕ
 droppedOf kept = bitXor 4294967295 (bitAnd 4294967295 kept)
+
+-- the last node of a set that has one
+abbrev pub lastOf : ℕ → ℕ
+lastOf m = 31 - leadingZeros 32 m % 32

@@ -1,23 +1,22 @@
 -- The cells say exactly where each node leads, once no node that is not kept has anything to get from its targets.
-use Prim.Native.Nat.{ℕ, _+_, _^_, _<_, _≤_}
+use Prim.Native.Nat.{ℕ, _+_, _*_, _-_, _^_, _<_, _≤_}
 use native.Mathlib.Omega.{arith}
-use native.Mathlib.Nat.{lt-of-le-of-lt, lt-trans}
+use native.Mathlib.Nat.{lt-of-le-of-lt, lt-trans, pow-suc, one-mul}
 use mathlib.Core.Path.{_≡_, refl, sym, _∙_, ap, subst}
 use mathlib.Core.Bool.{Bool, true, false, not, _&&_, _||_, false≢true, true≢false}
 use mathlib.Core.Logic.{_⊎_, inl, inr, _≢_}
 use mathlib.Core.List.{List}
 use lib.ListN.{length, List·getD-eq-default}
 use lib.Seq.{getD-set-other}
-use lib.Bits.{bitOr, bitAnd, or-lt, xor-lt, and-le-l, and-le-r}
+use lib.Bits.{bitOr, bitAnd, or-lt, xor-lt, and-le-l, and-le-r, or-shifted}
+use lib.Count.{leading-top}
 use lib.Dec.{eqb, ltb}
 use borrow.Author.Tests.{ltb-true, ltb-false, eqb-true, eqb-false}
 use Rattle.table.specs.Mask.{pick, bit}
 use Rattle.masks.specs.Bits.{bit-zero, bit-one, bit-one-out, bit-low, bit-or, bit-minus, bit-and-out, bit-and-in, bit-or-out, bit-or-l, bit-or-r, without, without-less, without-out}
 use Rattle.masks.specs.Cells.{cell, sum, grown, Masks, masks-sum, Flag, grown-masks, Sound, grown-sound, grown-has, grown-adds, grown-grows}
 use Rattle.masks.specs.Left.{left, less-left}
-use Rattle.flow.specs.Flow.{low}
-use Rattle.flow.specs.FlowLaws.{low-bit}
-use Rattle.reach.specs.Reach.{firstOf, secondOf, IsEnd, Leads, here, via, Reaches, Own, joined, Sources, droppedOf}
+use Rattle.reach.specs.Reach.{firstOf, secondOf, IsEnd, Leads, here, via, Reaches, Own, joined, Sources, droppedOf, lastOf}
 
 -- ---- the nodes that have one as a target
 
@@ -135,6 +134,15 @@ module _ (kept : ℕ) (ends : List ℕ) where
 
   -- ---- the search
 
+  last-bit : (m : ℕ) → m < 2 ^ 32 → m ≢ 0 → bit (lastOf m) m ≡ true
+  last-bit m h z =
+      let w = leading-top 32 m (omega (arith, z)) h in
+      let j = w .0 in
+      let e : lastOf m ≡ j = omega (arith, w .1) in
+      let d : m < 2 ^ j * 2 = rw pow-suc at (w .3) in
+      let s : m ≡ bitOr (1 * 2 ^ j) (m - 2 ^ j) = sym (or-shifted 1 j (m - 2 ^ j) (omega (arith, d, w .2)) ∙ omega (arith, w .2)) in
+      rw e (subst (λ (x : ℕ). bit j x ≡ true) (sym s) (bit-or-l j (1 * 2 ^ j) (m - 2 ^ j) (rw (one-mul (2 ^ j)) (bit-one j))))
+
   dropped-small : droppedOf kept < 2 ^ 32
   dropped-small = xor-lt 32 4294967295 (bitAnd 4294967295 kept) (omega arith) (lt-of-le-of-lt (and-le-l 4294967295 kept) (omega arith))
 
@@ -162,13 +170,13 @@ module _ (kept : ℕ) (ends : List ℕ) where
   pub search-end : {l : List ℕ} {todo : ℕ} → Search l todo → todo ≡ 0 → Reaches kept ends l
   search-end {l} s e = decided l (s .good) (λ n h b. s .done n h b (rw e (bit-zero n)))
 
-  module _ {l l′ from : List ℕ} {fresh : Bool} {i gone todo todo′ : ℕ} (s : Search l todo) (z : todo ≢ 0) (at : i ≡ low todo) (sr : Sources ends 32 from) (e : l′ ≡ joined ends l i) (f : Flag l l′ fresh)
+  module _ {l l′ from : List ℕ} {fresh : Bool} {i gone todo todo′ : ℕ} (s : Search l todo) (z : todo ≢ 0) (at : i ≡ lastOf todo) (sr : Sources ends 32 from) (e : l′ ≡ joined ends l i) (f : Flag l l′ fresh)
       (w : gone ≡ droppedOf kept) (d₀ : todo′ ≡ pick fresh (bitOr (without todo i) (bitAnd (cell from i) gone)) (without todo i)) where
     here-low : i < 32
     here-low = omega arith
 
     seen : bit i todo ≡ true
-    seen = rw at (low-bit todo (s .small) z)
+    seen = rw at (last-bit todo (s .small) z)
 
     less : without todo i < todo
     less = without-less todo i (s .small) here-low seen

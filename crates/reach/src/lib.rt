@@ -6,7 +6,7 @@ ghost use lib.Bits.{bitOr};
 ghost use Rattle.table.specs.Mask.{pick};
 ghost use Rattle.masks.specs.Bits.{without};
 ghost use Rattle.masks.specs.Cells.{grown, Flag};
-ghost use Rattle.reach.specs.Reach.{joined, Own, Sources, droppedOf, Reaches};
+ghost use Rattle.reach.specs.Reach.{joined, Own, Sources, droppedOf, lastOf, Reaches};
 
 // The mask m is added to the cell a; the answer says whether something was new.
 fn grow(cells: &mut [u32; 32], a: usize, m: u32) -> bool
@@ -85,6 +85,13 @@ fn dropped(kept: u32) -> u32
     4294967295 ^ (4294967295 & kept)
 }
 
+// The last of the nodes m, if it has one.
+fn last(m: u32) -> usize
+    ensures { λ r. ⌜ r ≡ lastOf m ⌝ }
+{
+    (31 - u32::leading_zeros(m) % 32) as usize
+}
+
 // What is to be seen after node i: those of m, too, if something was new there.
 fn next(todo: u32, i: usize, fresh: bool, m: u32) -> u32
     requires { ⌜ i < 32 ⌝ }
@@ -95,7 +102,7 @@ fn next(todo: u32, i: usize, fresh: bool, m: u32) -> u32
 }
 
 // For each node the kept nodes that it leads to through nodes that are not kept. ends has the two targets of each node,
-// 32 times the first plus the second. A node is seen at first, and again after a target of it has got something new.
+// 32 times the first plus the second. A node is seen at first, and again after a target of it has got something new; the last first.
 pub fn reach(kept: u32, ends: &[u32; 32]) -> [u32; 32]
     ensures { λ r. ⌜ Reaches kept (now (ends .entry)) r ⌝ }
 {
@@ -104,7 +111,7 @@ pub fn reach(kept: u32, ends: &[u32; 32]) -> [u32; 32]
     let gone = dropped(kept);
     let mut todo = gone;
     while todo != 0 {
-        let i = flow::target(todo);
+        let i = last(todo);
         let fresh = step(ends, i, &mut cells);
         let m = from[i] & gone;
         todo = next(todo, i, fresh, m);

@@ -24,26 +24,26 @@ dropped-requires c κs = search needs
 loop-holds : tie.Need-loop-holds Inv-loop μ-loop
 loop-holds c = search-start _ _ (c .before .before .own .ensures) (c .dropped .ensures)
 
-target-requires : tie.Need-target-requires Inv-loop μ-loop
-target-requires c κs = search needs
+last-requires : tie.Need-last-requires Inv-loop μ-loop
+last-requires c κs = search needs
 
 step-requires : tie.Need-step-requires Inv-loop μ-loop
-step-requires c κs = (omega (arith, c .before .target .ensures), c .before .before .before .loop .inv .good .masks .size)
+step-requires c κs = (omega (arith, c .before .last .ensures), c .before .before .before .loop .inv .good .masks .size)
 
 mul-m : tie.Need-mul-m Inv-loop μ-loop
-mul-m c = omega (arith, c .before .before .target .ensures)
+mul-m c = omega (arith, c .before .before .last .ensures)
 
 array-read-m : tie.Need-array-read-m Inv-loop μ-loop
-array-read-m c = omega (arith, c .before .before .target .ensures)
+array-read-m c = omega (arith, c .before .before .last .ensures)
 
 next-requires : tie.Need-next-requires Inv-loop μ-loop
-next-requires c κs = omega (arith, c .before .before .target .ensures)
+next-requires c κs = omega (arith, c .before .before .last .ensures)
 
 loop-less : tie.Need-loop-less Inv-loop μ-loop
-loop-less c = search-less _ _ (c .before .before .before .before .before .loop .inv) (c .before .before .before .before .loop-test .taken) (c .before .before .before .target .ensures) (c .before .before .before .before .before .before .before .sources .ensures) (c .before .step .ensures .0) (c .before .step .ensures .1) (c .before .before .before .before .before .before .dropped .ensures) (c .next .ensures)
+loop-less c = search-less _ _ (c .before .before .before .before .before .loop .inv) (c .before .before .before .before .loop-test .taken) (c .before .before .before .last .ensures) (c .before .before .before .before .before .before .before .sources .ensures) (c .before .step .ensures .0) (c .before .step .ensures .1) (c .before .before .before .before .before .before .dropped .ensures) (c .next .ensures)
 
 loop-again : tie.Need-loop-again Inv-loop μ-loop
-loop-again c = search-next _ _ (c .before .before .before .before .before .loop .inv) (c .before .before .before .before .loop-test .taken) (c .before .before .before .target .ensures) (c .before .before .before .before .before .before .before .sources .ensures) (c .before .step .ensures .0) (c .before .step .ensures .1) (c .before .before .before .before .before .before .dropped .ensures) (c .next .ensures)
+loop-again c = search-next _ _ (c .before .before .before .before .before .loop .inv) (c .before .before .before .before .loop-test .taken) (c .before .before .before .last .ensures) (c .before .before .before .before .before .before .before .sources .ensures) (c .before .step .ensures .0) (c .before .step .ensures .1) (c .before .before .before .before .before .before .dropped .ensures) (c .next .ensures)
 
 returns : tie.Need-returns Inv-loop μ-loop
 returns c = search-end _ _ (c .before .loop .inv) (c .loop-test .left)
@@ -58,7 +58,7 @@ reach-spec =
     sources-requires
     dropped-requires
     loop-holds
-    target-requires
+    last-requires
     step-requires
     mul-m
     array-read-m
