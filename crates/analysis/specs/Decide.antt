@@ -131,7 +131,7 @@ module _ (t : Table) (o : Ready t) where
 
     node-sound : (x : Node) → nodeAt t p n ≡ x → FitsNode t (procAt t p .vars) x → Flows (flowOf x n i b)
     unfolding flowOf sets arcTo arcNo
-    node-sound Absent e f = record { to-first = λ v h. none-of v h; to-second = λ v h. none-of v h; to-extra = λ v h. none-of v h }
+    node-sound Absent e f = record { to-first = H; to-second = H; to-extra = λ v h. none-of v h }
     node-sound (Start to) e f = one-plain (Start to) to e refl refl f
     node-sound (Set w q x y to) e f = one-set (Set w q x y to) w to _ e (f .0) refl refl (f .3) (used w q x y to (f .1) (f .2) e)
     node-sound (Test q x y g s) e f = record {
@@ -158,7 +158,7 @@ module _ (t : Table) (o : Ready t) where
     node-sound (Recv q w to) e f = one-set (Recv q w to) w to (bit (q % 32) b) e (f .1) refl refl (f .2) (λ z. by-recv q w to e (HB q (let j : q % 32 ≡ q = mod-eq-of-lt (omega (arith, f .0)) in rw j at z)))
     node-sound (Assert w to) e f = one-plain (Assert w to) to e refl refl (f .1)
     node-sound (Out w to) e f = one-plain (Out w to) to e refl refl (f .1)
-    node-sound Return e f = record { to-first = λ v h. none-of v h; to-second = λ v h. none-of v h; to-extra = λ v h. none-of v h }
+    node-sound Return e f = record { to-first = H; to-second = H; to-extra = λ v h. none-of v h }
 
   grown-good : {n : ℕ} (l : List ℕ) (a m : ℕ) → ((p : ℕ) → p < 8 → 256 + p ≢ a) → m < 2 ^ 32 → ((v : ℕ) → bit v m ≡ true → Dirty t (factOf a v)) → Upto n l → Upto n (grown l a m)
   grown-good {n} l a m apart s f g = record {

@@ -6,6 +6,7 @@ pub mod StepLaws
 pub mod Decide
 pub mod Todo
 pub mod Receivers
+pub mod Plans
 pub mod Work
 pub mod KeptLaws
 pub mod ReadyLaws

@@ -170,7 +170,7 @@ pub record Small (f : Flow) : Type 0 where
 
 pub flow-small : (x : Node) (n i b : ℕ) → i < 2 ^ 32 → Small (flowOf x n i b)
 unfolding flowOf
-flow-small Absent n i b h = record { out-small = pow-pos 32; add-small = pow-pos 32 }
+flow-small Absent n i b h = record { out-small = h; add-small = pow-pos 32 }
 flow-small (Start to) n i b h = record { out-small = h; add-small = pow-pos 32 }
 flow-small (Set v o x y to) n i b h = record { out-small = after-small i v (operandsDirty x y i) h; add-small = pow-pos 32 }
 flow-small (Test o x y f s) n i b h = record { out-small = h; add-small = pow-pos 32 }
@@ -182,7 +182,7 @@ flow-small (Send q v to) n i b h = record { out-small = h; add-small = sent-smal
 flow-small (Recv q v to) n i b h = record { out-small = after-small i v (bit (q % 32) b) h; add-small = pow-pos 32 }
 flow-small (Assert v to) n i b h = record { out-small = h; add-small = pow-pos 32 }
 flow-small (Out v to) n i b h = record { out-small = h; add-small = pow-pos 32 }
-flow-small Return n i b h = record { out-small = pow-pos 32; add-small = pow-pos 32 }
+flow-small Return n i b h = record { out-small = h; add-small = pow-pos 32 }
 
 -- ---- after a setting
 

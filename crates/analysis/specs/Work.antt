@@ -1,7 +1,7 @@
 -- The worklist: a node that is not to be seen adds nothing to the cells. Once none is to be seen, the cells say what is dirty.
 use Prim.Native.Nat.{ℕ, zero, suc, _+_, _*_, _-_, _^_, _<_, _≤_}
 use native.Mathlib.Omega.{arith}
-use native.Mathlib.Nat.{suc-mul, mul-le-mul-right, one-mul, lt-trans}
+use native.Mathlib.Nat.{one-mul, lt-trans}
 use mathlib.Core.Path.{_≡_, refl, sym, _∙_, ap, subst}
 use mathlib.Core.Bool.{Bool, true, false, false≢true, true≢false}
 use mathlib.Core.Logic.{_⊎_, inl, inr, _≢_}
@@ -19,6 +19,7 @@ use Rattle.table.specs.declared.Proc.{Proc}
 use Rattle.table.specs.declared.Table.{Table}
 use Rattle.masks.specs.Bits.{bit-zero, bit-one, bit-low, bit-or-l, bit-or-r}
 use Rattle.masks.specs.Cells.{cell, sum, grown, Masks, masks-sum, Flag, grown-grows, grown-has, grown-adds, grown-masks, Filled, filled-masks, set-more}
+use Rattle.masks.specs.Left.{left, less-left}
 use Rattle.flow.specs.declared.Flow.{Flow}
 use Rattle.flow.specs.Flow.{flowOf}
 use Rattle.closing.specs.ReachLaws.{cases}
@@ -251,22 +252,8 @@ module _ (t : Table) (o : Ready t) where
 
 -- ---- what is left to do goes down with every node
 
-abbrev pub left : ℕ → ℕ → List ℕ → List ℕ → ℕ
-left c k l w = (c * 2 ^ 32 - sum l) * suc (k * 2 ^ 32) + sum w
-
-less-left : (c k : ℕ) (l w w1 l′ w′ : List ℕ) → sum l′ ≤ c * 2 ^ 32 → sum w′ ≤ k * 2 ^ 32 → sum l ≤ sum l′ → (sum l′ ≡ sum l → w′ ≡ w1) → sum w1 < sum w → left c k l′ w′ < left c k l w
-less-left c k l w w1 l′ w′ hl hw up stays f = go (eqb (sum l′) (sum l)) refl
-  where
-    go : (b : Bool) → eqb (sum l′) (sum l) ≡ b → left c k l′ w′ < left c k l w
-    go true e =
-        let z = eqb-true (sum l′) (sum l) e in
-        let s : sum w′ ≡ sum w1 = ap sum (stays z) in
-        rw z (omega arith)
-    go false e =
-        let z = eqb-false (sum l′) (sum l) e in
-        let h : sum l < sum l′ = omega arith in
-        let d : suc (c * 2 ^ 32 - sum l′) * suc (k * 2 ^ 32) ≤ (c * 2 ^ 32 - sum l) * suc (k * 2 ^ 32) = mul-le-mul-right (suc (k * 2 ^ 32)) (omega arith) in
-        omega (arith, rw suc-mul at d)
+abbrev pub leftOf : List ℕ → List ℕ → ℕ
+leftOf l w = left 265 (8 * 2 ^ 32) l (sum w)
 
 -- ---- the nodes of one procedure
 
@@ -275,7 +262,7 @@ pub record Going (r : List ℕ) (q : Proc) (p : ℕ) (l₀ w₀ l w : List ℕ) 
   pub masks : Masks 265 32 l
   pub todo : Masks 8 32 w
   pub keeps : (t : Table) (o : Ready t) → procAt t p ≡ q → Receivers t r → Work t o l₀ w₀ → Work t o l w
-  pub less : (left 265 8 l w < left 265 8 l₀ w₀) ⊎ ((l ≡ l₀) × (w ≡ w₀))
+  pub less : (leftOf l w < leftOf l₀ w₀) ⊎ ((l ≡ l₀) × (w ≡ w₀))
 
 pub going-start : (r : List ℕ) (q : Proc) (p : ℕ) (l w : List ℕ) → Masks 265 32 l → Masks 8 32 w → Going r q p l w l w
 going-start r q p l w g h = record { masks = g; todo = h; keeps = λ t o e rc k. k; less = inr (refl, refl) }
@@ -284,14 +271,14 @@ module _ (q : Proc) {p : ℕ} {r l w w1 l′ w′ : List ℕ} (n : ℕ) (hp : p 
   next-masks : Masks 265 32 l′
   next-masks = rw e (step-masks (nodeIn q n) p n l g)
 
-  pub next-less : left 265 8 l′ w′ < left 265 8 l w
-  next-less = less-left 265 8 l w w1 l′ w′ (masks-sum next-masks) (masks-sum (m .small (c .small))) (m .up) (m .stays) (c .fewer)
+  pub next-less : leftOf l′ w′ < leftOf l w
+  next-less = less-left 265 (8 * 2 ^ 32) l l′ (sum w) (sum w1) (sum w′) (masks-sum next-masks) (masks-sum (m .small (c .small))) (m .up) (λ z. ap sum (m .stays z)) (c .fewer)
 
 module _ {q : Proc} {p : ℕ} {r l₀ w₀ l w w1 l′ w′ : List ℕ} (n : ℕ) (hp : p < 8) (g : Going r q p l₀ w₀ l w) (c : Took w p n w1) (e : l′ ≡ stepped (nodeIn q n) p n l) (m : Moves r l w1 l′ w′) where
-  fallen-next : left 265 8 l′ w′ < left 265 8 l₀ w₀
+  fallen-next : leftOf l′ w′ < leftOf l₀ w₀
   fallen-next = go (g .less)
     where
-      go : (left 265 8 l w < left 265 8 l₀ w₀) ⊎ ((l ≡ l₀) × (w ≡ w₀)) → left 265 8 l′ w′ < left 265 8 l₀ w₀
+      go : (leftOf l w < leftOf l₀ w₀) ⊎ ((l ≡ l₀) × (w ≡ w₀)) → leftOf l′ w′ < leftOf l₀ w₀
       go (inl x) = lt-trans (next-less q n hp (g .masks) c e m) x
       go (inr x) = rw (x .0, x .1) at (next-less q n hp (g .masks) c e m)
 
@@ -307,7 +294,7 @@ module _ {q : Proc} {p : ℕ} {r l₀ w₀ l w w1 l′ w′ : List ℕ} (n : ℕ
 pub record Along (r : List ℕ) (q : Proc) (p : ℕ) (l₀ w₀ l w : List ℕ) (n : ℕ) (on : Bool) : Type 0 where
   pub going : Going r q p l₀ w₀ l w
   pub leads : Leads p n on w
-  pub fallen : on ≡ false → left 265 8 l w < left 265 8 l₀ w₀
+  pub fallen : on ≡ false → leftOf l w < leftOf l₀ w₀
 
 pub along-start : (r : List ℕ) (q : Proc) {p n : ℕ} {l w : List ℕ} → Masks 265 32 l → Masks 8 32 w → Leads p n true w → Along r q p l w l w n true
 along-start r q {p} {n} {l} {w} g h d = record { going = going-start r q p l w g h; leads = d; fallen = λ e. absurd (true≢false e) }
@@ -318,19 +305,19 @@ along-next n hp g c e m d = record { going = going-next n hp (g .going) c e m; l
 pub along-end : {q : Proc} {p n : ℕ} {on : Bool} {r l₀ w₀ l w l′ w′ : List ℕ} → Going r q p l₀ w₀ l w → Along r q p l w l′ w′ n on → on ≡ false → Going r q p l₀ w₀ l′ w′
 along-end {q} {p} {n} {on} {r} {l₀} {w₀} {l} {w} {l′} {w′} f g e = record { masks = g .going .masks; todo = g .going .todo; keeps = λ t o z rc k. g .going .keeps t o z rc (f .keeps t o z rc k); less = inl (go (f .less)) }
   where
-    go : (left 265 8 l w < left 265 8 l₀ w₀) ⊎ ((l ≡ l₀) × (w ≡ w₀)) → left 265 8 l′ w′ < left 265 8 l₀ w₀
+    go : (leftOf l w < leftOf l₀ w₀) ⊎ ((l ≡ l₀) × (w ≡ w₀)) → leftOf l′ w′ < leftOf l₀ w₀
     go (inl x) = lt-trans (g .fallen e) x
     go (inr x) = rw (x .0, x .1) at (g .fallen e)
 
 -- what the work on procedure p does
 pub record Works (r : List ℕ) (q : Proc) (p : ℕ) (l w l′ w′ : List ℕ) : Type 0 where
   pub keeps : (t : Table) (o : Ready t) → procAt t p ≡ q → Receivers t r → Work t o l w → Work t o l′ w′
-  pub less : cell w p ≢ 0 → left 265 8 l′ w′ < left 265 8 l w
+  pub less : cell w p ≢ 0 → leftOf l′ w′ < leftOf l w
 
 pub going-end : {q : Proc} {p : ℕ} {r l w l′ w′ : List ℕ} → Going r q p l w l′ w′ → cell w′ p ≡ 0 → Works r q p l w l′ w′
 going-end {q} {p} {r} {l} {w} {l′} {w′} g z = record { keeps = g .keeps; less = λ f. go f (g .less) }
   where
-    go : cell w p ≢ 0 → (left 265 8 l′ w′ < left 265 8 l w) ⊎ ((l′ ≡ l) × (w′ ≡ w)) → left 265 8 l′ w′ < left 265 8 l w
+    go : cell w p ≢ 0 → (leftOf l′ w′ < leftOf l w) ⊎ ((l′ ≡ l) × (w′ ≡ w)) → leftOf l′ w′ < leftOf l w
     go f (inl x) = x
     go f (inr x) = absurd (f (ap (λ (y : List ℕ). cell y p) (sym (x .1)) ∙ z))
 

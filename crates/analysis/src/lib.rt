@@ -1,4 +1,5 @@
 // What is dirty in a table, and which nodes are kept.
+use flow::Pass;
 use table::Node;
 use table::Proc;
 use table::Slot;
@@ -12,12 +13,13 @@ ghost use lib.ListN.{length, replicate};
 ghost use lib.Bits.{bitOr};
 ghost use Rattle.table.specs.Mask.{pick, maskOf};
 ghost use Rattle.masks.specs.Cells.{cell, grown, Flag, sweep, Masks};
-ghost use Rattle.flow.specs.Flow.{flowOf};
+ghost use Rattle.flow.specs.Flow.{flowOf, passOf, afterPass};
 ghost use Rattle.analysis.specs.Ready.{Ready};
 ghost use Rattle.analysis.specs.Decides.{Decides, KeptMasks};
 ghost use Rattle.analysis.specs.Steps.{entered, passedOn, stepWith, topStep, keptIn};
-ghost use Rattle.analysis.specs.Todo.{Leads, Took, without};
+ghost use Rattle.analysis.specs.Todo.{Leads, Took};
 ghost use Rattle.analysis.specs.Receivers.{isRecv, recvIn, Receivers};
+ghost use Rattle.analysis.specs.Plans.{Planned, Plans};
 ghost use Rattle.analysis.specs.Work.{Sized, Moves, Woken, Works, Pending};
 
 // The mask m is added to the cell a; the answer says whether something was new.
@@ -49,8 +51,11 @@ fn reach(cells: &mut [u32; 265], todo: &mut [u32; 8], p: usize, n: usize, m: u32
 {
     let at = p * 32 + n;
     let yes = grow(cells, at, m);
-    let w = todo[p];
-    todo[p] = with(w, n, yes);
+    if yes {
+        let w = todo[p];
+        todo[p] = with(w, n, yes);
+        return yes;
+    }
     yes
 }
 
@@ -110,8 +115,23 @@ struct Next {
     to: usize,
 }
 
-// One node: what is dirty before it goes where the node leads.
-fn visit(
+// A node with one target: what is dirty before it goes there.
+fn pass(s: Pass, p: usize, n: usize, cells: &mut [u32; 265], todo: &mut [u32; 8]) -> Next
+    requires { ⌜ (p < 8) × ((n < 32) × ((s .to < 32) × Sized (now cells) (now todo))) ⌝ }
+    ensures list { λ r. ⌜ now (cells .exit) ≡ grown (now (cells .entry)) (p * 32 + s .to) (afterPass s (cell (now (cells .entry)) (p * 32 + n))) ⌝ }
+    ensures moves { λ r. ⌜ ((l : List ℕ) → Moves l (now (cells .entry)) (now (todo .entry)) (now (cells .exit)) (now (todo .exit))) ⌝ }
+    ensures next { λ r. ⌜ Leads p (r .to) (r .on) (now (todo .exit)) ⌝ }
+{
+    let at = p * 32 + n;
+    let i = cells[at];
+    let o = flow::after_pass(s, i);
+    let to = s.to;
+    let on = reach(cells, todo, p, to, o);
+    Next { on, to }
+}
+
+// Any node: what is dirty before it goes where the node leads.
+fn spread(
     x: Node,
     p: usize,
     n: usize,
@@ -139,12 +159,25 @@ fn visit(
     Next { on, to: first }
 }
 
-// m without n.
-fn minus(m: u32, n: usize) -> u32
-    requires { ⌜ n < 32 ⌝ }
-    ensures { λ r. ⌜ r ≡ without m n ⌝ }
+// One node, of which s says what it does if it has one target.
+fn visit(
+    x: Node,
+    s: Pass,
+    p: usize,
+    n: usize,
+    cells: &mut [u32; 265],
+    todo: &mut [u32; 8],
+    recvs: &[u32; 8],
+) -> Next
+    requires { ⌜ (p < 8) × ((n < 32) × (Sized (now cells) (now todo) × (Masks 8 32 (now recvs) × (s ≡ passOf x n)))) ⌝ }
+    ensures list { λ r. ⌜ now (cells .exit) ≡ stepWith (flowOf x n (cell (now (cells .entry)) (p * 32 + n)) (cell (now (cells .entry)) 264)) p (now (cells .entry)) ⌝ }
+    ensures moves { λ r. ⌜ Moves (now (recvs .entry)) (now (cells .entry)) (now (todo .entry)) (now (cells .exit)) (now (todo .exit)) ⌝ }
+    ensures next { λ r. ⌜ Leads p (r .to) (r .on) (now (todo .exit)) ⌝ }
 {
-    m ^ (m & (1 << (n as u32)))
+    if s.to < 32 {
+        return pass(s, p, n, cells, todo);
+    }
+    spread(x, p, n, cells, todo, recvs)
 }
 
 // Node n of procedure p, which is to be seen, is taken out.
@@ -153,12 +186,24 @@ fn take(p: usize, n: usize, todo: &mut [u32; 8])
     ensures { λ r. ⌜ Took (now (todo .entry)) p n (now (todo .exit)) ⌝ }
 {
     let m = todo[p];
-    todo[p] = minus(m, n);
+    todo[p] = masks::minus(m, n);
+}
+
+// What each node of a procedure does, if it has one target.
+struct Plan {
+    passes: [Pass; 32],
 }
 
 // The nodes of procedure p, until none is to be seen: along each chain as far as it leads.
-fn proc_work(q: Proc, p: usize, cells: &mut [u32; 265], todo: &mut [u32; 8], recvs: &[u32; 8])
-    requires { ⌜ (p < 8) × (Masks 265 32 (now cells) × (Masks 8 32 (now todo) × Masks 8 32 (now recvs))) ⌝ }
+fn proc_work(
+    q: Proc,
+    plan: Plan,
+    p: usize,
+    cells: &mut [u32; 265],
+    todo: &mut [u32; 8],
+    recvs: &[u32; 8],
+)
+    requires { ⌜ (p < 8) × (Masks 265 32 (now cells) × (Masks 8 32 (now todo) × (Masks 8 32 (now recvs) × Planned q plan))) ⌝ }
     ensures { λ r. ⌜ Works (now (recvs .entry)) q p (now (cells .entry)) (now (todo .entry)) (now (cells .exit)) (now (todo .exit)) ⌝ }
 {
     while todo[p] != 0 {
@@ -167,9 +212,10 @@ fn proc_work(q: Proc, p: usize, cells: &mut [u32; 265], todo: &mut [u32; 8], rec
         let mut on = true;
         while on {
             take(p, n, todo);
-            let s = q.slots[n];
-            let x = s.node;
-            let f = visit(x, p, n, cells, todo, recvs);
+            let y = q.slots[n];
+            let x = y.node;
+            let s = plan.passes[n];
+            let f = visit(x, s, p, n, cells, todo, recvs);
             n = f.to;
             on = f.on;
         }
@@ -293,18 +339,59 @@ fn receivers(t: Table) -> [u32; 8]
     r
 }
 
+fn plan_of(q: Proc) -> Plan
+    ensures { λ r. ⌜ Planned q r ⌝ }
+{
+    let mut passes = [Pass {
+        uses: 0,
+        sets: 0,
+        to: 0,
+    }; 32];
+    let mut n: usize = 0;
+    while n < 32 {
+        let s = q.slots[n];
+        let x = s.node;
+        passes[n] = flow::pass_of(x, n);
+        n += 1;
+    }
+    Plan { passes }
+}
+
+// The plan of each procedure.
+fn plans_of(t: Table) -> [Plan; 8]
+    ensures { λ r. ⌜ Plans t r ⌝ }
+{
+    let none = Plan {
+        passes: [Pass {
+            uses: 0,
+            sets: 0,
+            to: 0,
+        }; 32],
+    };
+    let mut r = [none; 8];
+    let mut p: usize = 0;
+    while p < 8 {
+        let q = t.proc[p];
+        r[p] = plan_of(q);
+        p += 1;
+    }
+    r
+}
+
 // What is dirty: each node at first, and again after what comes to it has grown.
 pub fn dirty_cells(t: Table) -> [u32; 265]
     requires { ⌜ Ready t ⌝ }
     ensures { λ r. ⌜ Decides t r ⌝ }
 {
     let recvs = receivers(t);
+    let plans = plans_of(t);
     let mut cells = start(t);
     let mut todo = [4294967295u32; 8];
     let mut p: usize = 0;
     while p < 8 {
         let q = t.proc[p];
-        proc_work(q, p, &mut cells, &mut todo, &recvs);
+        let plan = plans[p];
+        proc_work(q, plan, p, &mut cells, &mut todo, &recvs);
         p = pending(&todo);
     }
     cells

@@ -18,9 +18,13 @@ use Rattle.flow.specs.Flow.{low, flowOf}
 use Rattle.analysis.specs.Steps.{keptIn}
 use Rattle.reach.specs.Reach.{Reaches}
 
+-- two targets as one number
+abbrev pub twoEnds : ℕ → ℕ → ℕ
+twoEnds f s = f * 32 + s
+
 -- the two targets of a node
 abbrev pub endOf : Node → ℕ → ℕ
-endOf x n = flowOf x n 0 0 .first * 32 + flowOf x n 0 0 .second
+endOf x n = twoEnds (flowOf x n 0 0 .first) (flowOf x n 0 0 .second)
 
 -- d: the callee's dropped parameters
 abbrev pub argWith : ℕ → ℕ → ℕ → ℕ → ℕ

@@ -16,17 +16,76 @@ ghost use Rattle.masks.specs.Cells.{cell, Filled};
 ghost use Rattle.flow.specs.Flow.{low};
 ghost use Rattle.closing.specs.Close.{closeTable};
 ghost use Rattle.analysis.specs.Ready.{Ready};
-ghost use Rattle.closer.specs.Parts.{endOf, argWith, argsWith, dropIn, arcIn, nodeWith, slotWith, queueWith, ClosedProc};
+ghost use Rattle.closer.specs.Parts.{twoEnds, endOf, argWith, argsWith, dropIn, arcIn, nodeWith, slotWith, queueWith, ClosedProc};
+
+// The target of an arc, twice.
+fn one_end(to: u32) -> u32
+    ensures { λ r. ⌜ r ≡ twoEnds (low to) (low to) ⌝ }
+{
+    let k = flow::target(to);
+    (k * 32 + k) as u32
+}
+
+fn test_ends(yes: u32, no: u32) -> u32
+    ensures { λ r. ⌜ r ≡ twoEnds (low yes) (low no) ⌝ }
+{
+    let f = flow::target(yes);
+    let s = flow::target(no);
+    (f * 32 + s) as u32
+}
+
+// A node without an arc stays where it is.
+fn no_end(n: usize) -> u32
+    requires { ⌜ n < 32 ⌝ }
+    ensures { λ r. ⌜ r ≡ twoEnds n n ⌝ }
+{
+    (n * 32 + n) as u32
+}
 
 // The two targets of a node, 32 times the first plus the second.
 fn end_of(x: Node, n: usize) -> u32
     requires { ⌜ n < 32 ⌝ }
     ensures { λ r. ⌜ r ≡ endOf x n ⌝ }
 {
-    let f = flow::flow_of(x, n, 0, 0);
-    let first = f.first;
-    let second = f.second;
-    (first * 32 + second) as u32
+    match x {
+        Node::Absent => no_end(n),
+        Node::Start { to } => one_end(to),
+        Node::Set {
+            var: _,
+            op: _,
+            a: _,
+            b: _,
+            to,
+        } => one_end(to),
+        Node::Test {
+            op: _,
+            a: _,
+            b: _,
+            yes,
+            no,
+        } => test_ends(yes, no),
+        Node::Read { var: _, to } => one_end(to),
+        Node::Call {
+            callee: _,
+            args: _,
+            to,
+        } => one_end(to),
+        Node::Wait { sem: _, to } => one_end(to),
+        Node::Signal { sem: _, to } => one_end(to),
+        Node::Send {
+            queue: _,
+            var: _,
+            to,
+        } => one_end(to),
+        Node::Recv {
+            queue: _,
+            var: _,
+            to,
+        } => one_end(to),
+        Node::Assert { var: _, to } => one_end(to),
+        Node::Out { var: _, to } => one_end(to),
+        Node::Return => no_end(n),
+    }
 }
 
 // The targets of a procedure's nodes.

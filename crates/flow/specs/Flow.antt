@@ -3,7 +3,7 @@ use Prim.Native.Nat.{ℕ, _+_, _%_, _^_}
 use mathlib.Core.Bool.{Bool, true, false, not, _&&_, _||_}
 use lib.Bits.{bitOr, bitAnd, bitXor}
 use lib.Count.{trailingZeros}
-use lib.Dec.{ltb}
+use lib.Dec.{eqb, ltb}
 use Rattle.table.specs.Mask.{pick, bit}
 use Rattle.table.specs.declared.Operand.{Operand}
 use Rattle.table.specs.declared.Operand.the-variants.{Var, Const}
@@ -11,6 +11,7 @@ use Rattle.table.specs.declared.Args.{Args}
 use Rattle.table.specs.declared.Node.{Node}
 use Rattle.table.specs.declared.Node.the-variants.{Absent, Start, Set, Test, Read, Call, Wait, Signal, Send, Recv, Assert, Out, Return}
 use Rattle.flow.specs.declared.Flow.{Flow}
+use Rattle.flow.specs.declared.Pass.{Pass}
 
 -- the one target of an open arc
 abbrev pub low : ℕ → ℕ
@@ -59,12 +60,12 @@ sentBit i q v = pick (bit (v % 32) i) (2 ^ (q % 32)) 0
 abbrev pub sendFlow : ℕ → ℕ → ℕ → ℕ → Flow
 sendFlow q v to i = oneFlow to i 264 (sentBit i q v)
 
-abbrev pub noFlow : ℕ → Flow
-noFlow n = record { first = n; second = n; out = 0; extra = 264; add = 0 }
+abbrev pub noFlow : ℕ → ℕ → Flow
+noFlow n i = record { first = n; second = n; out = i; extra = 264; add = 0 }
 
 -- the node at place n. i: the variables that are dirty before it; b: the blank queues
 unfoldable pub flowOf : Node → ℕ → ℕ → ℕ → Flow
-flowOf Absent n i b = noFlow n
+flowOf Absent n i b = noFlow n i
 flowOf (Start to) n i b = plainFlow to i
 flowOf (Set v o x y to) n i b = settingFlow v to i (operandsDirty x y i)
 flowOf (Test o x y f s) n i b = testFlow f s i
@@ -76,7 +77,39 @@ flowOf (Send q v to) n i b = sendFlow q v to i
 flowOf (Recv q v to) n i b = settingFlow v to i (bit (q % 32) b)
 flowOf (Assert v to) n i b = plainFlow to i
 flowOf (Out v to) n i b = plainFlow to i
-flowOf Return n i b = noFlow n
+flowOf Return n i b = noFlow n i
+
+-- ---- a node with one target
+
+abbrev pub usesOf : Operand → ℕ
+usesOf (Var v) = 2 ^ (v % 32)
+usesOf (Const c) = 0
+
+abbrev pub plainPass : ℕ → Pass
+plainPass to = record { uses = 0; sets = 0; to = to }
+
+abbrev pub setPass : ℕ → Operand → Operand → ℕ → Pass
+setPass v x y to = record { uses = bitOr (usesOf x) (usesOf y); sets = 2 ^ (v % 32); to = low to }
+
+-- the node at place n
+unfoldable pub passOf : Node → ℕ → Pass
+passOf Absent n = plainPass n
+passOf (Start to) n = plainPass (low to)
+passOf (Set v o x y to) n = setPass v x y to
+passOf (Test o x y f s) n = plainPass 32
+passOf (Read v to) n = plainPass 32
+passOf (Call q xs to) n = plainPass 32
+passOf (Wait s to) n = plainPass (low to)
+passOf (Signal s to) n = plainPass (low to)
+passOf (Send q v to) n = plainPass 32
+passOf (Recv q v to) n = plainPass 32
+passOf (Assert v to) n = plainPass (low to)
+passOf (Out v to) n = plainPass (low to)
+passOf Return n = plainPass n
+
+-- the variables that are dirty after it
+abbrev pub afterPass : Pass → ℕ → ℕ
+afterPass s i = afterSet i (not (eqb (bitAnd i (s .uses)) 0)) (s .sets)
 
 -- whether the node is kept. i: the variables that are dirty before it
 abbrev pub keptWith : Node → ℕ → Bool

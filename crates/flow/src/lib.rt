@@ -6,7 +6,7 @@ ghost use mathlib.Core.Path.{_≡_};
 ghost use mathlib.Core.Bool.{true, _||_};
 ghost use Prim.Native.Nat.{_<_, _^_, _%_};
 ghost use Rattle.table.specs.Mask.{bit};
-ghost use Rattle.flow.specs.Flow.{low, operandDirty, operandsDirty, afterSet, oneFlow, plainFlow, settingFlow, testFlow, argBit, passedBits, callFlow, sentBit, sendFlow, noFlow, flowOf, cleanBy, keptWith};
+ghost use Rattle.flow.specs.Flow.{low, operandDirty, operandsDirty, afterSet, oneFlow, plainFlow, settingFlow, testFlow, argBit, passedBits, callFlow, sentBit, sendFlow, noFlow, flowOf, usesOf, plainPass, setPass, passOf, afterPass, cleanBy, keptWith};
 
 // Where the dirty variables of a node go: `out` to two nodes of its procedure, `add` to one more cell. Of 265 cells the
 // first 256 are the nodes', 8 are the procedures' dropped parameters, and the last, 264, is the blank queues.
@@ -160,14 +160,14 @@ fn send_flow(q: u8, v: u8, to: u32, i: u32) -> Flow
     one_flow(to, i, 264, m)
 }
 
-// A node without an arc: nothing goes anywhere.
-fn no_flow(n: usize) -> Flow
-    ensures { λ r. ⌜ r ≡ noFlow n ⌝ }
+// A node without an arc: what is dirty stays where it is.
+fn no_flow(n: usize, i: u32) -> Flow
+    ensures { λ r. ⌜ r ≡ noFlow n i ⌝ }
 {
     Flow {
         first: n,
         second: n,
-        out: 0,
+        out: i,
         extra: 264,
         add: 0,
     }
@@ -178,7 +178,7 @@ pub fn flow_of(x: Node, n: usize, i: u32, b: u32) -> Flow
     ensures { λ r. ⌜ r ≡ flowOf x n i b ⌝ }
 {
     match x {
-        Node::Absent => no_flow(n),
+        Node::Absent => no_flow(n, i),
         Node::Start { to } => plain_flow(to, i),
         Node::Set {
             var,
@@ -208,8 +208,111 @@ pub fn flow_of(x: Node, n: usize, i: u32, b: u32) -> Flow
         }
         Node::Assert { var: _, to } => plain_flow(to, i),
         Node::Out { var: _, to } => plain_flow(to, i),
-        Node::Return => no_flow(n),
+        Node::Return => no_flow(n, i),
     }
+}
+
+// What a node with one target does, and nothing more: the variable of `sets` is dirty after it if one of `uses` is dirty before it, and
+// clean if none is. `to` is the target, or 32 for every other node.
+pub struct Pass {
+    pub uses: u32,
+    pub sets: u32,
+    pub to: usize,
+}
+
+// The variable of an operand.
+fn operand_uses(o: Operand) -> u32
+    ensures { λ r. ⌜ r ≡ usesOf o ⌝ }
+{
+    match o {
+        Operand::Var(v) => only(v),
+        Operand::Const(_) => 0,
+    }
+}
+
+// A node that sets nothing.
+fn plain_pass(to: usize) -> Pass
+    ensures { λ r. ⌜ r ≡ plainPass to ⌝ }
+{
+    Pass {
+        uses: 0,
+        sets: 0,
+        to,
+    }
+}
+
+// The target of an arc, of a node that sets nothing.
+fn arc_pass(to: u32) -> Pass
+    ensures { λ r. ⌜ r ≡ plainPass (low to) ⌝ }
+{
+    let k = target(to);
+    plain_pass(k)
+}
+
+fn set_pass(var: u8, a: Operand, b: Operand, to: u32) -> Pass
+    ensures { λ r. ⌜ r ≡ setPass var a b to ⌝ }
+{
+    let x = operand_uses(a);
+    let y = operand_uses(b);
+    let m = only(var);
+    let k = target(to);
+    Pass {
+        uses: x | y,
+        sets: m,
+        to: k,
+    }
+}
+
+// The node x at place n.
+pub fn pass_of(x: Node, n: usize) -> Pass
+    ensures { λ r. ⌜ r ≡ passOf x n ⌝ }
+{
+    match x {
+        Node::Absent => plain_pass(n),
+        Node::Start { to } => arc_pass(to),
+        Node::Set {
+            var,
+            op: _,
+            a,
+            b,
+            to,
+        } => set_pass(var, a, b, to),
+        Node::Test {
+            op: _,
+            a: _,
+            b: _,
+            yes: _,
+            no: _,
+        } => plain_pass(32),
+        Node::Read { var: _, to: _ } => plain_pass(32),
+        Node::Call {
+            callee: _,
+            args: _,
+            to: _,
+        } => plain_pass(32),
+        Node::Wait { sem: _, to } => arc_pass(to),
+        Node::Signal { sem: _, to } => arc_pass(to),
+        Node::Send {
+            queue: _,
+            var: _,
+            to: _,
+        } => plain_pass(32),
+        Node::Recv {
+            queue: _,
+            var: _,
+            to: _,
+        } => plain_pass(32),
+        Node::Assert { var: _, to } => arc_pass(to),
+        Node::Out { var: _, to } => arc_pass(to),
+        Node::Return => plain_pass(n),
+    }
+}
+
+// The variables that are dirty after such a node.
+pub fn after_pass(s: Pass, i: u32) -> u32
+    ensures { λ r. ⌜ r ≡ afterPass s i ⌝ }
+{
+    after_set(i, i & s.uses != 0, s.sets)
 }
 
 // Whether a `set` or a `test` has no dirty use.

@@ -1,14 +1,14 @@
 -- What is in the masks that code computes with `|`, `&`, `^` and shifts. So masks are sets: two with the same members are equal.
 use Prim.Native.Nat.{ℕ, zero, suc, _+_, _-_, _*_, _/_, _%_, _^_, _<_, _≤_}
 use native.Mathlib.Omega.{arith}
-use native.Mathlib.Nat.{mod-lt, zero-lt-suc, pow-suc, div-one, zero-div, div-self, div-eq-of-lt, mul-mod-left, one-mul, mod-eq-of-lt, lt-of-lt-of-le}
+use native.Mathlib.Nat.{mod-lt, zero-lt-suc, pow-suc, div-one, zero-div, div-self, div-eq-of-lt, mul-mod-left, one-mul, mod-eq-of-lt, lt-of-lt-of-le, lt-of-le-of-lt}
 use native.Mathlib.Numerals.{add-one}
 use mathlib.Core.Path.{_≡_, refl, sym, _∙_, ap}
-use mathlib.Core.Bool.{Bool, true, false, not, _||_, _&&_, false≢true}
-use mathlib.Core.Logic.{_⊎_, inl, inr}
+use mathlib.Core.Bool.{Bool, true, false, not, _||_, _&&_, false≢true, true≢false}
+use mathlib.Core.Logic.{_⊎_, inl, inr, _≢_}
 use lib.Dec.{eqb, ltb}
-use lib.Bits.{bitAnd, bitOr, or-shr, or-mod, and-shr, and-mod, or-add-and, and-le-r, bitXor, xor-shr, xor-mod, and-mask, or-shifted-r}
-use lib.Count.{trailingZeros}
+use lib.Bits.{bitAnd, bitOr, or-lt, and-lt, xor-lt, or-shr, or-mod, and-shr, and-mod, or-add-and, and-le-r, bitXor, xor-shr, xor-mod, and-mask, or-shifted-r}
+use lib.Count.{trailingZeros, under}
 use lib.Pow.{pow-pos, pow-lt, pow-mono, ones-lt, pow-add, shr-shr, shl-shr, shl-exact}
 use borrow.Author.Tests.{eqb-true, eqb-false, eq-eqb, ne-eqb, ltb-true, ltb-false}
 use Rattle.table.specs.Mask.{pick, bit, maskOf}
@@ -113,7 +113,7 @@ bit-one-out k j h = go (ltb k j) refl (ltb j k) refl
     go false p false q = omega (arith, ltb-false k j p, ltb-false j k q)
 
 -- two masks with the same elements are equal
-bit-half : (k m : ℕ) → bit k (m / 2) ≡ bit (suc k) m
+pub bit-half : (k m : ℕ) → bit k (m / 2) ≡ bit (suc k) m
 unfolding bit
 bit-half k m = ap (λ (x : ℕ). eqb (x % 2) 1) (shr-shr m 1 k ∙ ap (λ (x : ℕ). m / 2 ^ x) (omega arith))
 
@@ -194,6 +194,66 @@ low-is (suc d) m (suc k) h b f =
     let e : m % 2 ≡ 0 = omega (arith, lt2 m, eqb-false (m % 2) 1 (sym (one-bit m) ∙ f 0 (omega arith))) in
     let r : trailingZeros d (m / 2) ≡ k = low-is d (m / 2) k (omega arith) (bit-half k m ∙ b) (λ j l. bit-half j m ∙ f (suc j) (omega arith)) in
     rw (e, r)
+
+odd-bit : (m r : ℕ) → m % 2 ≡ suc r → bit 0 m ≡ true
+odd-bit m r e = bit-of 0 m (omega arith)
+
+pub least : (d m : ℕ) → m < 2 ^ d → m ≢ 0 → (trailingZeros d m < d) × (bit (trailingZeros d m) m ≡ true)
+unfolding trailingZeros
+least zero m h z = absurd (z (omega arith))
+least (suc d) m h z = go (m % 2) refl (λ (e : m % 2 ≡ 0). least d (m / 2) (let k : m < 2 ^ d * 2 = rw pow-suc at h in omega arith) (λ y. z (omega arith)))
+  where
+    go : (r : ℕ) → m % 2 ≡ r → (m % 2 ≡ 0 → (trailingZeros d (m / 2) < d) × (bit (trailingZeros d (m / 2)) (m / 2) ≡ true)) → (under r (trailingZeros d (m / 2)) < suc d) × (bit (under r (trailingZeros d (m / 2))) m ≡ true)
+    go zero e ih = let i = ih e in (omega (arith, i .0), sym (bit-half (trailingZeros d (m / 2)) m) ∙ i .1)
+    go (suc r) e ih = (omega arith, odd-bit m r e)
+
+-- m without n
+abbrev pub without : ℕ → ℕ → ℕ
+without m n = bitXor m (bitAnd m (2 ^ n))
+
+module _ (m n : ℕ) (hm : m < 2 ^ 32) (hn : n < 32) (h : bit n m ≡ true) where
+  without-small : without m n < 2 ^ 32
+  without-small = xor-lt 32 m _ hm (and-lt 32 m _ hm (pow-lt {i = n} {j = 32} hn))
+
+  without-or : bitOr (without m n) (2 ^ n) ≡ m
+  without-or = bit-ext 32 _ _ (or-lt 32 _ _ without-small (pow-lt {i = n} {j = 32} hn)) hm (λ k l. rw (bit-or, bit-minus) (go k (bit k m) (bit k (2 ^ n)) refl refl))
+    where
+      go : (k : ℕ) (x y : Bool) → bit k m ≡ x → bit k (2 ^ n) ≡ y → (x && not y) || y ≡ x
+      go k true true e f = refl
+      go k true false e f = refl
+      go k false true e f = absurd (false≢true (sym e ∙ (let z : k ≡ n = bit-one-out k n f in rw z h)))
+      go k false false e f = refl
+
+  without-differs : without m n ≢ m
+  without-differs e = let z : bit n (without m n) ≡ false = rw (bit-minus, h, bit-one n) refl in false≢true (sym z ∙ ap (bit n) e ∙ h)
+
+  pub without-less : without m n < m
+  without-less = omega (arith, le-or (without m n) (2 ^ n), without-or, without-differs)
+
+-- what is not in m without n
+pub without-out : (m n k : ℕ) → bit k (without m n) ≡ false → (bit k m ≡ false) ⊎ (k ≡ n)
+without-out m n k h = go (bit k m) (bit k (2 ^ n)) refl refl (rw bit-minus at h)
+  where
+    go : (x y : Bool) → bit k m ≡ x → bit k (2 ^ n) ≡ y → x && not y ≡ false → (bit k m ≡ false) ⊎ (k ≡ n)
+    go true true u v r = inr (bit-one-out k n v)
+    go true false u v r = absurd (true≢false r)
+    go false y u v r = inl u
+
+-- a mask that is added twice
+lt-pow : (n : ℕ) → n < 2 ^ n
+lt-pow zero = omega arith
+lt-pow (suc n) = rw pow-suc (omega (arith, lt-pow n))
+
+pub or-twice : (a b : ℕ) → bitOr (bitOr a b) b ≡ bitOr a b
+or-twice a b = bit-ext n (bitOr (bitOr a b) b) (bitOr a b) (lt-pow n) (lt-of-le-of-lt (le-or (bitOr a b) b) (lt-pow n)) (λ k l. rw (bit-or, bit-or) (go (bit k a) (bit k b)))
+  where
+    n : ℕ
+    n = bitOr (bitOr a b) b
+
+    go : (x y : Bool) → (x || y) || y ≡ x || y
+    go true y = refl
+    go false true = refl
+    go false false = refl
 
 -- the mask of a test, by one more number
 pub mask-next : (f : ℕ → Bool) (n m : ℕ) (yes' : Bool) {r : ℕ} → m ≡ maskOf n f → yes' ≡ f n → r ≡ pick yes' (bitOr m (1 * 2 ^ n)) m → r ≡ maskOf (n + 1) f

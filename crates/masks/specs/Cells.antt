@@ -8,13 +8,13 @@ use mathlib.Core.Bool.{Bool, true, false, not, _||_, false≢true, true≢false}
 use mathlib.Core.Logic.{_⊎_, inl, inr}
 use mathlib.Core.List.{List, [], _∷_}
 use lib.ListN.{length, getD, set, replicate, length-set, List·getD-eq-default}
-use lib.Seq.{getD-set-same, getD-set-other, set-out, set-getD}
-use lib.Bits.{bitOr, or-lt}
+use lib.Seq.{getD-set-same, getD-set-other, set-set, set-out, set-getD}
+use lib.Bits.{bitOr, or-lt, or-zero-r}
 use lib.Pow.{pow-pos}
 use lib.Dec.{eqb, ltb}
 use borrow.Author.Tests.{eqb-true, eqb-false, ltb-true, ltb-false, not-true, not-false}
 use Rattle.table.specs.Mask.{bit}
-use Rattle.masks.specs.Bits.{le-or, bit-or-out, bit-or-l, bit-or-r}
+use Rattle.masks.specs.Bits.{le-or, bit-or-out, bit-or-l, bit-or-r, or-twice}
 
 abbrev pub cell : List ℕ → ℕ → ℕ
 cell l a = getD l a 0
@@ -27,7 +27,7 @@ sum (x ∷ l) = x + sum l
 unfoldable pub grown : List ℕ → ℕ → ℕ → List ℕ
 grown l a m = set l a (bitOr (cell l a) m)
 
-sum-set : (l : List ℕ) (a v : ℕ) → a < length l → sum (set l a v) + cell l a ≡ sum l + v
+pub sum-set : (l : List ℕ) (a v : ℕ) → a < length l → sum (set l a v) + cell l a ≡ sum l + v
 unfolding sum
 sum-set [] a v h = absurd (omega arith)
 sum-set (x ∷ l) zero v h = omega arith
@@ -147,6 +147,22 @@ unfolding grown
 grown-same l a m k i e h =
     let z : bitOr (cell l a) m ≡ cell l a = sym (getD-set-same l a (bitOr (cell l a) m) 0 i) ∙ ap (λ (x : List ℕ). getD x a 0) e in
     rw z at (bit-or-r k (cell l a) m h)
+
+-- a mask that is added twice, and an empty one
+pub grown-twice : (l : List ℕ) (a m : ℕ) → grown (grown l a m) a m ≡ grown l a m
+unfolding grown
+grown-twice l a m = go (ltb a (length l)) refl
+  where
+    v : ℕ
+    v = bitOr (cell l a) m
+
+    go : (b : Bool) → ltb a (length l) ≡ b → set (set l a v) a (bitOr (cell (set l a v) a) m) ≡ set l a v
+    go true e = set-set l a v _ ∙ ap (λ (x : ℕ). set l a (bitOr x m)) (getD-set-same l a v 0 (ltb-true _ _ e)) ∙ ap (set l a) (or-twice (cell l a) m)
+    go false e = set-out (set l a v) a _ (omega (arith, ltb-false a (length l) e, length-set l a v))
+
+pub grown-none : (l : List ℕ) (a : ℕ) → grown l a 0 ≡ l
+unfolding grown
+grown-none l a = ap (set l a) (or-zero-r (cell l a)) ∙ set-getD l a 0
 
 -- n masks below 2 ^ w
 pub record Masks (n w : ℕ) (l : List ℕ) : Type 0 where

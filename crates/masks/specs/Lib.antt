@@ -1,3 +1,3 @@
 pub mod Bits
 pub mod Cells
-pub mod Round
+pub mod Left

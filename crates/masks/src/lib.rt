@@ -1,12 +1,12 @@
 // What the loops over masks share.
 ghost use mathlib.Core.Path.{_≡_};
 ghost use Prim.Native.Nat.{_<_};
-ghost use Rattle.masks.specs.Round.{quietAfter};
+ghost use Rattle.masks.specs.Bits.{without};
 
-// How many steps in a row have changed nothing, after one more.
-pub fn quiet_after(fresh: bool, quiet: usize) -> usize
-    requires { ⌜ quiet < 32 ⌝ }
-    ensures { λ r. ⌜ r ≡ quietAfter fresh quiet ⌝ }
+// m without n.
+pub fn minus(m: u32, n: usize) -> u32
+    requires { ⌜ n < 32 ⌝ }
+    ensures { λ r. ⌜ r ≡ without m n ⌝ }
 {
-    if fresh { 0 } else { quiet + 1 }
+    m ^ (m & (1 << (n as u32)))
 }

@@ -1,12 +1,13 @@
 -- The kept nodes that a node leads to through nodes that are not kept, by the two targets of each node.
-use Prim.Native.Nat.{ℕ, _/_, _%_, _^_, _<_}
+use Prim.Native.Nat.{ℕ, _-_, _/_, _%_, _^_, _<_}
 use mathlib.Core.Path.{_≡_}
 use mathlib.Core.Bool.{true, false}
 use mathlib.Core.Logic.{_⊎_, _↔_}
 use mathlib.Core.List.{List}
-use lib.ListN.{getD}
-use lib.Bits.{bitOr, bitAnd}
-use Rattle.table.specs.Mask.{pick, bit}
+use lib.ListN.{length, getD}
+use lib.Bits.{bitOr, bitAnd, bitXor}
+use lib.Count.{leadingZeros}
+use Rattle.table.specs.Mask.{bit}
 use Rattle.masks.specs.Cells.{cell, grown, Masks}
 
 -- the two targets of node i
@@ -35,5 +36,19 @@ pub record Own (kept : ℕ) (l : List ℕ) : Type 0 where
   pub masks : Masks 32 32 l
   pub own : (i : ℕ) → i < 32 → cell l i ≡ bitAnd kept (2 ^ i)
 
-unfoldable pub stepOf : ℕ → List ℕ → List ℕ → ℕ → List ℕ
-stepOf kept ends l i = pick (bit i kept) l (grown l i (bitOr (cell l (firstOf ends i)) (cell l (secondOf ends i))))
+-- a node that is not kept reaches what its two targets reach
+unfoldable pub joined : List ℕ → List ℕ → ℕ → List ℕ
+joined ends l i = grown l i (bitOr (cell l (firstOf ends i)) (cell l (secondOf ends i)))
+
+-- for each node those of the first n that have it as a target
+pub record Sources (ends : List ℕ) (n : ℕ) (r : List ℕ) : Type 0 where
+  pub size : length r ≡ 32
+  pub all : (a m : ℕ) → a < n → IsEnd ends a m → bit a (cell r m) ≡ true
+
+-- the nodes that are not kept
+abbrev pub droppedOf : ℕ → ℕ
+droppedOf kept = bitXor 4294967295 (bitAnd 4294967295 kept)
+
+-- the last node of a set that has one
+abbrev pub lastOf : ℕ → ℕ
+lastOf m = 31 - leadingZeros 32 m % 32

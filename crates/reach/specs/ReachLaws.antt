@@ -1,19 +1,56 @@
--- The cells say exactly where each node leads, once a step at each node has found nothing new.
-use Prim.Native.Nat.{ℕ, _-_, _<_, _≤_, _^_}
+-- The cells say exactly where each node leads, once no node that is not kept has anything to get from its targets.
+use Prim.Native.Nat.{ℕ, _+_, _*_, _-_, _^_, _<_, _≤_}
 use native.Mathlib.Omega.{arith}
-use mathlib.Core.Path.{_≡_, refl, sym, _∙_, subst}
-use mathlib.Core.Bool.{Bool, true, false, false≢true}
-use mathlib.Core.Logic.{_⊎_, inl, inr}
+use native.Mathlib.Nat.{lt-of-le-of-lt, lt-trans, pow-suc, one-mul}
+use mathlib.Core.Path.{_≡_, refl, sym, _∙_, ap, subst}
+use mathlib.Core.Bool.{Bool, true, false, not, _&&_, _||_, false≢true, true≢false}
+use mathlib.Core.Logic.{_⊎_, inl, inr, _≢_}
 use mathlib.Core.List.{List}
-use lib.ListN.{List·getD-eq-default}
-use lib.Bits.{bitOr, or-lt}
-use lib.Dec.{ltb}
-use borrow.Author.Tests.{ltb-true, ltb-false}
+use lib.ListN.{length, List·getD-eq-default}
+use lib.Seq.{getD-set-other}
+use lib.Bits.{bitOr, bitAnd, or-lt, xor-lt, and-le-l, and-le-r, or-shifted}
+use lib.Count.{leading-top}
+use lib.Dec.{eqb, ltb}
+use borrow.Author.Tests.{ltb-true, ltb-false, eqb-true, eqb-false}
 use Rattle.table.specs.Mask.{pick, bit}
-use Rattle.masks.specs.Bits.{bit-zero, bit-one, bit-one-out, bit-and-out, bit-and-in, bit-or-out, bit-or-l, bit-or-r}
-use Rattle.masks.specs.Cells.{cell, grown, Masks, grown-masks, Sound, grown-sound, grown-same, grown-has}
-use Rattle.masks.specs.Round.{Round, all-still}
-use Rattle.reach.specs.Reach.{firstOf, secondOf, IsEnd, Leads, here, via, Reaches, Own, stepOf}
+use Rattle.masks.specs.Bits.{bit-zero, bit-one, bit-one-out, bit-low, bit-or, bit-minus, bit-and-out, bit-and-in, bit-or-out, bit-or-l, bit-or-r, without, without-less, without-out}
+use Rattle.masks.specs.Cells.{cell, sum, grown, Masks, masks-sum, Flag, grown-masks, Sound, grown-sound, grown-has, grown-adds, grown-grows}
+use Rattle.masks.specs.Left.{left, less-left}
+use Rattle.reach.specs.Reach.{firstOf, secondOf, IsEnd, Leads, here, via, Reaches, Own, joined, Sources, droppedOf, lastOf}
+
+-- ---- the nodes that have one as a target
+
+module _ (ends : List ℕ) where
+  pub sources-none : {r : List ℕ} → length r ≡ 32 → Sources ends 0 r
+  sources-none e = record { size = e; all = λ a m h. absurd (omega arith) }
+
+  sources-more : {r r1 r2 : List ℕ} (n : ℕ) → n < 32 → Sources ends n r → r1 ≡ grown r (firstOf ends n) (2 ^ n) → r2 ≡ grown r1 (secondOf ends n) (2 ^ n) → Sources ends (n + 1) r2
+  sources-more {r} {r1} {r2} n h s e f = rw (f, e) (record { size = s2 ∙ s1 ∙ s .size; all = λ a m i x. go a m i x (eqb a n) refl })
+    where
+      q : List ℕ
+      q = grown r (firstOf ends n) (2 ^ n)
+
+      s1 : length q ≡ length r
+      s1 = grown-grows r (firstOf ends n) (2 ^ n) .same-size
+
+      s2 : length (grown q (secondOf ends n) (2 ^ n)) ≡ length q
+      s2 = grown-grows q (secondOf ends n) (2 ^ n) .same-size
+
+      own : (m : ℕ) → IsEnd ends n m → bit n (cell (grown q (secondOf ends n) (2 ^ n)) m) ≡ true
+      own m (inl z) = rw z (grown-has q (secondOf ends n) (2 ^ n) (firstOf ends n) n (grown-adds r (firstOf ends n) (2 ^ n) n (omega (arith, s .size)) (bit-one n)))
+      own m (inr z) = rw z (grown-adds q (secondOf ends n) (2 ^ n) n (omega (arith, s .size, s1)) (bit-one n))
+
+      go : (a m : ℕ) → a < n + 1 → IsEnd ends a m → (b : Bool) → eqb a n ≡ b → bit a (cell (grown q (secondOf ends n) (2 ^ n)) m) ≡ true
+      go a m i x true y = let z : a ≡ n = eqb-true a n y in rw z (own m (subst (λ (j : ℕ). IsEnd ends j m) z x))
+      go a m i x false y = grown-has q (secondOf ends n) (2 ^ n) m a (grown-has r (firstOf ends n) (2 ^ n) m a (s .all a m (omega (arith, eqb-false a n y)) x))
+
+  -- f and g: the two targets of node n
+  pub sources-next : {r r1 r2 : List ℕ} (n f g m : ℕ) → n < 32 → Sources ends n r → f ≡ firstOf ends n → g ≡ secondOf ends n → m ≡ 2 ^ n → r1 ≡ grown r f m → r2 ≡ grown r1 g m → Sources ends (n + 1) r2
+  sources-next {r} {r1} {r2} n f g m h s u v w x y = sources-more n h s (x ∙ ap (λ (a : ℕ). grown r a m) u ∙ ap (grown r (firstOf ends n)) w) (y ∙ ap (λ (a : ℕ). grown r1 a m) v ∙ ap (grown r1 (secondOf ends n)) w)
+
+  pub joined-is : {l1 : List ℕ} (l : List ℕ) (i f g : ℕ) → f ≡ firstOf ends i → g ≡ secondOf ends i → l1 ≡ grown l i (bitOr (cell l f) (cell l g)) → l1 ≡ joined ends l i
+  unfolding joined
+  joined-is l i f g u v x = x ∙ ap (λ (a : ℕ). grown l i (bitOr (cell l a) (cell l g))) u ∙ ap (λ (a : ℕ). grown l i (bitOr (cell l (firstOf ends i)) (cell l a))) v
 
 module _ (kept : ℕ) (ends : List ℕ) where
   -- what holds of the cells at every step
@@ -33,13 +70,13 @@ module _ (kept : ℕ) (ends : List ℕ) where
           rw z (here (rw z at (w .0)))
       go a k h false q = absurd (false≢true (sym (bit-zero k) ∙ (rw (List·getD-eq-default l 0 {n = a} (omega (arith, s .masks .size, ltb-false a 32 q))) at h)))
 
-  step-dropped : (l : List ℕ) (i : ℕ) → bit i kept ≡ false → stepOf kept ends l i ≡ grown l i (bitOr (cell l (firstOf ends i)) (cell l (secondOf ends i)))
-  unfolding stepOf
-  step-dropped l i h = rw h
-
-  step-good : (l : List ℕ) (i : ℕ) → Good l → Good (stepOf kept ends l i)
-  unfolding stepOf Sound
-  step-good l i g = go (bit i kept) refl
+  step-good : (l : List ℕ) (i : ℕ) → bit i kept ≡ false → Good l → Good (joined ends l i)
+  unfolding joined Sound
+  step-good l i e g = record {
+    masks = grown-masks i _ (g .masks) (or-lt 32 (cell l y) (cell l n) (g .masks .below y) (g .masks .below n));
+    sound = grown-sound (Leads kept ends) l i _ (g .sound) (λ k h. either k (bit-or-out k (cell l y) (cell l n) h));
+    own = λ j b h. grown-has l i _ j j (g .own j b h);
+  }
     where
       y : ℕ
       y = firstOf ends i
@@ -47,50 +84,167 @@ module _ (kept : ℕ) (ends : List ℕ) where
       n : ℕ
       n = secondOf ends i
 
-      either : bit i kept ≡ false → (k : ℕ) → (bit k (cell l y) ≡ true) ⊎ (bit k (cell l n) ≡ true) → Leads kept ends i k
-      either e k (inl h) = via y e (inl refl) (g .sound y k h)
-      either e k (inr h) = via n e (inr refl) (g .sound n k h)
+      either : (k : ℕ) → (bit k (cell l y) ≡ true) ⊎ (bit k (cell l n) ≡ true) → Leads kept ends i k
+      either k (inl h) = via y e (inl refl) (g .sound y k h)
+      either k (inr h) = via n e (inr refl) (g .sound n k h)
 
-      go : (b : Bool) → bit i kept ≡ b → Good (pick b l (grown l i (bitOr (cell l y) (cell l n))))
-      go true e = g
-      go false e = record {
-        masks = grown-masks i _ (g .masks) (or-lt 32 (cell l y) (cell l n) (g .masks .below y) (g .masks .below n));
-        sound = grown-sound (Leads kept ends) l i _ (g .sound) (λ k h. either e k (bit-or-out k (cell l y) (cell l n) h));
-        own = λ j b h. grown-has l i _ j j (g .own j b h);
-      }
+  -- node n has all that its targets have
+  abbrev pub Rests : List ℕ → ℕ → Type 0
+  Rests l n = (m k : ℕ) → IsEnd ends n m → bit k (cell l m) ≡ true → bit k (cell l n) ≡ true
 
   -- nothing new at any node: the search is over
-  module _ (l : List ℕ) (g : Good l) (e : (n : ℕ) → n < 32 → stepOf kept ends l n ≡ l) where
+  module _ (l : List ℕ) (g : Good l) (e : (n : ℕ) → n < 32 → bit n kept ≡ false → Rests l n) where
     complete : (n k : ℕ) → n < 32 → Leads kept ends n k → bit k (cell l n) ≡ true
     complete n k b (here h) = g .own n b h
-    complete n k b (via m h a r) = found a (complete m k (low a) r)
+    complete n k b (via m h a r) = e n b h m k a (complete m k (low-end a) r)
       where
-        low : IsEnd ends n m → m < 32
-        low (inl z) = omega arith
-        low (inr z) = omega arith
-
-        fixed : grown l n (bitOr (cell l (firstOf ends n)) (cell l (secondOf ends n))) ≡ l
-        fixed = sym (step-dropped l n h) ∙ e n b
-
-        found : IsEnd ends n m → bit k (cell l m) ≡ true → bit k (cell l n) ≡ true
-        found (inl z) q = grown-same l n _ k (omega (arith, g .masks .size)) fixed (bit-or-l k _ _ (rw z at q))
-        found (inr z) q = grown-same l n _ k (omega (arith, g .masks .size)) fixed (bit-or-r k (cell l (firstOf ends n)) _ (rw z at q))
+        low-end : IsEnd ends n m → m < 32
+        low-end (inl z) = omega arith
+        low-end (inr z) = omega arith
 
     decided : Reaches kept ends l
     unfolding Sound
     decided = record { masks = g .masks; right = λ n k b. (λ h. g .sound n k h, λ h. complete n k b h) }
 
-  -- ---- the round over the nodes, the last first
+  -- ---- a step
 
-  abbrev pub stepAt : ℕ → List ℕ → List ℕ
-  stepAt i l = stepOf kept ends l (31 - i)
+  module _ (l : List ℕ) (i : ℕ) (hi : i < 32) (g : Good l) where
+    abbrev mask : ℕ
+    mask = bitOr (cell l (firstOf ends i)) (cell l (secondOf ends i))
 
-  pub stays-good : (i : ℕ) → i < 32 → (l : List ℕ) → Good l → Good (stepAt i l)
-  stays-good i h l g = step-good l (31 - i) g
+    has : (m k : ℕ) → IsEnd ends i m → bit k (cell l m) ≡ true → bit k mask ≡ true
+    has m k (inl z) h = bit-or-l k _ _ (rw z at h)
+    has m k (inr z) h = bit-or-r k (cell l (firstOf ends i)) _ (rw z at h)
 
-  abbrev pub InRound : List ℕ → ℕ → ℕ → Type 0
-  InRound = Round stepAt 32 32 Good (λ l g. g .masks) stays-good
+    -- the node has now what its targets have
+    joined-own : Rests (joined ends l i) i
+    unfolding joined Sound
+    joined-own m k x h = grown-adds l i mask k (omega (arith, g .masks .size)) (go (grown-sound (λ b j. (bit j (cell l b) ≡ true) ⊎ (bit j mask ≡ true)) l i mask (λ b j y. inl y) (λ j y. inr y) m k h))
+      where
+        go : (bit k (cell l m) ≡ true) ⊎ (bit k mask ≡ true) → bit k mask ≡ true
+        go (inl y) = has m k x y
+        go (inr y) = y
 
-  pub end : {l : List ℕ} {i quiet : ℕ} → InRound l i quiet → 32 ≤ quiet → Reaches kept ends l
-  end {l} r h = decided l (r .good) (λ n b. let z : 31 - (31 - n) ≡ n = omega arith in
-      subst (λ (m : ℕ). stepOf kept ends l m ≡ l) z (all-still stepAt 32 32 Good (λ l g. g .masks) stays-good r h (31 - n) (omega arith)))
+    -- a node that does not have it as a target is as before
+    joined-other : (n : ℕ) → (IsEnd ends n i → ⊥) → Rests l n → Rests (joined ends l i) n
+    unfolding joined grown
+    joined-other n f r m k x h =
+        let z : m ≢ i = λ y. f (subst (IsEnd ends n) y x) in
+        grown-has l i mask n k (r m k x (subst (λ (x : ℕ). bit k x ≡ true) (getD-set-other l i m (bitOr (cell l i) mask) 0 z) h))
+
+  -- ---- the search
+
+  last-bit : (m : ℕ) → m < 2 ^ 32 → m ≢ 0 → bit (lastOf m) m ≡ true
+  last-bit m h z =
+      let w = leading-top 32 m (omega (arith, z)) h in
+      let j = w .0 in
+      let e : lastOf m ≡ j = omega (arith, w .1) in
+      let d : m < 2 ^ j * 2 = rw pow-suc at (w .3) in
+      let s : m ≡ bitOr (1 * 2 ^ j) (m - 2 ^ j) = sym (or-shifted 1 j (m - 2 ^ j) (omega (arith, d, w .2)) ∙ omega (arith, w .2)) in
+      rw e (subst (λ (x : ℕ). bit j x ≡ true) (sym s) (bit-or-l j (1 * 2 ^ j) (m - 2 ^ j) (rw (one-mul (2 ^ j)) (bit-one j))))
+
+  dropped-small : droppedOf kept < 2 ^ 32
+  dropped-small = xor-lt 32 4294967295 (bitAnd 4294967295 kept) (omega arith) (lt-of-le-of-lt (and-le-l 4294967295 kept) (omega arith))
+
+  dropped-has : (n : ℕ) → n < 32 → bit n kept ≡ false → bit n (droppedOf kept) ≡ true
+  dropped-has n h e = rw (bit-minus, bit-low n 32 h, e) refl
+
+  dropped-out : (n : ℕ) → bit n (droppedOf kept) ≡ true → bit n kept ≡ false
+  dropped-out n h = go (bit n 4294967295) (bit n kept) refl (rw bit-minus at h)
+    where
+      go : (x y : Bool) → bit n kept ≡ y → x && not y ≡ true → bit n kept ≡ false
+      go true true e z = absurd (false≢true z)
+      go true false e z = e
+      go false y e z = absurd (false≢true z)
+
+  -- todo has the nodes that may have something to get
+  pub record Search (l : List ℕ) (todo : ℕ) : Type 0 where
+    pub good : Good l
+    pub small : todo < 2 ^ 32
+    pub only : (n : ℕ) → bit n todo ≡ true → bit n kept ≡ false
+    pub done : (n : ℕ) → n < 32 → bit n kept ≡ false → bit n todo ≡ false → Rests l n
+
+  pub search-start : {l : List ℕ} {todo : ℕ} → Own kept l → todo ≡ droppedOf kept → Search l todo
+  search-start o e = rw e (record { good = own-good o; small = dropped-small; only = dropped-out; done = λ n h b z. absurd (true≢false (sym (dropped-has n h b) ∙ z)) })
+
+  pub search-end : {l : List ℕ} {todo : ℕ} → Search l todo → todo ≡ 0 → Reaches kept ends l
+  search-end {l} s e = decided l (s .good) (λ n h b. s .done n h b (rw e (bit-zero n)))
+
+  module _ {l l′ from : List ℕ} {fresh : Bool} {i gone todo todo′ : ℕ} (s : Search l todo) (z : todo ≢ 0) (at : i ≡ lastOf todo) (sr : Sources ends 32 from) (e : l′ ≡ joined ends l i) (f : Flag l l′ fresh)
+      (w : gone ≡ droppedOf kept) (d₀ : todo′ ≡ pick fresh (bitOr (without todo i) (bitAnd (cell from i) gone)) (without todo i)) where
+    here-low : i < 32
+    here-low = omega arith
+
+    seen : bit i todo ≡ true
+    seen = rw at (last-bit todo (s .small) z)
+
+    less : without todo i < todo
+    less = without-less todo i (s .small) here-low seen
+
+    abbrev again : ℕ
+    again = bitAnd (cell from i) (droppedOf kept)
+
+    d : todo′ ≡ pick fresh (bitOr (without todo i) again) (without todo i)
+    d = d₀ ∙ ap (λ (x : ℕ). pick fresh (bitOr (without todo i) (bitAnd (cell from i) x)) (without todo i)) w
+
+    again-small : again < 2 ^ 32
+    again-small = lt-of-le-of-lt (and-le-r (cell from i) (droppedOf kept)) dropped-small
+
+    next-good : Good l′
+    next-good = rw e (step-good l i (s .only i seen) (s .good))
+
+    own-rests : Rests l′ i
+    own-rests = rw e (joined-own l i here-low (s .good))
+
+    before : (n : ℕ) → bit n (without todo i) ≡ true → bit n todo ≡ true
+    before n h = go (bit n todo) (bit n (2 ^ i)) refl (rw bit-minus at h)
+      where
+        go : (x y : Bool) → bit n todo ≡ x → x && not y ≡ true → bit n todo ≡ true
+        go true y u v = u
+        go false y u v = absurd (false≢true v)
+
+    -- i is no target of a node that is not seen again
+    apart : (n : ℕ) → n < 32 → bit n kept ≡ false → bit n again ≡ false → IsEnd ends n i → ⊥
+    apart n h b y x = true≢false (sym (bit-and-in n (cell from i) (droppedOf kept) (sr .all n i h x) (dropped-has n h b)) ∙ y)
+
+    next-small : (b : Bool) → pick b (bitOr (without todo i) again) (without todo i) < 2 ^ 32
+    next-small true = or-lt 32 _ _ (lt-trans less (s .small)) again-small
+    next-small false = lt-trans less (s .small)
+
+    next-only : (b : Bool) (n : ℕ) → bit n (pick b (bitOr (without todo i) again) (without todo i)) ≡ true → bit n kept ≡ false
+    next-only true n h = go (bit-or-out n (without todo i) again h)
+      where
+        go : (bit n (without todo i) ≡ true) ⊎ (bit n again ≡ true) → bit n kept ≡ false
+        go (inl y) = s .only n (before n y)
+        go (inr y) = dropped-out n (bit-and-out n (cell from i) (droppedOf kept) y .1)
+    next-only false n h = s .only n (before n h)
+
+    not-in : (n x y : ℕ) → bit n (bitOr x y) ≡ false → (bit n x ≡ false) × (bit n y ≡ false)
+    not-in n x y h = go (bit n x) (bit n y) refl refl (rw bit-or at h)
+      where
+        go : (u v : Bool) → bit n x ≡ u → bit n y ≡ v → u || v ≡ false → (bit n x ≡ false) × (bit n y ≡ false)
+        go true v a b r = absurd (true≢false r)
+        go false true a b r = absurd (true≢false r)
+        go false false a b r = (a, b)
+
+    next-done : (b : Bool) → fresh ≡ b → (n : ℕ) → n < 32 → bit n kept ≡ false → bit n (pick b (bitOr (without todo i) again) (without todo i)) ≡ false → Rests l′ n
+    next-done true q n h u v = let w = not-in n (without todo i) again v in go (without-out todo i n (w .0))
+      where
+        go : (bit n todo ≡ false) ⊎ (n ≡ i) → Rests l′ n
+        go (inl y) = rw e (joined-other l i here-low (s .good) n (apart n h u (not-in n (without todo i) again v .1)) (s .done n h u y))
+        go (inr y) = rw y own-rests
+    next-done false q n h u v = go (without-out todo i n v)
+      where
+        go : (bit n todo ≡ false) ⊎ (n ≡ i) → Rests l′ n
+        go (inl y) = rw (f .same q) (s .done n h u y)
+        go (inr y) = rw y own-rests
+
+    pub search-next : Search l′ todo′
+    search-next = rw d (record { good = next-good; small = next-small fresh; only = next-only fresh; done = next-done fresh refl })
+
+    pub search-less : left 32 (2 ^ 32) l′ todo′ < left 32 (2 ^ 32) l todo
+    search-less = less-left 32 (2 ^ 32) l l′ todo (without todo i) todo′ (masks-sum (next-good .masks)) (rw d (omega (arith, next-small fresh))) (f .grows .up) (λ y. stays fresh refl d y) less
+      where
+        stays : (b : Bool) → fresh ≡ b → todo′ ≡ pick b (bitOr (without todo i) again) (without todo i) → sum l′ ≡ sum l → todo′ ≡ without todo i
+        stays true q x y = absurd (omega (arith, f .more q, y))
+        stays false q x y = x

@@ -1,9 +1,12 @@
 // Where the arcs of one procedure lead through the nodes that are not kept.
 ghost use mathlib.Core.Path.{_≡_};
-ghost use Prim.Native.Nat.{ℕ, _<_};
+ghost use Prim.Native.Nat.{ℕ, _<_, _/_, _%_};
 ghost use lib.ListN.{length};
+ghost use lib.Bits.{bitOr};
+ghost use Rattle.table.specs.Mask.{pick};
+ghost use Rattle.masks.specs.Bits.{without};
 ghost use Rattle.masks.specs.Cells.{grown, Flag};
-ghost use Rattle.reach.specs.Reach.{stepOf, Own, Reaches};
+ghost use Rattle.reach.specs.Reach.{joined, Own, Sources, droppedOf, lastOf, Reaches};
 
 // The mask m is added to the cell a; the answer says whether something was new.
 fn grow(cells: &mut [u32; 32], a: usize, m: u32) -> bool
@@ -17,18 +20,29 @@ fn grow(cells: &mut [u32; 32], a: usize, m: u32) -> bool
     new != old
 }
 
+// The first of the two targets of a node.
+fn first(e: u32) -> usize
+    ensures { λ r. ⌜ r ≡ e / 32 % 32 ⌝ }
+{
+    ((e / 32) % 32) as usize
+}
+
+// The second.
+fn second(e: u32) -> usize
+    ensures { λ r. ⌜ r ≡ e % 32 ⌝ }
+{
+    (e % 32) as usize
+}
+
 // A node that is not kept reaches what its two targets reach.
-fn step(kept: u32, ends: &[u32; 32], i: usize, cells: &mut [u32; 32]) -> bool
+fn step(ends: &[u32; 32], i: usize, cells: &mut [u32; 32]) -> bool
     requires { ⌜ (i < 32) × (length (now cells) ≡ 32) ⌝ }
-    ensures list { λ r. ⌜ now (cells .exit) ≡ stepOf kept (now (ends .entry)) (now (cells .entry)) i ⌝ }
+    ensures list { λ r. ⌜ now (cells .exit) ≡ joined (now (ends .entry)) (now (cells .entry)) i ⌝ }
     ensures flag { λ r. ⌜ Flag (now (cells .entry)) (now (cells .exit)) r ⌝ }
 {
-    if (kept >> (i as u32)) % 2 == 1 {
-        return false;
-    }
     let e = ends[i];
-    let f = ((e / 32) % 32) as usize;
-    let s = (e % 32) as usize;
+    let f = first(e);
+    let s = second(e);
     let m = cells[f] | cells[s];
     grow(cells, i, m)
 }
@@ -46,18 +60,61 @@ fn own(kept: u32) -> [u32; 32]
     cells
 }
 
+// For each node those that have it as a target.
+fn sources(ends: &[u32; 32]) -> [u32; 32]
+    ensures { λ r. ⌜ Sources (now (ends .entry)) 32 r ⌝ }
+{
+    let mut r = [0u32; 32];
+    let mut n: usize = 0;
+    while n < 32 {
+        let e = ends[n];
+        let f = first(e);
+        let s = second(e);
+        let m = 1 << (n as u32);
+        grow(&mut r, f, m);
+        grow(&mut r, s, m);
+        n += 1;
+    }
+    r
+}
+
+// The nodes that are not kept.
+fn dropped(kept: u32) -> u32
+    ensures { λ r. ⌜ r ≡ droppedOf kept ⌝ }
+{
+    4294967295 ^ (4294967295 & kept)
+}
+
+// The last of the nodes m, if it has one.
+fn last(m: u32) -> usize
+    ensures { λ r. ⌜ r ≡ lastOf m ⌝ }
+{
+    (31 - u32::leading_zeros(m) % 32) as usize
+}
+
+// What is to be seen after node i: those of m, too, if something was new there.
+fn next(todo: u32, i: usize, fresh: bool, m: u32) -> u32
+    requires { ⌜ i < 32 ⌝ }
+    ensures { λ r. ⌜ r ≡ pick fresh (bitOr (without todo i) m) (without todo i) ⌝ }
+{
+    let rest = masks::minus(todo, i);
+    if fresh { rest | m } else { rest }
+}
+
 // For each node the kept nodes that it leads to through nodes that are not kept. ends has the two targets of each node,
-// 32 times the first plus the second. The nodes in turn, the last first, until all have had nothing new.
+// 32 times the first plus the second. A node is seen at first, and again after a target of it has got something new; the last first.
 pub fn reach(kept: u32, ends: &[u32; 32]) -> [u32; 32]
     ensures { λ r. ⌜ Reaches kept (now (ends .entry)) r ⌝ }
 {
     let mut cells = own(kept);
-    let mut i: usize = 0;
-    let mut quiet: usize = 0;
-    while quiet < 32 {
-        let fresh = step(kept, ends, 31 - i, &mut cells);
-        quiet = masks::quiet_after(fresh, quiet);
-        i = (i + 1) % 32;
+    let from = sources(ends);
+    let gone = dropped(kept);
+    let mut todo = gone;
+    while todo != 0 {
+        let i = last(todo);
+        let fresh = step(ends, i, &mut cells);
+        let m = from[i] & gone;
+        todo = next(todo, i, fresh, m);
     }
     cells
 }

@@ -1,21 +1,21 @@
 use Rattle.analysis.specs.Todo.{leads-low, leads-yes}
-use Rattle.analysis.specs.Work.{left, Going, Along, going-start, next-less, along-start, along-next, along-end, going-end}
+use Rattle.analysis.specs.Work.{leftOf, Going, Along, going-start, next-less, along-start, along-next, along-end, going-end}
 use borrow.Author.Needs.{needs}
 use native.Mathlib.Omega.{arith}
 use Rattle.analysis.proofs.proc_work.Statement.{statement}
 use Rattle.analysis.proofs.proc_work.Tie as tie
 
 abbrev Inv-loop2 : tie.InvT-loop2
-Inv-loop2 p cells₀ todo₀ recvs q m n₀ on₀ cells todo n on = Along recvs q p cells₀ todo₀ cells todo n on
+Inv-loop2 p cells₀ todo₀ recvs q plan m n₀ on₀ cells todo n on = Along recvs q p cells₀ todo₀ cells todo n on
 
 abbrev μ-loop2 : tie.MeasureT-loop2
-μ-loop2 p cells₀ todo₀ recvs q m n₀ on₀ cells todo n on = left 265 8 cells todo
+μ-loop2 p cells₀ todo₀ recvs q plan m n₀ on₀ cells todo n on = leftOf cells todo
 
 abbrev Inv-loop : tie.InvT-loop
-Inv-loop p cells₀ todo₀ recvs q cells todo = Going recvs q p cells₀ todo₀ cells todo
+Inv-loop p cells₀ todo₀ recvs q plan cells todo = Going recvs q p cells₀ todo₀ cells todo
 
 abbrev μ-loop : tie.MeasureT-loop
-μ-loop p cells₀ todo₀ recvs q cells todo = left 265 8 cells todo
+μ-loop p cells₀ todo₀ recvs q plan cells todo = leftOf cells todo
 
 loop-holds : tie.Need-loop-holds Inv-loop2 μ-loop2 Inv-loop μ-loop
 loop-holds c = going-start _ _ _ _ _ (c .pre .1 .0) (c .pre .1 .1 .0)
@@ -47,20 +47,26 @@ loop-again c = along-end (c .before .before .before .before .before .before .loo
 take-requires : tie.Need-take-requires Inv-loop2 μ-loop2 Inv-loop μ-loop
 take-requires c κs = (c .before .before .before .before .before .before .before .before .pre .0, (c .before .before .loop2 .inv .going .todo, leads-yes (c .before .loop2-test .taken) (c .before .before .loop2 .inv .leads)))
 
+mul-y : tie.Need-mul-y Inv-loop2 μ-loop2 Inv-loop μ-loop
+mul-y c = omega (arith, c .take .ensures .low)
+
+element-copy-out-y : tie.Need-element-copy-out-y Inv-loop2 μ-loop2 Inv-loop μ-loop
+element-copy-out-y c = c .take .ensures .low
+
 mul-s : tie.Need-mul-s Inv-loop2 μ-loop2 Inv-loop μ-loop
-mul-s c = omega (arith, c .take .ensures .low)
+mul-s c = omega (arith, c .before .take .ensures .low)
 
 element-copy-out-s : tie.Need-element-copy-out-s Inv-loop2 μ-loop2 Inv-loop μ-loop
-element-copy-out-s c = c .take .ensures .low
+element-copy-out-s c = c .before .take .ensures .low
 
 visit-requires : tie.Need-visit-requires Inv-loop2 μ-loop2 Inv-loop μ-loop
-visit-requires c κs = (c .before .before .before .before .before .before .before .before .before .before .before .before .pre .0, (c .before .before .before .take .ensures .low, ((c .before .before .before .before .before .before .loop2 .inv .going .masks .size, c .before .before .before .take .ensures .small .size), c .before .before .before .before .before .before .before .before .before .before .before .before .pre .1 .1 .1)))
+visit-requires c κs = let b = c .before .before .before .before .before .before .before .before .before .before .before .before .before in let k = c .before .before .before .before .take .ensures in (b .pre .0, (k .low, ((c .before .before .before .before .before .before .before .loop2 .inv .going .masks .size, k .small .size), (b .pre .1 .1 .1 .0, b .pre .1 .1 .1 .1 .each _ (k .low)))))
 
 loop2-less : tie.Need-loop2-less Inv-loop2 μ-loop2 Inv-loop μ-loop
-loop2-less c = next-less (c .before .before .before .before .before .before .before .before .before .before .before .before .before .args .t1) _ (c .before .before .before .before .before .before .before .before .before .before .before .before .before .pre .0) (c .before .before .before .before .before .before .before .loop2 .inv .going .masks) (c .before .before .before .before .take .ensures) (c .visit .ensures .0) (c .visit .ensures .1 .0)
+loop2-less c = let b = c .before .before .before .before .before .before .before .before .before .before .before .before .before .before in next-less (b .args .t1) _ (b .pre .0) (c .before .before .before .before .before .before .before .before .loop2 .inv .going .masks) (c .before .before .before .before .before .take .ensures) (c .visit .ensures .0) (c .visit .ensures .1 .0)
 
 loop2-again : tie.Need-loop2-again Inv-loop2 μ-loop2 Inv-loop μ-loop
-loop2-again c = along-next _ (c .before .before .before .before .before .before .before .before .before .before .before .before .before .pre .0) (c .before .before .before .before .before .before .before .loop2 .inv) (c .before .before .before .before .take .ensures) (c .visit .ensures .0) (c .visit .ensures .1 .0) (c .visit .ensures .1 .1)
+loop2-again c = along-next _ (c .before .before .before .before .before .before .before .before .before .before .before .before .before .before .pre .0) (c .before .before .before .before .before .before .before .before .loop2 .inv) (c .before .before .before .before .before .take .ensures) (c .visit .ensures .0) (c .visit .ensures .1 .0) (c .visit .ensures .1 .1)
 
 returns : tie.Need-returns Inv-loop2 μ-loop2 Inv-loop μ-loop
 returns c = going-end (c .before .before .loop .inv) (c .if1 .left)
@@ -83,6 +89,8 @@ proc-work-spec =
     loop-less
     loop-again
     take-requires
+    mul-y
+    element-copy-out-y
     mul-s
     element-copy-out-s
     visit-requires

@@ -1,4 +1,5 @@
-use Rattle.analysis.specs.Work.{reach-moves, reach-leads}
+use Rattle.analysis.specs.Todo.{leads-none}
+use Rattle.analysis.specs.Work.{reach-moves, reach-leads, same-moves}
 use lib.ListN.{set}
 use mathlib.Core.Path.{ap}
 use borrow.Author.Needs.{needs}
@@ -30,7 +31,10 @@ element-write-todo : tie.Need-element-write-todo
 element-write-todo c = search needs
 
 returns : tie.Need-returns
-returns c = (c .before .before .grow .ensures .0, (reach-moves (c .before .before .before .before .args .p) (c .before .before .before .before .args .n) (c .before .before .before .before .args .m) (c .before .before .before .before .pre .0) (c .before .before .before .before .pre .1 .0) (c .before .before .before .before .pre .1 .1) (c .before .before .grow .ensures .0) (c .before .before .grow .ensures .1) (ap (set (c .before .before .before .before .args .todo .now) (c .before .before .before .before .args .p)) (c .with .ensures)), reach-leads (c .before .before .before .before .args .todo .now) (c .before .before .before .before .args .p) (c .before .before .before .before .args .n) (c .before .before .before .before .pre .0) (c .before .before .before .before .pre .1 .0) (c .before .before .before .before .pre .1 .1 .1) (ap (set (c .before .before .before .before .args .todo .now) (c .before .before .before .before .args .p)) (c .with .ensures))))
+returns c = let b = c .before .before .before .before .before in let g = c .before .before .before .grow .ensures in let w = ap (set (b .args .todo .now) (b .args .p)) (c .with .ensures) in (g .0, (reach-moves (b .args .p) (b .args .n) (b .args .m) (b .pre .0) (b .pre .1 .0) (b .pre .1 .1) (g .0) (g .1) w, reach-leads (b .args .todo .now) (b .args .p) (b .args .n) (b .pre .0) (b .pre .1 .0) (b .pre .1 .1 .1) w))
+
+returns-2 : tie.Need-returns-2
+returns-2 c = let g = c .before .grow .ensures in (g .0, (λ s. same-moves (g .1) (c .if1 .left), leads-none (c .before .before .before .pre .1 .0) (c .if1 .left)))
 
 pub reach-spec : {M : Type 1} → statement M
 reach-spec =
@@ -44,4 +48,5 @@ reach-spec =
     with-requires
     mul-todo
     element-write-todo
-    returns)
+    returns
+    returns-2)

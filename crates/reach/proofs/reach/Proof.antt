@@ -1,43 +1,52 @@
-use mathlib.Core.Path.{refl}
-use Rattle.masks.specs.Round.{left, begin, next-round, next-left}
-use Rattle.reach.specs.ReachLaws.{own-good, InRound, end}
-use borrow.Author.Needs.{needs}
 use native.Mathlib.Omega.{arith}
+use Rattle.reach.specs.ReachLaws.{Search, search-start, search-next, search-less, search-end}
+use Rattle.masks.specs.Left.{left}
+use Prim.Native.Nat.{_^_}
+use borrow.Author.Needs.{needs}
 use Rattle.reach.proofs.reach.Statement.{statement}
 use Rattle.reach.proofs.reach.Tie as tie
 
 abbrev Inv-loop : tie.InvT-loop
-Inv-loop kept ends cells₀ i₀ quiet₀ cells i quiet = InRound kept ends cells i quiet
+Inv-loop kept ends cells₀ from gone todo₀ cells todo = Search kept ends cells todo
 
 abbrev μ-loop : tie.MeasureT-loop
-μ-loop kept ends cells₀ i₀ quiet₀ cells i quiet = left 32 32 cells quiet
+μ-loop kept ends cells₀ from gone todo₀ cells todo = left 32 (2 ^ 32) cells todo
 
 own-requires : tie.Need-own-requires Inv-loop μ-loop
 own-requires c κs = search needs
 
-loop-holds : tie.Need-loop-holds Inv-loop μ-loop
-loop-holds c = begin _ _ _ _ _ _ (omega arith) (own-good _ _ (c .own .ensures))
+sources-requires : tie.Need-sources-requires Inv-loop μ-loop
+sources-requires c κs = search needs
 
-sub-step : tie.Need-sub-step Inv-loop μ-loop
-sub-step c = omega (arith, c .before .loop .inv .low)
+dropped-requires : tie.Need-dropped-requires Inv-loop μ-loop
+dropped-requires c κs = search needs
+
+loop-holds : tie.Need-loop-holds Inv-loop μ-loop
+loop-holds c = search-start _ _ (c .before .before .own .ensures) (c .dropped .ensures)
+
+last-requires : tie.Need-last-requires Inv-loop μ-loop
+last-requires c κs = search needs
 
 step-requires : tie.Need-step-requires Inv-loop μ-loop
-step-requires c κs = (omega arith, c .before .before .loop .inv .good .masks .size)
+step-requires c κs = (omega (arith, c .before .last .ensures), c .before .before .before .loop .inv .good .masks .size)
 
-quiet-after-requires : tie.Need-quiet-after-requires Inv-loop μ-loop
-quiet-after-requires c κs = omega (arith, c .before .before .loop-test .taken)
+mul-m : tie.Need-mul-m Inv-loop μ-loop
+mul-m c = omega (arith, c .before .before .last .ensures)
 
-add-i : tie.Need-add-i Inv-loop μ-loop
-add-i c = omega (arith, c .before .before .before .before .loop .inv .low)
+array-read-m : tie.Need-array-read-m Inv-loop μ-loop
+array-read-m c = omega (arith, c .before .before .last .ensures)
+
+next-requires : tie.Need-next-requires Inv-loop μ-loop
+next-requires c κs = omega (arith, c .before .before .last .ensures)
 
 loop-less : tie.Need-loop-less Inv-loop μ-loop
-loop-less c = let x = c .before .step .ensures in next-left _ _ _ _ _ _ (c .before .before .before .before .loop .inv) (x .0) (x .1) (omega (arith, c .before .before .before .loop-test .taken)) _ (c .quiet-after .ensures)
+loop-less c = search-less _ _ (c .before .before .before .before .before .loop .inv) (c .before .before .before .before .loop-test .taken) (c .before .before .before .last .ensures) (c .before .before .before .before .before .before .before .sources .ensures) (c .before .step .ensures .0) (c .before .step .ensures .1) (c .before .before .before .before .before .before .dropped .ensures) (c .next .ensures)
 
 loop-again : tie.Need-loop-again Inv-loop μ-loop
-loop-again c = let x = c .before .step .ensures in next-round _ _ _ _ _ _ (c .before .before .before .before .loop .inv) (x .0) (x .1) (omega (arith, c .before .before .before .loop-test .taken)) _ _ refl (c .quiet-after .ensures)
+loop-again c = search-next _ _ (c .before .before .before .before .before .loop .inv) (c .before .before .before .before .loop-test .taken) (c .before .before .before .last .ensures) (c .before .before .before .before .before .before .before .sources .ensures) (c .before .step .ensures .0) (c .before .step .ensures .1) (c .before .before .before .before .before .before .dropped .ensures) (c .next .ensures)
 
 returns : tie.Need-returns Inv-loop μ-loop
-returns c = end _ _ (c .before .loop .inv) (omega (arith, c .loop-test .left))
+returns c = search-end _ _ (c .before .loop .inv) (c .loop-test .left)
 
 pub reach-spec : {M : Type 1} → statement M
 reach-spec =
@@ -46,11 +55,14 @@ reach-spec =
     Inv-loop
     μ-loop
     own-requires
+    sources-requires
+    dropped-requires
     loop-holds
-    sub-step
+    last-requires
     step-requires
-    quiet-after-requires
-    add-i
+    mul-m
+    array-read-m
+    next-requires
     loop-less
     loop-again
     returns)

@@ -1,10 +1,10 @@
 use Prim.Native.Nat.{ℕ}
 use Rattle.masks.specs.Bits.{one-shl}
 use lib.Bits.{bitAnd, bitXor}
 use mathlib.Core.Path.{ap}
 use borrow.Author.Needs.{needs}
-use Rattle.analysis.proofs.minus.Statement.{statement}
-use Rattle.analysis.proofs.minus.Tie as tie
+use Rattle.masks.proofs.minus.Statement.{statement}
+use Rattle.masks.proofs.minus.Tie as tie
 
 cast-result : tie.Need-cast-result
 cast-result c = search needs
