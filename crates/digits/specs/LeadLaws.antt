@@ -61,3 +61,10 @@ lead-turn {s} {at} {v} {i} {d} {w} m h k f q =
       small = omega arith;
       same = rw (n, take-suc (drop at s) (i - at) 0 l, g, q) (digits-snoc (take (i - at) (drop at s)) b (m .same) (omega arith) (omega arith));
     }
+
+pub lead-step : {s : List ℕ} {at v i d : ℕ} → LeadAt s at v i → i < length s → d ≤ 9 → (d ≤ 9 → d + 48 ≡ getD s i 0) → v < 429496729
+    → LeadAt s at (v * 10 + d) (i + 1)
+lead-step {s} {at} {v} {i} {d} m h k f l =
+    let e = f k in
+    let q : v * 10 + d ≡ capped (v * 10 + (getD s i 0 - 48)) = omega arith in
+    lead-turn m h k f q

@@ -55,7 +55,26 @@ pub fn digit_run(t: &[u8]) -> Num
     Num::Good(v)
 }
 
-// The digits at a place.
+// The digits at a place, of which those before another say v.
+fn further_digits(s: &[u8], at: usize, from: usize, first: u64) -> Lead
+    requires { ⌜ LeadAt (now s) at first from ⌝ }
+    ensures { λ r. ⌜ LeadAt (now (s .entry)) at (r .value) (r .end) ⌝ }
+{
+    let mut v = first;
+    let mut i = from;
+    while i < s.len() {
+        let b = s[i];
+        let d = digit(b);
+        if 9 < d {
+            return Lead { value: v, end: i };
+        }
+        v = push(v, b);
+        i += 1;
+    }
+    Lead { value: v, end: i }
+}
+
+// The digits at a place. One digit more keeps a number below 429,496,729 within 2^32.
 pub fn digits_at(s: &[u8], at: usize) -> Lead
     requires { ⌜ at ≤ length (now s) ⌝ }
     ensures { λ r. ⌜ LeadAt (now (s .entry)) at (r .value) (r .end) ⌝ }
@@ -68,7 +87,10 @@ pub fn digits_at(s: &[u8], at: usize) -> Lead
         if 9 < d {
             return Lead { value: v, end: i };
         }
-        v = push(v, b);
+        if 429496729 <= v {
+            return further_digits(s, at, i, v);
+        }
+        v = v * 10 + (d as u64);
         i += 1;
     }
     Lead { value: v, end: i }

@@ -2,7 +2,7 @@
 ghost use Prim.Native.Nat.{_+_, _≤_, min};
 ghost use mathlib.Core.Path.{_≡_};
 ghost use mathlib.Core.Bool.{true, false, _&&_, not};
-ghost use mathlib.Core.List.{[]};
+ghost use mathlib.Core.List.{[], _∷_};
 ghost use lib.Dec.{eqb};
 ghost use lib.ListN.{length};
 ghost use Rattle.table.specs.Mask.{pick};
@@ -253,6 +253,29 @@ pub fn ascending_field(s: &[u8], at: usize, key: &[u8], one: bool, lo: u64, belo
 {
     match scan::after(s, at, key) {
         scan::Found::At(b) => ascending_at(s, b, one, lo, below),
+        scan::Found::Differs => Set::Not(text::Fault::Form),
+        scan::Found::Broken => Set::Not(text::Fault::Ended),
+    }
+}
+
+// As `ascending_field`, behind a key of four bytes and the rest.
+pub fn ascending_word(
+    s: &[u8],
+    at: usize,
+    a: u8,
+    b: u8,
+    c: u8,
+    d: u8,
+    rest: &[u8],
+    one: bool,
+    lo: u64,
+    below: u64,
+) -> Set
+    requires { ⌜ (at ≤ length (now s)) × (below ≤ 32) ⌝ }
+    ensures { λ r. ⌜ SetAt one lo below (a ∷ b ∷ c ∷ d ∷ now (rest .entry)) (now (s .entry)) at r ⌝ }
+{
+    match scan::after_word(s, at, a, b, c, d, rest) {
+        scan::Found::At(e) => ascending_at(s, e, one, lo, below),
         scan::Found::Differs => Set::Not(text::Fault::Form),
         scan::Found::Broken => Set::Not(text::Fault::Ended),
     }

@@ -1,8 +1,10 @@
 // The node lines of a text, each read at a place.
 ghost use Prim.Native.Nat.{_≤_};
 ghost use mathlib.Core.Path.{_≡_};
+ghost use mathlib.Core.List.{[], _∷_};
 ghost use lib.ListN.{length};
 ghost use Rattle.text.specs.Value.{start, set, test, read, call, wait, signal, send, recv, assert, out, return};
+ghost use Rattle.scan.specs.Answer.{NumberAt};
 ghost use Rattle.fields.specs.Answer.{LineAt};
 ghost use Rattle.nodes.specs.Answer.{toFault, bodyFault, lastLine, lastSet, toIn, scopeIn, Fits, bodyIn, setLine, setNode, testLine, testNode, BodyAt, NodeAt};
 ghost use Rattle.words.specs.Answer.{sortOf};
@@ -53,16 +55,16 @@ fn body_fault(n: Body) -> text::Fault
     }
 }
 
-// Targets, and the end of the line.
-fn targets_end(s: &[u8], at: usize, key: &[u8], one: bool, nodes: u64) -> To
+// Targets with a name of two letters, and the end of the line.
+fn targets_end(s: &[u8], at: usize, a: u8, b: u8, one: bool, nodes: u64) -> To
     requires { ⌜ (at ≤ length (now s)) × (nodes ≤ 32) ⌝ }
-    ensures { λ r. ⌜ LineAt (lastLine (now (key .entry)) one nodes) (lastSet (now (key .entry)) one nodes) (now (s .entry)) at (toIn r) ⌝ }
+    ensures { λ r. ⌜ LineAt (lastLine (32 ∷ a ∷ b ∷ 61 ∷ []) one nodes) (lastSet (32 ∷ a ∷ b ∷ 61 ∷ []) one nodes) (now (s .entry)) at (toIn r) ⌝ }
 {
-    let set = lists::ascending_field(s, at, key, one, 1, nodes);
-    let lists::Set::Is(to, a) = set else {
+    let set = lists::ascending_word(s, at, 32, a, b, 61, b"", one, 1, nodes);
+    let lists::Set::Is(to, p) = set else {
         return To::Not(fields::set_fault(set));
     };
-    let end = scan::feed(s, a);
+    let end = scan::feed(s, p);
     let scan::Ended::Is(e) = end else {
         return To::Not(fields::end_fault(end));
     };
@@ -73,7 +75,7 @@ fn start_node(s: &[u8], at: usize, c: Scope) -> Body
     requires { ⌜ (at ≤ length (now s)) × Fits c ⌝ }
     ensures { λ r. ⌜ BodyAt (scopeIn c) start (now (s .entry)) at r ⌝ }
 {
-    let last = targets_end(s, at, b" to=", !c.closed, c.nodes);
+    let last = targets_end(s, at, 116, 111, !c.closed, c.nodes);
     let To::Is(to, e) = last else {
         return Body::Not(to_fault(last));
     };
@@ -85,15 +87,15 @@ fn set_operands(s: &[u8], at: usize, c: Scope, var: u8, op: table::Op) -> Body
     requires { ⌜ (at ≤ length (now s)) × Fits c ⌝ }
     ensures { λ r. ⌜ LineAt (setLine (scopeIn c)) (setNode (scopeIn c) var op) (now (s .entry)) at (bodyIn r) ⌝ }
 {
-    let a_field = scan::operand_field(s, at, b" a=", c.vars);
+    let a_field = scan::operand_field(s, at, 97, c.vars);
     let scan::Operand::Is(a, p) = a_field else {
         return Body::Not(fields::operand_fault(a_field));
     };
-    let b_field = scan::operand_field(s, p, b" b=", c.vars);
+    let b_field = scan::operand_field(s, p, 98, c.vars);
     let scan::Operand::Is(b, q) = b_field else {
         return Body::Not(fields::operand_fault(b_field));
     };
-    let last = targets_end(s, q, b" to=", !c.closed, c.nodes);
+    let last = targets_end(s, q, 116, 111, !c.closed, c.nodes);
     let To::Is(to, e) = last else {
         return Body::Not(to_fault(last));
     };
@@ -104,7 +106,7 @@ fn set_node(s: &[u8], at: usize, c: Scope) -> Body
     requires { ⌜ (at ≤ length (now s)) × Fits c ⌝ }
     ensures { λ r. ⌜ BodyAt (scopeIn c) set (now (s .entry)) at r ⌝ }
 {
-    let var_field = scan::number_field(s, at, b" var=", 0, c.vars, text::Fault::Reference);
+    let var_field = scan::number_word(s, at, 32, 118, 97, 114, 0, c.vars, text::Fault::Reference);
     let scan::Number::Is(var, a) = var_field else {
         return Body::Not(fields::number_fault(var_field));
     };
@@ -120,15 +122,15 @@ fn test_targets(s: &[u8], at: usize, c: Scope, op: table::Op, a: table::Operand)
     requires { ⌜ (at ≤ length (now s)) × Fits c ⌝ }
     ensures { λ r. ⌜ LineAt (testLine (scopeIn c)) (testNode (scopeIn c) op a) (now (s .entry)) at (bodyIn r) ⌝ }
 {
-    let b_field = scan::operand_field(s, at, b" b=", c.vars);
+    let b_field = scan::operand_field(s, at, 98, c.vars);
     let scan::Operand::Is(b, p) = b_field else {
         return Body::Not(fields::operand_fault(b_field));
     };
-    let yes_field = lists::ascending_field(s, p, b" yes=", !c.closed, 1, c.nodes);
+    let yes_field = lists::ascending_word(s, p, 32, 121, 101, 115, b"=", !c.closed, 1, c.nodes);
     let lists::Set::Is(yes, q) = yes_field else {
         return Body::Not(fields::set_fault(yes_field));
     };
-    let last = targets_end(s, q, b" no=", !c.closed, c.nodes);
+    let last = targets_end(s, q, 110, 111, !c.closed, c.nodes);
     let To::Is(no, e) = last else {
         return Body::Not(to_fault(last));
     };
@@ -143,7 +145,7 @@ fn test_node(s: &[u8], at: usize, c: Scope) -> Body
     let words::Operation::Is(op, p) = word else {
         return Body::Not(fields::op_fault(word));
     };
-    let a_field = scan::operand_field(s, p, b" a=", c.vars);
+    let a_field = scan::operand_field(s, p, 97, c.vars);
     let scan::Operand::Is(a, q) = a_field else {
         return Body::Not(fields::operand_fault(a_field));
     };
@@ -154,11 +156,11 @@ fn read_node(s: &[u8], at: usize, c: Scope) -> Body
     requires { ⌜ (at ≤ length (now s)) × Fits c ⌝ }
     ensures { λ r. ⌜ BodyAt (scopeIn c) read (now (s .entry)) at r ⌝ }
 {
-    let var_field = scan::number_field(s, at, b" var=", 0, c.vars, text::Fault::Reference);
+    let var_field = scan::number_word(s, at, 32, 118, 97, 114, 0, c.vars, text::Fault::Reference);
     let scan::Number::Is(var, a) = var_field else {
         return Body::Not(fields::number_fault(var_field));
     };
-    let last = targets_end(s, a, b" to=", !c.closed, c.nodes);
+    let last = targets_end(s, a, 116, 111, !c.closed, c.nodes);
     let To::Is(to, e) = last else {
         return Body::Not(to_fault(last));
     };
@@ -177,7 +179,7 @@ fn call_node(s: &[u8], at: usize, c: Scope) -> Body
     let lists::Passed::Is(args, b) = list else {
         return Body::Not(fields::args_fault(list));
     };
-    let last = targets_end(s, b, b" to=", !c.closed, c.nodes);
+    let last = targets_end(s, b, 116, 111, !c.closed, c.nodes);
     let To::Is(to, e) = last else {
         return Body::Not(to_fault(last));
     };
@@ -192,7 +194,7 @@ fn wait_node(s: &[u8], at: usize, c: Scope) -> Body
     let scan::Number::Is(sem, a) = sem_field else {
         return Body::Not(fields::number_fault(sem_field));
     };
-    let last = targets_end(s, a, b" to=", !c.closed, c.nodes);
+    let last = targets_end(s, a, 116, 111, !c.closed, c.nodes);
     let To::Is(to, e) = last else {
         return Body::Not(to_fault(last));
     };
@@ -207,7 +209,7 @@ fn signal_node(s: &[u8], at: usize, c: Scope) -> Body
     let scan::Number::Is(sem, a) = sem_field else {
         return Body::Not(fields::number_fault(sem_field));
     };
-    let last = targets_end(s, a, b" to=", !c.closed, c.nodes);
+    let last = targets_end(s, a, 116, 111, !c.closed, c.nodes);
     let To::Is(to, e) = last else {
         return Body::Not(to_fault(last));
     };
@@ -226,7 +228,7 @@ fn send_node(s: &[u8], at: usize, c: Scope) -> Body
     let scan::Number::Is(var, b) = name else {
         return Body::Not(fields::number_fault(name));
     };
-    let last = targets_end(s, b, b" to=", !c.closed, c.nodes);
+    let last = targets_end(s, b, 116, 111, !c.closed, c.nodes);
     let To::Is(to, e) = last else {
         return Body::Not(to_fault(last));
     };
@@ -245,7 +247,7 @@ fn recv_node(s: &[u8], at: usize, c: Scope) -> Body
     let scan::Number::Is(var, b) = name else {
         return Body::Not(fields::number_fault(name));
     };
-    let last = targets_end(s, b, b" to=", !c.closed, c.nodes);
+    let last = targets_end(s, b, 116, 111, !c.closed, c.nodes);
     let To::Is(to, e) = last else {
         return Body::Not(to_fault(last));
     };
@@ -260,7 +262,7 @@ fn assert_node(s: &[u8], at: usize, c: Scope) -> Body
     let scan::Number::Is(var, a) = name else {
         return Body::Not(fields::number_fault(name));
     };
-    let last = targets_end(s, a, b" to=", !c.closed, c.nodes);
+    let last = targets_end(s, a, 116, 111, !c.closed, c.nodes);
     let To::Is(to, e) = last else {
         return Body::Not(to_fault(last));
     };
@@ -275,7 +277,7 @@ fn out_node(s: &[u8], at: usize, c: Scope) -> Body
     let scan::Number::Is(var, a) = name else {
         return Body::Not(fields::number_fault(name));
     };
-    let last = targets_end(s, a, b" to=", !c.closed, c.nodes);
+    let last = targets_end(s, a, 116, 111, !c.closed, c.nodes);
     let To::Is(to, e) = last else {
         return Body::Not(to_fault(last));
     };
@@ -314,12 +316,24 @@ fn node_body(s: &[u8], at: usize, c: Scope, k: words::Sort) -> Body
     }
 }
 
+// The number of a node line.
+fn node_number(s: &[u8], at: usize, lo: u64, below: u64, fault: text::Fault) -> scan::Number
+    requires { ⌜ (at ≤ length (now s)) × (below ≤ 256) ⌝ }
+    ensures { λ r. ⌜ NumberAt lo below fault (110 ∷ 111 ∷ 100 ∷ 101 ∷ 61 ∷ []) (now (s .entry)) at r ⌝ }
+{
+    match scan::after_word(s, at, 110, 111, 100, 101, b"=") {
+        scan::Found::At(b) => scan::number_at(s, b, lo, below, fault),
+        scan::Found::Differs => scan::Number::Not(text::Fault::Form),
+        scan::Found::Broken => scan::Number::Not(text::Fault::Ended),
+    }
+}
+
 // A node line whose number is at least lo and below the next.
 pub fn node_line(s: &[u8], at: usize, line: usize, c: Scope, lo: u64, below: u64) -> Line
     requires { ⌜ (at ≤ length (now s)) × Fits c × (below ≤ 32) ⌝ }
     ensures { λ r. ⌜ NodeAt (scopeIn c) lo below (now (s .entry)) at line r ⌝ }
 {
-    let index = scan::number_field(s, at, b"node=", lo, below, text::Fault::Index);
+    let index = node_number(s, at, lo, below, text::Fault::Index);
     let scan::Number::Is(j, p) = index else {
         return Line::Refused(fields::number_fault(index), line);
     };

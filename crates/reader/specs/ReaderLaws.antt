@@ -1,11 +1,11 @@
 -- The lines of a text, one group behind the other.
-use Prim.Native.Nat.{ℕ, suc, _+_, _≤_, _<_}
+use Prim.Native.Nat.{ℕ, zero, suc, _+_, _≤_, _<_}
 use mathlib.Core.Path.{_≡_, refl, sym, _∙_, ap}
-use mathlib.Core.List.{List, []}
+use mathlib.Core.List.{List, [], _∷_}
 use mathlib.Core.Bool.{Bool, true, false}
 use native.Mathlib.Omega.{arith}
 use borrow.Author.Tests.{lt-ltb, le-ltb}
-use lib.ListN.{length, drop, getD, replicate, drop-of-length-le}
+use lib.ListN.{length, drop, getD, set, replicate, drop-of-length-le}
 use lib.Seq.{drop-cons}
 use Rattle.table.specs.Table.{noTable, noTask, noSem, noQueue, noProc, outside}
 use Rattle.table.specs.declared.Sem.{Sem}
@@ -55,6 +55,51 @@ module _ {A : Type 0} {f : ℕ → Parser A} {n : ℕ} {acc : List A} {s : List 
 
   pub rows-place : {p : ℕ} → e ≡ At p → p ≤ length s
   rows-place q = rw q at (m .within)
+
+-- ---- a table all 0
+set-blank : {A : Type 0} (n i : ℕ) (a : A) → set (replicate n a) i a ≡ replicate n a
+set-blank zero i a = refl
+set-blank (suc n) zero a = refl
+set-blank {A} (suc n) (suc i) a = ap (λ (l : List A). a ∷ l) (set-blank n i a)
+
+pub blank-is : (i : ℕ) → _≡_ {A = Table} (record {
+  trap = 0;
+  closed = false;
+  tasks = 0;
+  procs = 0;
+  sems = 0;
+  queues = 0;
+  task = replicate 4 noTask;
+  sem = replicate 8 noSem;
+  queue = replicate 8 noQueue;
+  proc = set (replicate 8 noProc) i noProc;
+}) noTable
+blank-is i = λ ι. record {
+  trap = 0;
+  closed = false;
+  tasks = 0;
+  procs = 0;
+  sems = 0;
+  queues = 0;
+  task = replicate 4 noTask;
+  sem = replicate 8 noSem;
+  queue = replicate 8 noQueue;
+  proc = set-blank 8 i noProc ι;
+}
+
+pub blank-of : (i : ℕ) {t : Table} (d : Proc) → t ≡ noTable → _≡_ {A = Table} (record {
+  trap = t .trap;
+  closed = t .closed;
+  tasks = t .tasks;
+  procs = t .procs;
+  sems = t .sems;
+  queues = t .queues;
+  task = t .task;
+  sem = t .sem;
+  queue = t .queue;
+  proc = set (t .proc) i (getD (t .proc) 0 d);
+}) noTable
+blank-of i d p = rw p (blank-is i)
 
 -- ---- tasks, semaphores and queues
 module _ {closed : Bool} {x : Counts} {s : List ℕ} {at line : ℕ} {a : Tasks}

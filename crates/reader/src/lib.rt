@@ -45,6 +45,17 @@ pub fn no_table() -> Table
     }
 }
 
+// A table all 0, stored into at a computed place: tables are then copied in one piece and not slot by slot.
+fn blank_table(k: usize) -> Table
+    ensures { λ r. ⌜ r ≡ noTable ⌝ }
+{
+    let mut t = no_table();
+    let q = t.proc[0];
+    let i = k % 8;
+    t.proc[i] = q;
+    t
+}
+
 // The tasks, semaphores and queues, with the line reached; or their first fault, with its line.
 struct Objects {
     end: rows::End,
@@ -145,7 +156,7 @@ fn body(s: &[u8], at: usize, trap: u8, closed: bool, counts: records::Counts) ->
         return Whole {
             end: first,
             line: o.line,
-            table: no_table(),
+            table: blank_table(at),
         };
     };
     let b = procs::proc_rows(s, p, o.line, closed, counts);
@@ -154,14 +165,14 @@ fn body(s: &[u8], at: usize, trap: u8, closed: bool, counts: records::Counts) ->
         return Whole {
             end: second,
             line: b.line,
-            table: no_table(),
+            table: blank_table(at),
         };
     };
     if e < s.len() {
         return Whole {
             end: rows::End::Refused(Fault::Ended),
             line: b.line,
-            table: no_table(),
+            table: blank_table(at),
         };
     }
     let task = o.task;
@@ -195,7 +206,7 @@ fn table_rows(s: &[u8]) -> Whole
         return Whole {
             end: rows::End::Refused(head_fault(head)),
             line: 1,
-            table: no_table(),
+            table: blank_table(s.len()),
         };
     };
     let row = line_reader::next_counts(s, a);
@@ -203,7 +214,7 @@ fn table_rows(s: &[u8]) -> Whole
         return Whole {
             end: rows::End::Refused(counts_fault(row)),
             line: 2,
-            table: no_table(),
+            table: blank_table(a),
         };
     };
     body(s, b, trap, closed, counts)
@@ -212,7 +223,7 @@ fn table_rows(s: &[u8]) -> Whole
 fn refused(f: Fault, line: usize) -> Reading
     ensures { λ r. ⌜ r ≡ reading (bad f line) ⌝ }
 {
-    let table = no_table();
+    let table = blank_table(line);
     Reading {
         number: faults::number(f),
         line,

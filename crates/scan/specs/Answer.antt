@@ -122,6 +122,10 @@ pub record VariableSaid (c : Bool) (n : ℕ) (t : List ℕ) (e : ℕ) (r : Numbe
   pub same : (l : ℕ) (s : List ℕ) → numberIn l s r ≡ mapped variableOf (judged (variable c n) (said (variable c n) t) l (drop e s))
   pub ends : variableEnds e r
 
+pub record VariableIn (c : Bool) (n : ℕ) (s : List ℕ) (at : ℕ) (r : Number) : Type 0 where
+  pub same : (l : ℕ) → numberIn l s r ≡ mapped variableOf (valueOf (variable c n) l (drop at s))
+  pub within : variableWithin s r
+
 pub record VariableAt (c : Bool) (n : ℕ) (s : List ℕ) (at : ℕ) (r : Number) : Type 0 where
   pub same : (l : ℕ) → numberIn l s r ≡ mapped variableOf (fieldOf (bytes " var=") (variable c n) l (drop at s))
   pub within : variableWithin s r

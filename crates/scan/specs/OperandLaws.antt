@@ -1,7 +1,7 @@
 -- Laws of the readers of operands and variables: each says what a step of the code shows.
 use Prim.Native.Nat.{ℕ, zero, suc, _+_, _-_, _≤_, _<_}
 use mathlib.Core.Path.{_≡_, refl, sym, _∙_, ap}
-use mathlib.Core.List.{List, _∷_}
+use mathlib.Core.List.{List, [], _∷_}
 use mathlib.Core.Option.{Option, none}
 use mathlib.Core.Bool.{Bool, true, false}
 use native.Mathlib.Omega.{arith}
@@ -32,15 +32,17 @@ use Rattle.scan.specs.declared.Found.{Found}
 use Rattle.scan.specs.declared.Found.the-variants.{At, Differs, Broken}
 use Rattle.scan.specs.declared.Numeral.{Numeral}
 use Rattle.scan.specs.declared.Numeral.the-variants.{Is as IsNumeral, Bad as BadNumeral, Over}
+use Rattle.scan.specs.declared.Short.{Short}
+use Rattle.scan.specs.declared.Short.the-variants.{Is as IsShort}
 use Rattle.scan.specs.declared.Token.{Token}
 use Rattle.scan.specs.declared.Token.the-variants.{At as Between, Not as Refused}
 use Rattle.scan.specs.declared.Number.{Number}
 use Rattle.scan.specs.declared.Number.the-variants.{Is, Not}
 use Rattle.scan.specs.declared.Operand.{Operand as OperandAnswer}
 use Rattle.scan.specs.declared.Operand.the-variants.{Is as IsOperand, Not as NotOperand}
-use Rattle.scan.specs.Place.{AfterKey, RunEnd, NumeralTo, NumeralAt, TokenAt, refusalOf}
-use Rattle.scan.specs.PlaceLaws.{count-more, token-within}
-use Rattle.scan.specs.Answer.{operandEnds, operandWithin, OperandJudged, skip, kindOf, Judged, valueAs, OperandAs, OperandIn, OperandAt, mapped, variableEnds, variableWithin, VariableSaid, VariableAt}
+use Rattle.scan.specs.Place.{AfterKey, RunEnd, ValueAt, NumeralTo, NumeralAt, ShortTo, refusalOf}
+use Rattle.scan.specs.PlaceLaws.{count-more, value-ends, value-within}
+use Rattle.scan.specs.Answer.{operandEnds, operandWithin, OperandJudged, skip, kindOf, Judged, valueAs, OperandAs, OperandIn, OperandAt, mapped, variableEnds, variableWithin, VariableSaid, VariableIn, VariableAt}
 
 -- ---- signed numbers
 pub positive-is : (x : ℕ) → x ≤ 2147483647 → toZ w32 x ≡ pos x
@@ -172,7 +174,7 @@ module _ (s : List ℕ) (at : ℕ) (h : at < length s) where
   rest : drop at s ≡ getD s at 0 ∷ drop (at + 1) s
   rest = rw (add-one at) (drop-cons s at 0 h)
 
-  operand-named : {n : ℕ} {r : OperandAnswer} → getD s at 0 ≡ 118 → OperandAs asVar n s (at + 1) r → OperandIn n s at r
+  pub operand-named : {n : ℕ} {r : OperandAnswer} → getD s at 0 ≡ 118 → OperandAs asVar n s (at + 1) r → OperandIn n s at r
   unfolding saidOperand
   operand-named {n} q a = record { same = λ l. a .same l ∙ rw (rest, q) (behind 118 (drop (at + 1) s) asVar n l refl (λ t. refl)); within = a .within }
 
@@ -214,6 +216,17 @@ module _ {s : List ℕ} {at b from : ℕ} {r : Numeral} (m : NumeralAt s from r)
 
   pub by-over : (n : ℕ) → r ≡ Over → OperandIn n s at (NotOperand Ended)
   by-over n z = operand-by s at b h q (rw k at (as-over m (kindOf b) n z))
+
+-- the number behind `v`
+module _ {s : List ℕ} {at : ℕ} {r : Numeral} (m : NumeralAt s at r) where
+  pub named-is : {n x e : ℕ} {v : OperandAnswer} → r ≡ IsNumeral x e → Judged asVar n x e v → OperandAs asVar n s at v
+  named-is = as-is m
+
+  pub named-bad : (n : ℕ) → r ≡ BadNumeral → OperandAs asVar n s at (NotOperand Misspelt)
+  named-bad n = as-bad m asVar n refl
+
+  pub named-over : (n : ℕ) → r ≡ Over → OperandAs asVar n s at (NotOperand Ended)
+  named-over n = as-over m asVar n
 
 -- where the digits begin
 pub from-within : (s : List ℕ) {at : ℕ} (b : ℕ) {from : ℕ} → at < length s → from ≡ at + skip b → from ≤ length s
@@ -282,14 +295,53 @@ module _ (c : Bool) (n : ℕ) (t : List ℕ) (e : ℕ) {x : Bool} (p : x ≡ sam
     unfolding said check
     variable-high {v} k u g = record { same = λ l s. rw (← p, h, numeral-good t d k, le-ltb (value t) n (omega (arith, spelt-good t d k .1))); ends = tt }
 
-module _ {s : List ℕ} {at : ℕ} {r : Token} (m : TokenAt (bytes " var=") s at r) where
-  pub variable-stop : (c : Bool) (n : ℕ) {x y : Fault} → r ≡ Refused y → x ≡ refusalOf r → VariableAt c n s at (Not x)
+module _ {s : List ℕ} {at : ℕ} {r : Token} (m : ValueAt s at r) where
+  pub variable-stop : (c : Bool) (n : ℕ) {x y : Fault} → r ≡ Refused y → x ≡ refusalOf r → VariableIn c n s at (Not x)
   variable-stop c n q z = record { same = λ l. rw (z, q) (ap (mapped variableOf) (rw q at (m .same (variable c n) l))); within = tt }
 
-  pub variable-step : {c : Bool} {n b e : ℕ} {v : Number} → r ≡ Between b e → VariableSaid c n (take (e - b) (drop b s)) e v → VariableAt c n s at v
+  pub variable-step : {c : Bool} {n b e : ℕ} {v : Number} → r ≡ Between b e → VariableSaid c n (take (e - b) (drop b s)) e v → VariableIn c n s at v
   variable-step {c} {n} {b} {e} {v} q d =
       record { same = λ l. d .same l s ∙ ap (mapped variableOf) (rw q at (m .same (variable c n) l)); within = reach v (d .ends) }
     where
       reach : (v : Number) → variableEnds e v → variableWithin s v
-      reach (Is v p) h = rw h (token-within m q .1)
+      reach (Is v p) h = rw h (value-within m q .1)
       reach (Not f) h = tt
+
+-- a number is no `-`
+not-minus : (t : List ℕ) {v : ℕ} → Good v ≡ numberOf t → same (bytes "-") t ≡ false
+unfolding same numberOf spelt
+not-minus [] q = refl
+not-minus (y ∷ []) {v} q =
+    cases (eqb 45 y)
+    (λ h. let e : 45 ≡ y = eqb-true 45 y h in absurd (let g : Good v ≡ numberOf (45 ∷ []) = rw (← e) at q in let z : _≡_ {A = ℕ} 0 1 = cc in omega arith))
+    (λ h. rw h)
+not-minus (y ∷ z ∷ t) q = cases (eqb 45 y) (λ h. rw h) (λ h. rw h)
+
+module _ {s : List ℕ} {at : ℕ} {r : Short} (m : ShortTo s at r) (c : Bool) {n v e : ℕ} (u : n ≤ 256) (q : r ≡ IsShort v e) where
+  whole : NumeralTo s at e (Good v)
+  whole = rw q at (m .is)
+
+  abbrev part : List ℕ
+  part = take (e - at) (drop at s)
+
+  between : ValueAt s at (Between at e)
+  between = value-ends (whole .run) (whole .inside)
+
+  pub short-variable : v < n → VariableIn c n s at (Is v e)
+  short-variable g = variable-step between refl (variable-good c n part e refl (not-minus part (whole .same)) (whole .same) refl u g)
+
+  pub short-undeclared : n ≤ v → VariableIn c n s at (Not Reference)
+  short-undeclared g = variable-step between refl (variable-high c n part e refl (not-minus part (whole .same)) (whole .same) refl u g)
+
+module _ {s : List ℕ} {at : ℕ} {r : Found} (m : AfterKey (bytes " var=") s at r) where
+  pub variable-found : {c : Bool} {n b : ℕ} {v : Number} → r ≡ At b → VariableIn c n s b v → VariableAt c n s at v
+  unfolding fieldOf
+  variable-found q u = record { same = λ l. u .same l ∙ rw (← m .same, q); within = u .within }
+
+  pub variable-differs : (c : Bool) (n : ℕ) → r ≡ Differs → VariableAt c n s at (Not Form)
+  unfolding fieldOf
+  variable-differs c n e = record { same = λ l. rw (← m .same, e); within = tt }
+
+  pub variable-broken : (c : Bool) (n : ℕ) → r ≡ Broken → VariableAt c n s at (Not Ended)
+  unfolding fieldOf
+  variable-broken c n e = record { same = λ l. rw (← m .same, e); within = tt }

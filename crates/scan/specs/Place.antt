@@ -1,9 +1,9 @@
 -- What the readers of keys and places answer: at a place, the text is what is left of it there.
-use Prim.Native.Nat.{ℕ, suc, _+_, _-_, _≤_, _<_}
+use Prim.Native.Nat.{ℕ, suc, _+_, _-_, _*_, _≤_, _<_}
 use mathlib.Core.Path.{_≡_}
 use mathlib.Core.Bool.{true}
 use mathlib.Core.List.{List}
-use lib.ListN.{length, take, drop}
+use lib.ListN.{length, take, drop, getD}
 use Rattle.text.specs.declared.Fault.{Fault}
 use Rattle.text.specs.declared.Fault.the-variants.{Form}
 use Rattle.text.specs.Number.{spelt, value}
@@ -38,6 +38,20 @@ foundWithin s Broken = Unit {0}
 pub record AfterKey (key s : List ℕ) (at : ℕ) (r : Found) : Type 0 where
   pub same : foundIn s r ≡ after key (drop at s)
   pub within : foundWithin s r
+
+-- four bytes as one number, the first lowest
+abbrev pub quadNumber : ℕ → ℕ → ℕ → ℕ → ℕ
+quadNumber a b c d = a + b * 256 + c * 65536 + d * 16777216
+
+pub record Bytes (a b c d : ℕ) : Type 0 where
+  pub b0 : a < 256
+  pub b1 : b < 256
+  pub b2 : c < 256
+  pub b3 : d < 256
+
+pub record QuadAt (s : List ℕ) (at r : ℕ) : Type 0 where
+  pub same : r ≡ quadNumber (getD s at 0) (getD s (at + 1) 0) (getD s (at + 2) 0) (getD s (at + 3) 0)
+  pub bytes : Bytes (getD s at 0) (getD s (at + 1) 0) (getD s (at + 2) 0) (getD s (at + 3) 0)
 
 -- ---- a value's bytes
 

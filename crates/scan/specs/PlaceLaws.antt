@@ -1,7 +1,7 @@
 -- Laws of keys and places: each says what a step of the code shows.
-use Prim.Native.Nat.{ℕ, zero, suc, _+_, _-_, _≤_, _<_}
+use Prim.Native.Nat.{ℕ, zero, suc, _+_, _-_, _*_, _≤_, _<_}
 use mathlib.Core.Path.{_≡_, refl, sym, _∙_, ap}
-use mathlib.Core.List.{List, [], _∷_}
+use mathlib.Core.List.{List, [], _∷_, _++_}
 use mathlib.Core.Bool.{true, false}
 use native.Mathlib.Omega.{arith}
 use native.Mathlib.Nat.{add-zero, zero-add}
@@ -9,18 +9,18 @@ use native.Mathlib.Numerals.{add-one}
 use lib.Dec.{eqb}
 use lib.ListN.{length, take, drop, getD, drop-of-length-le, length-drop}
 use lib.Seq.{drop-cons, drop-drop}
-use borrow.Author.Tests.{lt-ltb, le-ltb, eq-eqb, ne-eqb}
+use borrow.Author.Tests.{lt-ltb, le-ltb, eq-eqb, ne-eqb, eqb-true, eqb-false}
 use Rattle.table.specs.Mask.{pick}
 use Rattle.text.specs.declared.Fault.the-variants.{Form, Ended}
 use Rattle.text.specs.Number.{allDigits}
-use Rattle.text.specs.NumberLaws.{all-head, all-tail}
-use Rattle.text.specs.Line.{differs, after, run as count, stops, fieldOf}
+use Rattle.text.specs.NumberLaws.{byOrder, cases, all-head, all-tail}
+use Rattle.text.specs.Line.{at as stands, differs, broken, after, run as count, stops, fieldOf}
 use Rattle.scan.specs.declared.Found.{Found}
 use Rattle.scan.specs.declared.Found.the-variants.{At, Differs, Broken}
 use Rattle.scan.specs.declared.Token.{Token}
 use Rattle.scan.specs.declared.Token.the-variants.{At as Between, Not}
 use Rattle.scan.specs.declared.Ended.the-variants.{Is as Fed, Not as Unfed}
-use Rattle.scan.specs.Place.{AfterKey, RunEnd, ValueAt, TokenAt, FeedAt}
+use Rattle.scan.specs.Place.{AfterKey, quadNumber, Bytes, QuadAt, RunEnd, ValueAt, TokenAt, FeedAt}
 
 -- ---- a key, byte by byte
 pub record Matching (key s : List ℕ) (at j : ℕ) : Type 0 where
@@ -53,6 +53,120 @@ module _ {key s : List ℕ} {at j : ℕ} (m : Matching key s at j) where
   pub matching-end : length key ≤ j → AfterKey key s at (At (at + j))
   unfolding after
   matching-end k = record { same = rw (drop-of-length-le key k) at (m .same); within = m .within }
+
+-- ---- four bytes of a key as one number
+pub quad-at : (s : List ℕ) (at : ℕ) {r : ℕ} → r ≡ quadNumber (getD s at 0) (getD s (at + 1) 0) (getD s (at + 2) 0) (getD s (at + 3) 0)
+    → Bytes (getD s at 0) (getD s (at + 1) 0) (getD s (at + 2) 0) (getD s (at + 3) 0) → QuadAt s at r
+quad-at s at e b = record { same = e; bytes = b }
+
+lowest : (a x b y : ℕ) → a < 256 → x < 256 → a + b * 256 ≡ x + y * 256 → (a ≡ x) × (b ≡ y)
+lowest a x b y h k e =
+    let z : b ≡ y = byOrder b y (λ l. absurd (omega arith)) (λ l. byOrder y b (λ g. absurd (omega arith)) (λ g. omega arith)) in
+    (omega arith, z)
+
+module _ {s : List ℕ} {at r : ℕ} (m : QuadAt s at r) {a b c d : ℕ} (w : Bytes a b c d) where
+  pub quad-bytes : r ≡ quadNumber a b c d → (a ≡ getD s at 0) × (b ≡ getD s (at + 1) 0) × (c ≡ getD s (at + 2) 0) × (d ≡ getD s (at + 3) 0)
+  quad-bytes e =
+      let x = getD s at 0 in
+      let y = getD s (at + 1) 0 in
+      let z = getD s (at + 2) 0 in
+      let u = getD s (at + 3) 0 in
+      let f : quadNumber a b c d ≡ quadNumber x y z u = sym e ∙ m .same in
+      let g = lowest a x (b + (c + d * 256) * 256) (y + (z + u * 256) * 256) (w .b0) (m .bytes .b0) (omega arith) in
+      let h = lowest b y (c + d * 256) (z + u * 256) (w .b1) (m .bytes .b1) (g .1) in
+      let k = lowest c z d u (w .b2) (m .bytes .b2) (h .1) in
+      (g .0, h .0, k .0, k .1)
+
+  module _ (h : 4 ≤ length s - at) where
+    abbrev key : List ℕ
+    key = a ∷ b ∷ c ∷ d ∷ []
+
+    start : Matching key s at 0
+    start = matching-start key s at (omega arith)
+
+    one : a ≡ getD s at 0 → Matching key s at 1
+    one e = matching-turn start (omega arith) (omega arith) (rw (add-zero at) e)
+
+    two : a ≡ getD s at 0 → b ≡ getD s (at + 1) 0 → Matching key s at 2
+    two e f = matching-turn (one e) (omega arith) (omega arith) f
+
+    three : a ≡ getD s at 0 → b ≡ getD s (at + 1) 0 → c ≡ getD s (at + 2) 0 → Matching key s at 3
+    three e f g = matching-turn (two e f) (omega arith) (omega arith) g
+
+    pub quad-same : {x : ℕ} → x ≡ quadNumber a b c d → r ≡ x → AfterKey key s at (At (at + 4))
+    quad-same g e =
+        let z = quad-bytes (e ∙ g) in
+        matching-end (matching-turn (three (z .0) (z .1) (z .2)) (omega arith) (omega arith) (z .3)) (omega arith)
+
+    pub quad-differs : {x : ℕ} → x ≡ quadNumber a b c d → (r ≡ x → ⊥) → AfterKey key s at Differs
+    quad-differs {x} g n =
+        cases (eqb a (getD s at 0))
+        (λ e0. let z0 = eqb-true a (getD s at 0) e0 in cases (eqb b (getD s (at + 1) 0))
+        (λ e1. let z1 = eqb-true b (getD s (at + 1) 0) e1 in cases (eqb c (getD s (at + 2) 0))
+        (λ e2. let z2 = eqb-true c (getD s (at + 2) 0) e2 in cases (eqb d (getD s (at + 3) 0))
+        (λ e3. let z3 = eqb-true d (getD s (at + 3) 0) e3 in absurd (n (omega (arith, g, m .same))))
+        (λ e3. matching-differs (three z0 z1 z2) (omega arith) (omega arith) (eqb-false d (getD s (at + 3) 0) e3)))
+        (λ e2. matching-differs (two z0 z1) (omega arith) (omega arith) (eqb-false c (getD s (at + 2) 0) e2)))
+        (λ e1. matching-differs (one z0) (omega arith) (omega arith) (eqb-false b (getD s (at + 1) 0) e1)))
+        (λ e0. matching-differs start (omega arith) (omega arith) (rw (add-zero at) (eqb-false a (getD s at 0) e0)))
+
+-- ---- a key in two parts
+after-at : (k l s : List ℕ) {t : List ℕ} → stands t ≡ after k s → after (k ++ l) s ≡ after l t
+unfolding after
+after-at [] l s e = cc
+after-at (x ∷ k) l [] e = absurd (let z : _≡_ {A = ℕ} 0 1 = cc in omega arith)
+after-at (x ∷ k) l (y ∷ s) {t} e =
+    cases (eqb x y)
+    (λ h. rw h (after-at k l s (rw h at e)))
+    (λ h. absurd (let g : stands t ≡ differs = rw h at e in let z : _≡_ {A = ℕ} 0 1 = cc in omega arith))
+
+after-differs : (k l s : List ℕ) → differs ≡ after k s → differs ≡ after (k ++ l) s
+unfolding after
+after-differs [] l s e = absurd (let z : _≡_ {A = ℕ} 0 1 = cc in omega arith)
+after-differs (x ∷ k) l [] e = absurd (let z : _≡_ {A = ℕ} 0 1 = cc in omega arith)
+after-differs (x ∷ k) l (y ∷ s) e = cases (eqb x y) (λ h. rw h (after-differs k l s (rw h at e))) (λ h. rw h)
+
+after-broken : (k l s : List ℕ) → broken ≡ after k s → broken ≡ after (k ++ l) s
+unfolding after
+after-broken [] l s e = absurd (let z : _≡_ {A = ℕ} 0 1 = cc in omega arith)
+after-broken (x ∷ k) l [] e = refl
+after-broken (x ∷ k) l (y ∷ s) e =
+    cases (eqb x y)
+    (λ h. rw h (after-broken k l s (rw h at e)))
+    (λ h. absurd (let g : broken ≡ differs = rw h at e in let z : _≡_ {A = ℕ} 0 1 = cc in omega arith))
+
+module _ {a b c d : ℕ} {s : List ℕ} {at : ℕ} {r : Found} (m : AfterKey (a ∷ b ∷ c ∷ d ∷ []) s at r) where
+  pub word-found : {l : List ℕ} {e : ℕ} {x : Found} → r ≡ At e → AfterKey l s e x → AfterKey (a ∷ b ∷ c ∷ d ∷ l) s at x
+  word-found {l} q u = record { same = u .same ∙ sym (after-at (a ∷ b ∷ c ∷ d ∷ []) l (drop at s) (rw q at (m .same))); within = u .within }
+
+  pub word-differs : (l : List ℕ) → r ≡ Differs → AfterKey (a ∷ b ∷ c ∷ d ∷ l) s at Differs
+  word-differs l q = record { same = after-differs (a ∷ b ∷ c ∷ d ∷ []) l (drop at s) (rw q at (m .same)); within = tt }
+
+  pub word-broken : (l : List ℕ) → r ≡ Broken → AfterKey (a ∷ b ∷ c ∷ d ∷ l) s at Broken
+  word-broken l q = record { same = after-broken (a ∷ b ∷ c ∷ d ∷ []) l (drop at s) (rw q at (m .same)); within = tt }
+
+-- ---- a key of three bytes
+module _ (s : List ℕ) (at : ℕ) (h : 3 ≤ length s - at) (x : ℕ) where
+  name-start : Matching (32 ∷ x ∷ 61 ∷ []) s at 0
+  name-start = matching-start (32 ∷ x ∷ 61 ∷ []) s at (omega arith)
+
+  name-one : getD s at 0 ≡ 32 → Matching (32 ∷ x ∷ 61 ∷ []) s at 1
+  name-one e = matching-turn name-start (omega arith) (omega arith) (rw (add-zero at) (sym e))
+
+  name-two : getD s at 0 ≡ 32 → getD s (at + 1) 0 ≡ x → Matching (32 ∷ x ∷ 61 ∷ []) s at 2
+  name-two e f = matching-turn (name-one e) (omega arith) (omega arith) (sym f)
+
+  pub name-first : (getD s at 0 ≡ 32 → ⊥) → AfterKey (32 ∷ x ∷ 61 ∷ []) s at Differs
+  name-first n = matching-differs name-start (omega arith) (omega arith) (rw (add-zero at) (λ e. n (sym e)))
+
+  pub name-second : getD s at 0 ≡ 32 → (getD s (at + 1) 0 ≡ x → ⊥) → AfterKey (32 ∷ x ∷ 61 ∷ []) s at Differs
+  name-second e n = matching-differs (name-one e) (omega arith) (omega arith) (λ f. n (sym f))
+
+  pub name-third : getD s at 0 ≡ 32 → getD s (at + 1) 0 ≡ x → (getD s (at + 2) 0 ≡ 61 → ⊥) → AfterKey (32 ∷ x ∷ 61 ∷ []) s at Differs
+  name-third e f n = matching-differs (name-two e f) (omega arith) (omega arith) (λ g. n (sym g))
+
+  pub name-found : getD s at 0 ≡ 32 → getD s (at + 1) 0 ≡ x → getD s (at + 2) 0 ≡ 61 → AfterKey (32 ∷ x ∷ 61 ∷ []) s at (At (at + 3))
+  name-found e f g = matching-end (matching-turn (name-two e f) (omega arith) (omega arith) (sym g)) (omega arith)
 
 -- ---- a value's bytes
 pub record Running (s : List ℕ) (at i : ℕ) : Type 0 where
@@ -144,6 +258,16 @@ module _ {key s : List ℕ} {at : ℕ} {r : Found} (m : AfterKey key s at r) whe
   pub token-broken : r ≡ Broken → TokenAt key s at (Not Ended)
   unfolding fieldOf
   token-broken e = record { same = λ k l. rw (← m .same, e); within = tt }
+
+module _ {s : List ℕ} {at : ℕ} {r : Token} (m : ValueAt s at r) where
+  pub value-within : {b e : ℕ} → r ≡ Between b e → (b ≤ e) × (e < length s)
+  value-within q = rw q at (m .within)
+
+  pub value-to : {b e : ℕ} → r ≡ Between b e → e ≤ length s
+  value-to q = omega (arith, value-within q .1)
+
+  pub value-from : {b e : ℕ} → r ≡ Between b e → b ≤ e
+  value-from q = value-within q .0
 
 module _ {key s : List ℕ} {at : ℕ} {r : Token} (m : TokenAt key s at r) where
   pub token-within : {b e : ℕ} → r ≡ Between b e → (b ≤ e) × (e < length s)

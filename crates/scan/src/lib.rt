@@ -5,8 +5,9 @@ ghost use lib.IntN.{pos, negsuc};
 ghost use lib.ListN.{length};
 ghost use Rattle.text.specs.Value.{same, asVar, asConst, asNegative};
 ghost use Rattle.text.specs.Line.{stops as stopsAt};
-ghost use Rattle.scan.specs.Place.{AfterKey, RunEnd, ValueAt, TokenAt, refusalOf, FeedAt, DigitsTo, NumeralAt, ShortAt, ShortTo};
-ghost use Rattle.scan.specs.Answer.{NumberIs, NumberIn, NumberAt, skip, kindOf, Judged, OperandIn, OperandAt, VariableSaid, VariableAt};
+ghost use mathlib.Core.List.{[], _∷_};
+ghost use Rattle.scan.specs.Place.{quadNumber, Bytes, QuadAt, AfterKey, RunEnd, ValueAt, TokenAt, refusalOf, FeedAt, DigitsTo, NumeralAt, ShortAt, ShortTo};
+ghost use Rattle.scan.specs.Answer.{NumberIs, NumberIn, NumberAt, skip, kindOf, Judged, OperandAs, OperandIn, OperandAt, VariableSaid, VariableIn, VariableAt};
 
 // Where the text goes on after a key; or something else stands there, or the text ends first.
 pub enum Found {
@@ -70,6 +71,52 @@ pub fn after(s: &[u8], at: usize, key: &[u8]) -> Found
         j += 1;
     }
     Found::At(at + j)
+}
+
+// Four bytes as one number, the first lowest.
+pub fn quad_of(a: u8, b: u8, c: u8, d: u8) -> u32
+    ensures is { λ r. ⌜ r ≡ quadNumber a b c d ⌝ }
+    ensures bytes { λ r. ⌜ Bytes a b c d ⌝ }
+{
+    (a as u32) + (b as u32) * 256 + (c as u32) * 65536 + (d as u32) * 16777216
+}
+
+// The four bytes at a place as one number.
+pub fn quad(s: &[u8], at: usize) -> u32
+    requires { ⌜ 4 ≤ length (now s) - at ⌝ }
+    ensures { λ r. ⌜ QuadAt (now (s .entry)) at r ⌝ }
+{
+    let i = at + 1;
+    let j = at + 2;
+    let k = at + 3;
+    quad_of(s[at], s[i], s[j], s[k])
+}
+
+// A key of four bytes, compared as one number.
+fn after_quad(s: &[u8], at: usize, a: u8, b: u8, c: u8, d: u8) -> Found
+    requires { ⌜ at ≤ length (now s) ⌝ }
+    ensures { λ r. ⌜ AfterKey (a ∷ b ∷ c ∷ d ∷ []) (now (s .entry)) at r ⌝ }
+{
+    if s.len() - at < 4 {
+        let key = [a, b, c, d];
+        return after(s, at, &key);
+    }
+    if quad(s, at) == quad_of(a, b, c, d) {
+        return Found::At(at + 4);
+    }
+    Found::Differs
+}
+
+// A key of four bytes and the rest.
+pub fn after_word(s: &[u8], at: usize, a: u8, b: u8, c: u8, d: u8, rest: &[u8]) -> Found
+    requires { ⌜ at ≤ length (now s) ⌝ }
+    ensures { λ r. ⌜ AfterKey (a ∷ b ∷ c ∷ d ∷ now (rest .entry)) (now (s .entry)) at r ⌝ }
+{
+    match after_quad(s, at, a, b, c, d) {
+        Found::At(e) => after(s, e, rest),
+        Found::Differs => Found::Differs,
+        Found::Broken => Found::Broken,
+    }
 }
 
 // "A value runs to the next space or LF": its end.
@@ -261,7 +308,7 @@ fn within(v: u64, e: usize, lo: u64, below: u64, fault: text::Fault) -> Number
     Number::Not(fault)
 }
 
-fn number_at(s: &[u8], at: usize, lo: u64, below: u64, fault: text::Fault) -> Number
+pub fn number_at(s: &[u8], at: usize, lo: u64, below: u64, fault: text::Fault) -> Number
     requires { ⌜ (at ≤ length (now s)) × (below ≤ 256) ⌝ }
     ensures { λ r. ⌜ NumberIn lo below fault (now (s .entry)) at r ⌝ }
 {
@@ -286,6 +333,28 @@ pub fn number_field(
 {
     match after(s, at, key) {
         Found::At(b) => number_at(s, b, lo, below, fault),
+        Found::Differs => Number::Not(text::Fault::Form),
+        Found::Broken => Number::Not(text::Fault::Ended),
+    }
+}
+
+// As `number_field`, behind a key of four bytes and `=`.
+pub fn number_word(
+    s: &[u8],
+    at: usize,
+    a: u8,
+    b: u8,
+    c: u8,
+    d: u8,
+    lo: u64,
+    below: u64,
+    fault: text::Fault,
+) -> Number
+    requires { ⌜ (at ≤ length (now s)) × (below ≤ 256) ⌝ }
+    ensures { λ r. ⌜ NumberAt lo below fault (a ∷ b ∷ c ∷ d ∷ 61 ∷ []) (now (s .entry)) at r ⌝ }
+{
+    match after_word(s, at, a, b, c, d, b"=") {
+        Found::At(e) => number_at(s, e, lo, below, fault),
         Found::Differs => Number::Not(text::Fault::Form),
         Found::Broken => Number::Not(text::Fault::Ended),
     }
@@ -385,6 +454,18 @@ fn any_operand(b: u8, x: u64, e: usize, vars: u64) -> Operand
     constant_operand(x, e, vars)
 }
 
+// The number behind `v`, short ones first.
+fn variable_operand(s: &[u8], at: usize, vars: u64) -> Operand
+    requires { ⌜ (at ≤ length (now s)) × (vars ≤ 256) ⌝ }
+    ensures { λ r. ⌜ OperandAs asVar vars (now (s .entry)) at r ⌝ }
+{
+    match value_number(s, at) {
+        Numeral::Is(x, e) => named_operand(x, e, vars),
+        Numeral::Bad => Operand::Not(text::Fault::Misspelt),
+        Numeral::Over => Operand::Not(text::Fault::Ended),
+    }
+}
+
 fn operand_at(s: &[u8], at: usize, vars: u64) -> Operand
     requires { ⌜ (at ≤ length (now s)) × (vars ≤ 256) ⌝ }
     ensures { λ r. ⌜ OperandIn vars (now (s .entry)) at r ⌝ }
@@ -393,6 +474,9 @@ fn operand_at(s: &[u8], at: usize, vars: u64) -> Operand
         return Operand::Not(text::Fault::Ended);
     }
     let b = s[at];
+    if b == 118 {
+        return variable_operand(s, at + 1, vars);
+    }
     let from = digits_from(b, at);
     match numeral_at(s, from) {
         Numeral::Is(x, e) => any_operand(b, x, e, vars),
@@ -401,12 +485,35 @@ fn operand_at(s: &[u8], at: usize, vars: u64) -> Operand
     }
 }
 
-// A variable or a constant, with so many variables declared.
-pub fn operand_field(s: &[u8], at: usize, key: &[u8], vars: u64) -> Operand
-    requires { ⌜ (at ≤ length (now s)) × (vars ≤ 256) ⌝ }
-    ensures { λ r. ⌜ OperandAt vars (now (key .entry)) (now (s .entry)) at r ⌝ }
+// The key of an operand with a name of one letter.
+fn after_name(s: &[u8], at: usize, name: u8) -> Found
+    requires { ⌜ at ≤ length (now s) ⌝ }
+    ensures { λ r. ⌜ AfterKey (32 ∷ name ∷ 61 ∷ []) (now (s .entry)) at r ⌝ }
 {
-    match after(s, at, key) {
+    if s.len() - at < 3 {
+        let key = [32, name, 61];
+        return after(s, at, &key);
+    }
+    if s[at] != 32 {
+        return Found::Differs;
+    }
+    let i = at + 1;
+    if s[i] != name {
+        return Found::Differs;
+    }
+    let j = at + 2;
+    if s[j] != 61 {
+        return Found::Differs;
+    }
+    Found::At(at + 3)
+}
+
+// A variable or a constant, with so many variables declared.
+pub fn operand_field(s: &[u8], at: usize, name: u8, vars: u64) -> Operand
+    requires { ⌜ (at ≤ length (now s)) × (vars ≤ 256) ⌝ }
+    ensures { λ r. ⌜ OperandAt vars (32 ∷ name ∷ 61 ∷ []) (now (s .entry)) at r ⌝ }
+{
+    match after_name(s, at, name) {
         Found::At(b) => operand_at(s, b, vars),
         Found::Differs => Operand::Not(text::Fault::Form),
         Found::Broken => Operand::Not(text::Fault::Ended),
@@ -434,14 +541,41 @@ fn variable_value(t: &[u8], e: usize, closed: bool, vars: u64) -> Number
     Number::Not(text::Fault::Reference)
 }
 
+// Any value.
+fn any_variable(s: &[u8], at: usize, closed: bool, vars: u64) -> Number
+    requires { ⌜ (at ≤ length (now s)) × (vars ≤ 256) ⌝ }
+    ensures { λ r. ⌜ VariableIn closed vars (now (s .entry)) at r ⌝ }
+{
+    let found = value_at(s, at);
+    let Token::At(b, e) = found else {
+        return Number::Not(refusal(found));
+    };
+    variable_value(&s[b..e], e, closed, vars)
+}
+
+// Short numbers first.
+fn variable_at(s: &[u8], at: usize, closed: bool, vars: u64) -> Number
+    requires { ⌜ (at ≤ length (now s)) × (vars ≤ 256) ⌝ }
+    ensures { λ r. ⌜ VariableIn closed vars (now (s .entry)) at r ⌝ }
+{
+    let item = short_value(s, at);
+    let Short::Is(v, e) = item else {
+        return any_variable(s, at, closed, vars);
+    };
+    if v < vars {
+        return Number::Is(v as u8, e);
+    }
+    Number::Not(text::Fault::Reference)
+}
+
 // A variable, with so many declared; in closed form it may be `-`.
 pub fn variable_field(s: &[u8], at: usize, closed: bool, vars: u64) -> Number
     requires { ⌜ (at ≤ length (now s)) × (vars ≤ 256) ⌝ }
     ensures { λ r. ⌜ VariableAt closed vars (now (s .entry)) at r ⌝ }
 {
-    let found = token_at(s, at, b" var=");
-    let Token::At(b, e) = found else {
-        return Number::Not(refusal(found));
-    };
-    variable_value(&s[b..e], e, closed, vars)
+    match after_word(s, at, 32, 118, 97, 114, b"=") {
+        Found::At(b) => variable_at(s, b, closed, vars),
+        Found::Differs => Number::Not(text::Fault::Form),
+        Found::Broken => Number::Not(text::Fault::Ended),
+    }
 }

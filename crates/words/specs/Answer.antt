@@ -1,15 +1,20 @@
 -- What the readers of words answer. Of bytes t that end at e; and of the field at a place of a text.
-use Prim.Native.Nat.{ℕ, _<_}
+use Prim.Native.Nat.{ℕ, _-_, _<_}
 use mathlib.Core.Path.{_≡_}
 use mathlib.Core.Bool.{Bool, true, false}
 use mathlib.Core.List.{List, [], _∷_}
 use mathlib.Core.Option.{some}
-use lib.ListN.{length, drop}
+use lib.ListN.{length, take, drop}
 use Rattle.table.specs.declared.Op.{Op}
 use Rattle.table.specs.declared.Op.the-variants.{Add, Sub, And, Or, Xor, Shr, Lt, Eq}
 use Rattle.text.specs.Number.{bytes}
 use Rattle.text.specs.Value.{Sort, start, set, test, read, call, wait, signal, send, recv, assert, out, return, choice, sort, operation, sortWord, opWord, named, said}
-use Rattle.text.specs.Line.{Outcome, took, refused, judged, fieldOf}
+use Rattle.text.specs.Line.{Outcome, took, refused, judged, valueOf, fieldOf}
+use Rattle.scan.specs.Place.{RunEnd}
+use Rattle.words.specs.declared.Quick.{Quick}
+use Rattle.words.specs.declared.Quick.the-variants.{Is as IsQuick, Not as NotQuick}
+use Rattle.words.specs.declared.QuickOp.{QuickOp}
+use Rattle.words.specs.declared.QuickOp.the-variants.{Is as IsQuickOp, Not as NotQuickOp}
 use Rattle.words.specs.declared.Choice.{Choice}
 use Rattle.words.specs.declared.Choice.the-variants.{Is as IsChoice, Not as NotChoice}
 use Rattle.words.specs.declared.Sort.{Sort as Word}
@@ -18,6 +23,12 @@ use Rattle.words.specs.declared.Kind.{Kind as SortAnswer}
 use Rattle.words.specs.declared.Kind.the-variants.{Is as IsSort, Not as NotSort}
 use Rattle.words.specs.declared.Operation.{Operation}
 use Rattle.words.specs.declared.Operation.the-variants.{Is as IsOp, Not as NotOp}
+
+-- a word that is the whole value at a place
+pub record WordTo (s : List ℕ) (at e : ℕ) (w : List ℕ) : Type 0 where
+  pub run : RunEnd s at e
+  pub inside : e < length s
+  pub same : take (e - at) (drop at s) ≡ w
 
 -- ---- one of two words
 
@@ -104,6 +115,18 @@ lateSorts = recv ∷ assert ∷ out ∷ return ∷ []
 abbrev pub middleSorts : List Sort
 middleSorts = call ∷ wait ∷ signal ∷ send ∷ lateSorts
 
+pub record SortIn (c : Bool) (j : ℕ) (s : List ℕ) (at : ℕ) (r : SortAnswer) : Type 0 where
+  pub same : (l : ℕ) → sortIn l s r ≡ valueOf (sort c j) l (drop at s)
+  pub within : sortWithin s r
+
+-- a kind whose word stands at a place
+abbrev pub sortStands : List ℕ → ℕ → Quick → Type 0
+sortStands s at (IsQuick k e) = WordTo s at e (sortWord (sortOf k)) × (plain k ≡ true)
+sortStands s at NotQuick = Unit {0}
+
+pub record SortStands (s : List ℕ) (at : ℕ) (r : Quick) : Type 0 where
+  pub is : sortStands s at r
+
 pub record SortAt (c : Bool) (j : ℕ) (s : List ℕ) (at : ℕ) (r : SortAnswer) : Type 0 where
   pub same : (l : ℕ) → sortIn l s r ≡ fieldOf (bytes " kind=") (sort c j) l (drop at s)
   pub within : sortWithin s r
@@ -145,6 +168,18 @@ pub record OpSaid (x : Bool) (os : List Op) (t : List ℕ) (e : ℕ) (r : Operat
 
 abbrev pub lateOps : List Op
 lateOps = Xor ∷ Shr ∷ Lt ∷ Eq ∷ []
+
+pub record OpIn (x : Bool) (s : List ℕ) (at : ℕ) (r : Operation) : Type 0 where
+  pub same : (l : ℕ) → opIn l s r ≡ valueOf (operation x) l (drop at s)
+  pub within : opWithin s r
+
+-- a calculation whose word stands at a place
+abbrev pub opStands : List ℕ → ℕ → QuickOp → Type 0
+opStands s at (IsQuickOp o e) = WordTo s at e (opWord o) × (calculates o ≡ true)
+opStands s at NotQuickOp = Unit {0}
+
+pub record OpStands (s : List ℕ) (at : ℕ) (r : QuickOp) : Type 0 where
+  pub is : opStands s at r
 
 pub record OpAt (x : Bool) (s : List ℕ) (at : ℕ) (r : Operation) : Type 0 where
   pub same : (l : ℕ) → opIn l s r ≡ fieldOf (bytes " op=") (operation x) l (drop at s)

@@ -1,30 +1,74 @@
 -- Laws of the readers of words: each says what a step of the code shows.
-use Prim.Native.Nat.{ℕ, zero, suc, _-_}
-use mathlib.Core.Path.{_≡_, refl, _∙_}
+use Prim.Native.Nat.{ℕ, zero, suc, _+_, _-_, _≤_, _<_}
+use mathlib.Core.Path.{_≡_, refl, _∙_, ap}
 use mathlib.Core.List.{List, [], _∷_}
 use mathlib.Core.Option.{Option, none, some}
 use mathlib.Core.Bool.{Bool, true, false, false≢true}
-use lib.ListN.{take, drop}
+use native.Mathlib.Omega.{arith}
+use native.Mathlib.Numerals.{add-one}
+use lib.ListN.{length, take, drop, getD}
+use lib.Seq.{drop-cons}
 use Rattle.table.specs.declared.Op.{Op}
 use Rattle.table.specs.declared.Op.the-variants.{Add, Sub, And, Or, Xor, Shr, Lt, Eq}
 use Rattle.text.specs.declared.Fault.{Fault}
-use Rattle.text.specs.declared.Fault.the-variants.{Form, Index}
+use Rattle.text.specs.declared.Fault.the-variants.{Form, Ended, Index}
 use Rattle.text.specs.Number.{bytes}
 use Rattle.text.specs.Value.{Sort, start, read, choice, sort, operation, sortWord, opWord, same, named, said, unsaid, sortFault, opFault, check, sorts, ops}
-use Rattle.text.specs.Line.{judged}
+use Rattle.text.specs.Line.{judged, run as count, stops, fieldOf}
+use Rattle.scan.specs.declared.Found.{Found}
+use Rattle.scan.specs.declared.Found.the-variants.{At, Differs, Broken}
 use Rattle.scan.specs.declared.Token.{Token}
 use Rattle.scan.specs.declared.Token.the-variants.{At as Between, Not as Refused}
 use Rattle.words.specs.declared.Choice.{Choice}
 use Rattle.words.specs.declared.Choice.the-variants.{Is as IsChoice, Not as NotChoice}
 use Rattle.words.specs.declared.Sort.{Sort as Word}
 use Rattle.words.specs.declared.Sort.the-variants.{Start, Set, Test, Read, Call, Wait, Signal, Send, Recv, Assert, Out, Return}
+use Rattle.words.specs.declared.Quick.{Quick}
+use Rattle.words.specs.declared.Quick.the-variants.{Is as IsQuick, Not as NotQuick}
+use Rattle.words.specs.declared.QuickOp.{QuickOp}
+use Rattle.words.specs.declared.QuickOp.the-variants.{Is as IsQuickOp, Not as NotQuickOp}
 use Rattle.words.specs.declared.Kind.{Kind as SortAnswer}
 use Rattle.words.specs.declared.Kind.the-variants.{Is as IsSort, Not as NotSort}
 use Rattle.words.specs.declared.Operation.{Operation}
 use Rattle.words.specs.declared.Operation.the-variants.{Is as IsOp, Not as NotOp}
-use Rattle.scan.specs.Place.{TokenAt, refusalOf}
-use Rattle.scan.specs.PlaceLaws.{token-within}
-use Rattle.words.specs.Answer.{choiceEnds, choiceWithin, ChoiceSaid, ChoiceAt, sortOf, sortEnds, sortWithin, plain, SortJudged, Later, SortSaid, SortAt, opEnds, opWithin, calculates, OpJudged, OpSaid, OpAt}
+use Rattle.scan.specs.Place.{AfterKey, quadNumber, Bytes, QuadAt, ValueAt, TokenAt, refusalOf}
+use Rattle.scan.specs.PlaceLaws.{quad-bytes, count-more, count-none, value-ends, value-within, token-within}
+use Rattle.words.specs.Answer.{WordTo, choiceEnds, choiceWithin, ChoiceSaid, ChoiceAt, sortOf, sortEnds, sortWithin, plain, SortJudged, Later, SortSaid, SortIn, SortStands, SortAt, opEnds, opWithin, calculates, OpJudged, OpSaid, OpIn, OpStands, OpAt}
+
+-- ---- a word that four bytes show
+step : (s : List ℕ) (i k : ℕ) → i < length s → k ≡ i + 1 → drop i s ≡ getD s i 0 ∷ drop k s
+step s i k h e = rw (e, add-one i) (drop-cons s i 0 h)
+
+four-part : (s : List ℕ) (at : ℕ) → 4 ≤ length s - at → drop at s ≡ getD s at 0 ∷ getD s (at + 1) 0 ∷ getD s (at + 2) 0 ∷ getD s (at + 3) 0 ∷ drop (at + 4) s
+four-part s at h =
+    let p = step s at (at + 1) (omega arith) refl in
+    let q = step s (at + 1) (at + 2) (omega arith) (omega arith) in
+    let u = step s (at + 2) (at + 3) (omega arith) (omega arith) in
+    let v = step s (at + 3) (at + 4) (omega arith) (omega arith) in
+    p ∙ ap (λ (t : List ℕ). getD s at 0 ∷ t) (q ∙ ap (λ (t : List ℕ). getD s (at + 1) 0 ∷ t) (u ∙ ap (λ (t : List ℕ). getD s (at + 2) 0 ∷ t) v))
+
+module _ {s : List ℕ} {at r : ℕ} (m : QuadAt s at r) (h : 4 ≤ length s - at) {a b c d x : ℕ} (w : Bytes a b c d) (g : x ≡ quadNumber a b c d) (e : r ≡ x) where
+  parts : drop at s ≡ a ∷ b ∷ c ∷ d ∷ drop (at + 4) s
+  parts = let z = quad-bytes m w (e ∙ g) in rw (z .0, z .1, z .2, z .3) (four-part s at h)
+
+  three-letters : d ≡ 32 → stops a ≡ false → stops b ≡ false → stops c ≡ false → WordTo s at (at + 3) (a ∷ b ∷ c ∷ [])
+  three-letters q u v t =
+      let k : count (a ∷ b ∷ c ∷ d ∷ drop (at + 4) s) ≡ 3 =
+      count-more a _ u ∙ ap suc (count-more b _ v ∙ ap suc (count-more c _ t ∙ ap suc (count-none d _ (rw q)))) in
+      let z : count (drop at s) ≡ 3 = ap count parts ∙ k in
+      let n : at + 3 - at ≡ 3 = omega arith in
+      record { run = record { same = omega (arith, z); from = omega arith; within = omega arith }; inside = omega arith; same = rw (n, parts) }
+
+  four-letters : 5 ≤ length s - at → getD s (at + 4) 0 ≡ 32 → stops a ≡ false → stops b ≡ false → stops c ≡ false → stops d ≡ false
+      → WordTo s at (at + 4) (a ∷ b ∷ c ∷ d ∷ [])
+  four-letters l q u v t y =
+      let f : drop (at + 4) s ≡ getD s (at + 4) 0 ∷ drop (at + 5) s = step s (at + 4) (at + 5) (omega arith) (omega arith) in
+      let j : count (drop (at + 4) s) ≡ 0 = ap count f ∙ count-none (getD s (at + 4) 0) _ (rw q) in
+      let k : count (a ∷ b ∷ c ∷ d ∷ drop (at + 4) s) ≡ 4 =
+      count-more a _ u ∙ ap suc (count-more b _ v ∙ ap suc (count-more c _ t ∙ ap suc (count-more d _ y ∙ ap suc j))) in
+      let z : count (drop at s) ≡ 4 = ap count parts ∙ k in
+      let n : at + 4 - at ≡ 4 = omega arith in
+      record { run = record { same = omega (arith, z); from = omega arith; within = omega arith }; inside = omega arith; same = rw (n, parts) }
 
 -- ---- one of two words
 module _ (a b t : List ℕ) (e : ℕ) {x : Bool} (p : x ≡ same a t) where
@@ -128,17 +172,77 @@ pub sort-none : (c : Bool) (j : ℕ) (t : List ℕ) (e : ℕ) → SortSaid c j [
 unfolding named unsaid
 sort-none c j t e = record { same = λ l s. refl; ends = tt }
 
-module _ {s : List ℕ} {at : ℕ} {r : Token} (m : TokenAt (bytes " kind=") s at r) where
-  pub sort-stop : (c : Bool) (j : ℕ) {x y : Fault} → r ≡ Refused y → x ≡ refusalOf r → SortAt c j s at (NotSort x)
+module _ {s : List ℕ} {at : ℕ} {r : Token} (m : ValueAt s at r) where
+  pub sort-stop : (c : Bool) (j : ℕ) {x y : Fault} → r ≡ Refused y → x ≡ refusalOf r → SortIn c j s at (NotSort x)
   sort-stop c j q z = record { same = λ l. rw (z, q) (rw q at (m .same (sort c j) l)); within = tt }
 
-  pub sort-step : {c : Bool} {j from e : ℕ} {v : SortAnswer} → r ≡ Between from e → SortSaid c j sorts (take (e - from) (drop from s)) e v → SortAt c j s at v
+  pub sort-step : {c : Bool} {j from e : ℕ} {v : SortAnswer} → r ≡ Between from e → SortSaid c j sorts (take (e - from) (drop from s)) e v → SortIn c j s at v
   unfolding said
   sort-step {c} {j} {from} {e} {v} q d = record { same = λ l. d .same l s ∙ rw q at (m .same (sort c j) l); within = reach v (d .ends) }
     where
       reach : (v : SortAnswer) → sortEnds e v → sortWithin s v
-      reach (IsSort v p) h = rw h (token-within m q .1)
+      reach (IsSort v p) h = rw h (value-within m q .1)
       reach (NotSort f) h = tt
+
+module _ {s : List ℕ} {at : ℕ} {r : Found} (m : AfterKey (bytes " kind=") s at r) where
+  pub sort-found : {c : Bool} {j b : ℕ} {v : SortAnswer} → r ≡ At b → SortIn c j s b v → SortAt c j s at v
+  unfolding fieldOf
+  sort-found q u = record { same = λ l. u .same l ∙ rw (← m .same, q); within = u .within }
+
+  pub sort-differs : (c : Bool) (j : ℕ) → r ≡ Differs → SortAt c j s at (NotSort Form)
+  unfolding fieldOf
+  sort-differs c j e = record { same = λ l. rw (← m .same, e); within = tt }
+
+  pub sort-broken : (c : Bool) (j : ℕ) → r ≡ Broken → SortAt c j s at (NotSort Ended)
+  unfolding fieldOf
+  sort-broken c j e = record { same = λ l. rw (← m .same, e); within = tt }
+
+-- a kind is the first whose word its word is
+named-sort : (k : Word) → named sortWord sorts (sortWord (sortOf k)) ≡ some (sortOf k)
+unfolding named same
+named-sort Start = refl
+named-sort Set = refl
+named-sort Test = refl
+named-sort Read = refl
+named-sort Call = refl
+named-sort Wait = refl
+named-sort Signal = refl
+named-sort Send = refl
+named-sort Recv = refl
+named-sort Assert = refl
+named-sort Out = refl
+named-sort Return = refl
+
+module _ {s : List ℕ} {at : ℕ} {r : Quick} (m : SortStands s at r) {k : Word} {e : ℕ} (q : r ≡ IsQuick k e) where
+  quick-sort : WordTo s at e (sortWord (sortOf k)) × (plain k ≡ true)
+  quick-sort = rw q at (m .is)
+
+  pub quick-plain : plain k ≡ true
+  quick-plain = quick-sort .1
+
+  pub quick-kind : {c : Bool} {j : ℕ} {v : SortAnswer} → Later (sortOf k) j e v → SortIn c j s at v
+  unfolding said
+  quick-kind {c} {j} {v} d =
+      let w = quick-sort .0 in
+      let z : named sortWord sorts (take (e - at) (drop at s)) ≡ some (sortOf k) = rw (w .same) (named-sort k) in
+      record { same = λ l. d .judged c .same l s ∙ (rw z at (value-ends (w .run) (w .inside) .same (sort c j) l)); within = reach v (d .judged c .ends) }
+    where
+      reach : (v : SortAnswer) → sortEnds e v → sortWithin s v
+      reach (IsSort v p) h = rw h (quick-sort .0 .inside)
+      reach (NotSort f) h = tt
+
+pub quick-none : (s : List ℕ) (at : ℕ) → SortStands s at NotQuick
+quick-none s at = record { is = tt }
+
+module _ {s : List ℕ} {at r x : ℕ} (m : QuadAt s at r) (h : 5 ≤ length s - at) where
+  pub quick-set : Bytes 115 101 116 32 → x ≡ quadNumber 115 101 116 32 → r ≡ x → SortStands s at (IsQuick Set (at + 3))
+  quick-set b g e = record { is = (three-letters m (omega arith) b g e refl refl refl refl, refl) }
+
+  pub quick-out : Bytes 111 117 116 32 → x ≡ quadNumber 111 117 116 32 → r ≡ x → SortStands s at (IsQuick Out (at + 3))
+  quick-out b g e = record { is = (three-letters m (omega arith) b g e refl refl refl refl, refl) }
+
+  pub quick-test : Bytes 116 101 115 116 → x ≡ quadNumber 116 101 115 116 → r ≡ x → getD s (at + 4) 0 ≡ 32 → SortStands s at (IsQuick Test (at + 4))
+  quick-test b g e d = record { is = (four-letters m (omega arith) b g e h d refl refl refl refl, refl) }
 
 -- ---- operations
 calculates-fault : (o : Op) → calculates o ≡ true → opFault true o ≡ some Form
@@ -182,17 +286,79 @@ pub op-none : (x : Bool) (t : List ℕ) (e : ℕ) → OpSaid x [] t e (NotOp For
 unfolding named unsaid
 op-none x t e = record { same = λ l s. refl; ends = tt }
 
-module _ {s : List ℕ} {at : ℕ} {r : Token} (m : TokenAt (bytes " op=") s at r) where
-  pub op-stop : (x : Bool) {f y : Fault} → r ≡ Refused y → f ≡ refusalOf r → OpAt x s at (NotOp f)
+module _ {s : List ℕ} {at : ℕ} {r : Token} (m : ValueAt s at r) where
+  pub op-stop : (x : Bool) {f y : Fault} → r ≡ Refused y → f ≡ refusalOf r → OpIn x s at (NotOp f)
   op-stop x q z = record { same = λ l. rw (z, q) (rw q at (m .same (operation x) l)); within = tt }
 
-  pub op-step : {x : Bool} {from e : ℕ} {v : Operation} → r ≡ Between from e → OpSaid x ops (take (e - from) (drop from s)) e v → OpAt x s at v
+  pub op-step : {x : Bool} {from e : ℕ} {v : Operation} → r ≡ Between from e → OpSaid x ops (take (e - from) (drop from s)) e v → OpIn x s at v
   unfolding said
   op-step {x} {from} {e} {v} q d = record { same = λ l. d .same l s ∙ rw q at (m .same (operation x) l); within = reach v (d .ends) }
     where
       reach : (v : Operation) → opEnds e v → opWithin s v
-      reach (IsOp v p) h = rw h (token-within m q .1)
+      reach (IsOp v p) h = rw h (value-within m q .1)
       reach (NotOp f) h = tt
+
+module _ {s : List ℕ} {at : ℕ} {r : Found} (m : AfterKey (bytes " op=") s at r) where
+  pub op-found : {x : Bool} {b : ℕ} {v : Operation} → r ≡ At b → OpIn x s b v → OpAt x s at v
+  unfolding fieldOf
+  op-found q u = record { same = λ l. u .same l ∙ rw (← m .same, q); within = u .within }
+
+  pub op-differs : (x : Bool) → r ≡ Differs → OpAt x s at (NotOp Form)
+  unfolding fieldOf
+  op-differs x e = record { same = λ l. rw (← m .same, e); within = tt }
+
+  pub op-broken : (x : Bool) → r ≡ Broken → OpAt x s at (NotOp Ended)
+  unfolding fieldOf
+  op-broken x e = record { same = λ l. rw (← m .same, e); within = tt }
+
+-- an operation is the first whose word its word is
+named-op : (o : Op) → named opWord ops (opWord o) ≡ some o
+unfolding named same
+named-op Add = refl
+named-op Sub = refl
+named-op And = refl
+named-op Or = refl
+named-op Xor = refl
+named-op Shr = refl
+named-op Lt = refl
+named-op Eq = refl
+
+module _ {s : List ℕ} {at : ℕ} {r : QuickOp} (m : OpStands s at r) {o : Op} {e : ℕ} (q : r ≡ IsQuickOp o e) where
+  quick-op : WordTo s at e (opWord o) × (calculates o ≡ true)
+  quick-op = rw q at (m .is)
+
+  pub quick-calculates : calculates o ≡ true
+  quick-calculates = quick-op .1
+
+  pub quick-operation : {x : Bool} {v : Operation} → OpJudged x o e v → OpIn x s at v
+  unfolding said
+  quick-operation {x} {v} d =
+      let w = quick-op .0 in
+      let z : named opWord ops (take (e - at) (drop at s)) ≡ some o = rw (w .same) (named-op o) in
+      record { same = λ l. d .same l s ∙ (rw z at (value-ends (w .run) (w .inside) .same (operation x) l)); within = reach v (d .ends) }
+    where
+      reach : (v : Operation) → opEnds e v → opWithin s v
+      reach (IsOp v p) h = rw h (quick-op .0 .inside)
+      reach (NotOp f) h = tt
+
+pub quick-no-op : (s : List ℕ) (at : ℕ) → OpStands s at NotQuickOp
+quick-no-op s at = record { is = tt }
+
+module _ {s : List ℕ} {at r x : ℕ} (m : QuadAt s at r) (h : 4 ≤ length s - at) where
+  pub quick-add : Bytes 97 100 100 32 → x ≡ quadNumber 97 100 100 32 → r ≡ x → OpStands s at (IsQuickOp Add (at + 3))
+  quick-add b g e = record { is = (three-letters m h b g e refl refl refl refl, refl) }
+
+  pub quick-sub : Bytes 115 117 98 32 → x ≡ quadNumber 115 117 98 32 → r ≡ x → OpStands s at (IsQuickOp Sub (at + 3))
+  quick-sub b g e = record { is = (three-letters m h b g e refl refl refl refl, refl) }
+
+  pub quick-and : Bytes 97 110 100 32 → x ≡ quadNumber 97 110 100 32 → r ≡ x → OpStands s at (IsQuickOp And (at + 3))
+  quick-and b g e = record { is = (three-letters m h b g e refl refl refl refl, refl) }
+
+  pub quick-xor : Bytes 120 111 114 32 → x ≡ quadNumber 120 111 114 32 → r ≡ x → OpStands s at (IsQuickOp Xor (at + 3))
+  quick-xor b g e = record { is = (three-letters m h b g e refl refl refl refl, refl) }
+
+  pub quick-shr : Bytes 115 104 114 32 → x ≡ quadNumber 115 104 114 32 → r ≡ x → OpStands s at (IsQuickOp Shr (at + 3))
+  quick-shr b g e = record { is = (three-letters m h b g e refl refl refl refl, refl) }
 
 pub ruleset sort-laws = (sort-hit, sort-later, sort-miss, sort-none)
 

@@ -4,7 +4,7 @@ ghost use mathlib.Core.Path.{_≡_};
 ghost use mathlib.Core.Bool.{true};
 ghost use lib.ListN.{length};
 ghost use Rattle.text.specs.Value.{sorts, ops};
-ghost use Rattle.words.specs.Answer.{ChoiceSaid, ChoiceAt, sortOf, SortJudged, plain, Later, SortSaid, middleSorts, lateSorts, SortAt, calculates, OpJudged, OpSaid, lateOps, OpAt};
+ghost use Rattle.words.specs.Answer.{ChoiceSaid, ChoiceAt, sortOf, SortJudged, plain, Later, SortSaid, middleSorts, lateSorts, SortIn, SortStands, SortAt, calculates, OpJudged, OpSaid, lateOps, OpIn, OpStands, OpAt};
 
 // One of two words and the place after it, or the fault.
 pub enum Choice {
@@ -153,16 +153,70 @@ fn sort_value(t: &[u8], e: usize, closed: bool, j: u8) -> Kind
     middle_sort(t, e, closed, j)
 }
 
+// A kind that is told by its first bytes, and where its word ends.
+enum Quick {
+    Is(Sort, usize),
+    Not,
+}
+
+// Any value.
+fn any_sort(s: &[u8], at: usize, closed: bool, j: u8) -> Kind
+    requires { ⌜ at ≤ length (now s) ⌝ }
+    ensures { λ r. ⌜ SortIn closed j (now (s .entry)) at r ⌝ }
+{
+    let found = scan::value_at(s, at);
+    let scan::Token::At(from, e) = found else {
+        return Kind::Not(scan::refusal(found));
+    };
+    sort_value(&s[from..e], e, closed, j)
+}
+
+fn quick_sort(s: &[u8], at: usize) -> Quick
+    requires { ⌜ at ≤ length (now s) ⌝ }
+    ensures { λ r. ⌜ SortStands (now (s .entry)) at r ⌝ }
+{
+    if s.len() - at < 5 {
+        return Quick::Not;
+    }
+    let w = scan::quad(s, at);
+    if w == scan::quad_of(115, 101, 116, 32) {
+        return Quick::Is(Sort::Set, at + 3);
+    }
+    if w == scan::quad_of(111, 117, 116, 32) {
+        return Quick::Is(Sort::Out, at + 3);
+    }
+    if w != scan::quad_of(116, 101, 115, 116) {
+        return Quick::Not;
+    }
+    let e = at + 4;
+    if s[e] == 32 {
+        return Quick::Is(Sort::Test, e);
+    }
+    Quick::Not
+}
+
+// The frequent kinds first.
+fn sort_at(s: &[u8], at: usize, closed: bool, j: u8) -> Kind
+    requires { ⌜ at ≤ length (now s) ⌝ }
+    ensures { λ r. ⌜ SortIn closed j (now (s .entry)) at r ⌝ }
+{
+    let quick = quick_sort(s, at);
+    let Quick::Is(k, e) = quick else {
+        return any_sort(s, at, closed, j);
+    };
+    later(k, e, j)
+}
+
 // The kind of node j.
 pub fn sort_field(s: &[u8], at: usize, closed: bool, j: u8) -> Kind
     requires { ⌜ at ≤ length (now s) ⌝ }
     ensures { λ r. ⌜ SortAt closed j (now (s .entry)) at r ⌝ }
 {
-    let found = scan::token_at(s, at, b" kind=");
-    let scan::Token::At(from, e) = found else {
-        return Kind::Not(scan::refusal(found));
-    };
-    sort_value(&s[from..e], e, closed, j)
+    match scan::after_word(s, at, 32, 107, 105, 110, b"d=") {
+        scan::Found::At(b) => sort_at(s, b, closed, j),
+        scan::Found::Differs => Kind::Not(text::Fault::Form),
+        scan::Found::Broken => Kind::Not(text::Fault::Ended),
+    }
 }
 
 // ---- operations
@@ -214,14 +268,70 @@ fn operation_value(t: &[u8], e: usize, test: bool) -> Operation
     late_operation(t, e, test)
 }
 
+// A calculation that is told by its first bytes, and where its word ends.
+enum QuickOp {
+    Is(table::Op, usize),
+    Not,
+}
+
+// Any value.
+fn any_operation(s: &[u8], at: usize, test: bool) -> Operation
+    requires { ⌜ at ≤ length (now s) ⌝ }
+    ensures { λ r. ⌜ OpIn test (now (s .entry)) at r ⌝ }
+{
+    let found = scan::value_at(s, at);
+    let scan::Token::At(from, e) = found else {
+        return Operation::Not(scan::refusal(found));
+    };
+    operation_value(&s[from..e], e, test)
+}
+
+fn quick_operation(s: &[u8], at: usize) -> QuickOp
+    requires { ⌜ at ≤ length (now s) ⌝ }
+    ensures { λ r. ⌜ OpStands (now (s .entry)) at r ⌝ }
+{
+    if s.len() - at < 4 {
+        return QuickOp::Not;
+    }
+    let w = scan::quad(s, at);
+    if w == scan::quad_of(97, 100, 100, 32) {
+        return QuickOp::Is(table::Op::Add, at + 3);
+    }
+    if w == scan::quad_of(115, 117, 98, 32) {
+        return QuickOp::Is(table::Op::Sub, at + 3);
+    }
+    if w == scan::quad_of(97, 110, 100, 32) {
+        return QuickOp::Is(table::Op::And, at + 3);
+    }
+    if w == scan::quad_of(120, 111, 114, 32) {
+        return QuickOp::Is(table::Op::Xor, at + 3);
+    }
+    if w == scan::quad_of(115, 104, 114, 32) {
+        return QuickOp::Is(table::Op::Shr, at + 3);
+    }
+    QuickOp::Not
+}
+
+// The frequent operations first.
+fn operation_at(s: &[u8], at: usize, test: bool) -> Operation
+    requires { ⌜ at ≤ length (now s) ⌝ }
+    ensures { λ r. ⌜ OpIn test (now (s .entry)) at r ⌝ }
+{
+    let quick = quick_operation(s, at);
+    let QuickOp::Is(o, e) = quick else {
+        return any_operation(s, at, test);
+    };
+    calculation(o, e, test)
+}
+
 // An operation; in a test or not.
 pub fn operation_field(s: &[u8], at: usize, test: bool) -> Operation
     requires { ⌜ at ≤ length (now s) ⌝ }
     ensures { λ r. ⌜ OpAt test (now (s .entry)) at r ⌝ }
 {
-    let found = scan::token_at(s, at, b" op=");
-    let scan::Token::At(from, e) = found else {
-        return Operation::Not(scan::refusal(found));
-    };
-    operation_value(&s[from..e], e, test)
+    match scan::after_word(s, at, 32, 111, 112, 61, b"") {
+        scan::Found::At(b) => operation_at(s, b, test),
+        scan::Found::Differs => Operation::Not(text::Fault::Form),
+        scan::Found::Broken => Operation::Not(text::Fault::Ended),
+    }
 }

@@ -1,7 +1,7 @@
 use Prim.Native.Nat.{_-_}
 use lib.ListN.{length}
 use Rattle.digits.specs.Read.{LeadAt}
-use Rattle.digits.specs.LeadLaws.{lead-start, lead-small, digit-low, digit-high, lead-turn}
+use Rattle.digits.specs.LeadLaws.{lead-start, lead-small, lead-step}
 use borrow.Author.Needs.{needs}
 use Rattle.digits.proofs.digits_at.Statement.{statement}
 use Rattle.digits.proofs.digits_at.Tie as tie
@@ -24,8 +24,20 @@ digit-requires c κs = search needs
 returns : tie.Need-returns Inv-loop μ-loop
 returns c = search needs
 
-push-requires : tie.Need-push-requires Inv-loop μ-loop
-push-requires c κs = search (needs, lead-small, digit-low, digit-high)
+further-digits-requires : tie.Need-further-digits-requires Inv-loop μ-loop
+further-digits-requires c κs = search needs
+
+returns-2 : tie.Need-returns-2 Inv-loop μ-loop
+returns-2 c = search needs
+
+mul-v : tie.Need-mul-v Inv-loop μ-loop
+mul-v c = search (needs, lead-small)
+
+cast-v : tie.Need-cast-v Inv-loop μ-loop
+cast-v c = search needs
+
+add-v : tie.Need-add-v Inv-loop μ-loop
+add-v c = search (needs, lead-small)
 
 add-i : tie.Need-add-i Inv-loop μ-loop
 add-i c = search needs
@@ -34,10 +46,10 @@ loop-less : tie.Need-loop-less Inv-loop μ-loop
 loop-less c = search needs
 
 loop-again : tie.Need-loop-again Inv-loop μ-loop
-loop-again c = search (needs, lead-turn)
+loop-again c = search (needs, lead-step)
 
-returns-2 : tie.Need-returns-2 Inv-loop μ-loop
-returns-2 c = search needs
+returns-3 : tie.Need-returns-3 Inv-loop μ-loop
+returns-3 c = search needs
 
 pub digits-at-spec : {M : Type 1} → statement M
 digits-at-spec =
@@ -49,8 +61,12 @@ digits-at-spec =
     shared-slice-read-b
     digit-requires
     returns
-    push-requires
+    further-digits-requires
+    returns-2
+    mul-v
+    cast-v
+    add-v
     add-i
     loop-less
     loop-again
-    returns-2)
+    returns-3)

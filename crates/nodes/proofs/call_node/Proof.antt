@@ -5,87 +5,58 @@ use Rattle.nodes.specs.NodeLaws.{call-to}
 use borrow.Author.Needs.{needs}
 use Rattle.nodes.proofs.call_node.Statement.{statement}
 use Rattle.nodes.proofs.call_node.Tie as tie
-use Rattle.nodes.proofs.call_node.Reads as reads
-use Rattle.nodes.proofs.call_node.Lts as lts
-use Rattle.fields.proofs.args_fault.Reads as args-fault-reads
-use Rattle.fields.proofs.number_fault.Reads as number-fault-reads
-use Rattle.nodes.proofs.targets_end.Reads as targets-end-reads
-use Rattle.nodes.proofs.to_fault.Reads as to-fault-reads
-use Rattle.lists.proofs.arguments_field.Reads as arguments-field-reads
-use Rattle.scan.proofs.number_field.Reads as number-field-reads
 
--- src/lib.rt:434:50
 slice-aggregate-number-field : tie.Need-slice-aggregate-number-field
 slice-aggregate-number-field c = search needs
 
--- src/lib.rt:434:9
 number-field-requires : tie.Need-number-field-requires
 number-field-requires c κs = search (needs, number-within, args-within)
 
--- src/lib.rt:435:26
 enum-known-callee-field : tie.Need-enum-known-callee-field
 enum-known-callee-field c = search needs
 
--- src/lib.rt:436:26
 enum-told : tie.Need-enum-told
 enum-told c = search needs
 
--- src/lib.rt:436:26
 number-fault-requires : tie.Need-number-fault-requires
 number-fault-requires c κs = search needs
 
--- src/lib.rt:436:9
 returns : tie.Need-returns
 unfolding nodeOf
 returns c = search (needs, number-next, number-stop)
 
--- src/lib.rt:438:9
 arguments-field-requires : tie.Need-arguments-field-requires
 arguments-field-requires c κs = search (needs, number-within, args-within)
 
--- src/lib.rt:439:27
 enum-known-list : tie.Need-enum-known-list
 enum-known-list c = search needs
 
--- src/lib.rt:440:26
 enum-told-2 : tie.Need-enum-told-2
 enum-told-2 c = search needs
 
--- src/lib.rt:440:26
 args-fault-requires : tie.Need-args-fault-requires
 args-fault-requires c κs = search needs
 
--- src/lib.rt:440:9
 returns-2 : tie.Need-returns-2
 unfolding nodeOf
 returns-2 c = search (needs, number-next, number-stop, args-next, args-stop)
 
--- src/lib.rt:442:34
-slice-aggregate-targets-end : tie.Need-slice-aggregate-targets-end
-slice-aggregate-targets-end c = search needs
-
--- src/lib.rt:442:9
 targets-end-requires : tie.Need-targets-end-requires
 targets-end-requires c κs = search (needs, number-within, args-within)
 
--- src/lib.rt:443:16
 enum-known-last : tie.Need-enum-known-last
 enum-known-last c = search needs
 
--- src/lib.rt:444:26
 enum-told-3 : tie.Need-enum-told-3
 enum-told-3 c = search needs
 
--- src/lib.rt:444:26
 to-fault-requires : tie.Need-to-fault-requires
 to-fault-requires c κs = search needs
 
--- src/lib.rt:444:9
 returns-3 : tie.Need-returns-3
 unfolding nodeOf
 returns-3 c = search (needs, number-next, number-stop, args-next, args-stop, last-stop)
 
--- src/lib.rt:430:1
 returns-4 : tie.Need-returns-4
 unfolding nodeOf
 returns-4 c = search (needs, number-next, args-next, last-got, call-to)
@@ -105,7 +76,6 @@ call-node-spec =
     enum-told-2
     args-fault-requires
     returns-2
-    slice-aggregate-targets-end
     targets-end-requires
     enum-known-last
     enum-told-3

@@ -3,162 +3,112 @@ use native.Mathlib.Omega.{arith}
 use borrow.Author.Needs.{needs}
 use Rattle.nodes.proofs.node_body.Statement.{statement}
 use Rattle.nodes.proofs.node_body.Tie as tie
-use Rattle.nodes.proofs.node_body.Reads as reads
-use Rattle.nodes.proofs.node_body.Lts as lts
-use Rattle.nodes.proofs.assert_node.Reads as assert-node-reads
-use Rattle.nodes.proofs.call_node.Reads as call-node-reads
-use Rattle.nodes.proofs.out_node.Reads as out-node-reads
-use Rattle.nodes.proofs.read_node.Reads as read-node-reads
-use Rattle.nodes.proofs.recv_node.Reads as recv-node-reads
-use Rattle.nodes.proofs.return_node.Reads as return-node-reads
-use Rattle.nodes.proofs.send_node.Reads as send-node-reads
-use Rattle.nodes.proofs.set_node.Reads as set-node-reads
-use Rattle.nodes.proofs.signal_node.Reads as signal-node-reads
-use Rattle.nodes.proofs.start_node.Reads as start-node-reads
-use Rattle.nodes.proofs.test_node.Reads as test-node-reads
-use Rattle.nodes.proofs.wait_node.Reads as wait-node-reads
 
--- src/lib.rt:564:30
 enum-told : tie.Need-enum-told
 enum-told c = search needs
 
--- src/lib.rt:564:30
 start-node-requires : tie.Need-start-node-requires
 start-node-requires c κs = search needs
 
--- src/lib.rt:565:28
 enum-told-2 : tie.Need-enum-told-2
 enum-told-2 c = search needs
 
--- src/lib.rt:565:28
 set-node-requires : tie.Need-set-node-requires
 set-node-requires c κs = search needs
 
--- src/lib.rt:566:29
 enum-told-3 : tie.Need-enum-told-3
 enum-told-3 c = search needs
 
--- src/lib.rt:566:29
 test-node-requires : tie.Need-test-node-requires
 test-node-requires c κs = search needs
 
--- src/lib.rt:567:29
 enum-told-4 : tie.Need-enum-told-4
 enum-told-4 c = search needs
 
--- src/lib.rt:567:29
 read-node-requires : tie.Need-read-node-requires
 read-node-requires c κs = search needs
 
--- src/lib.rt:568:29
 enum-told-5 : tie.Need-enum-told-5
 enum-told-5 c = search needs
 
--- src/lib.rt:568:29
 call-node-requires : tie.Need-call-node-requires
 call-node-requires c κs = search needs
 
--- src/lib.rt:569:29
 enum-told-6 : tie.Need-enum-told-6
 enum-told-6 c = search needs
 
--- src/lib.rt:569:29
 wait-node-requires : tie.Need-wait-node-requires
 wait-node-requires c κs = search needs
 
--- src/lib.rt:570:31
 enum-told-7 : tie.Need-enum-told-7
 enum-told-7 c = search needs
 
--- src/lib.rt:570:31
 signal-node-requires : tie.Need-signal-node-requires
 signal-node-requires c κs = search needs
 
--- src/lib.rt:571:29
 enum-told-8 : tie.Need-enum-told-8
 enum-told-8 c = search needs
 
--- src/lib.rt:571:29
 send-node-requires : tie.Need-send-node-requires
 send-node-requires c κs = search needs
 
--- src/lib.rt:572:29
 enum-told-9 : tie.Need-enum-told-9
 enum-told-9 c = search needs
 
--- src/lib.rt:572:29
 recv-node-requires : tie.Need-recv-node-requires
 recv-node-requires c κs = search needs
 
--- src/lib.rt:573:31
 enum-told-10 : tie.Need-enum-told-10
 enum-told-10 c = search needs
 
--- src/lib.rt:573:31
 assert-node-requires : tie.Need-assert-node-requires
 assert-node-requires c κs = search needs
 
--- src/lib.rt:574:28
 enum-told-11 : tie.Need-enum-told-11
 enum-told-11 c = search needs
 
--- src/lib.rt:574:28
 out-node-requires : tie.Need-out-node-requires
 out-node-requires c κs = search needs
 
--- src/lib.rt:575:31
 enum-told-12 : tie.Need-enum-told-12
 enum-told-12 c = search needs
 
--- src/lib.rt:575:31
 return-node-requires : tie.Need-return-node-requires
 return-node-requires c κs = search needs
 
--- src/lib.rt:559:1
 returns : tie.Need-returns
 returns c = search (needs, body-of)
 
--- src/lib.rt:559:1
 returns-2 : tie.Need-returns-2
 returns-2 c = search (needs, body-of)
 
--- src/lib.rt:559:1
 returns-3 : tie.Need-returns-3
 returns-3 c = search (needs, body-of)
 
--- src/lib.rt:559:1
 returns-4 : tie.Need-returns-4
 returns-4 c = search (needs, body-of)
 
--- src/lib.rt:559:1
 returns-5 : tie.Need-returns-5
 returns-5 c = search (needs, body-of)
 
--- src/lib.rt:559:1
 returns-6 : tie.Need-returns-6
 returns-6 c = search (needs, body-of)
 
--- src/lib.rt:559:1
 returns-7 : tie.Need-returns-7
 returns-7 c = search (needs, body-of)
 
--- src/lib.rt:559:1
 returns-8 : tie.Need-returns-8
 returns-8 c = search (needs, body-of)
 
--- src/lib.rt:559:1
 returns-9 : tie.Need-returns-9
 returns-9 c = search (needs, body-of)
 
--- src/lib.rt:559:1
 returns-10 : tie.Need-returns-10
 returns-10 c = search (needs, body-of)
 
--- src/lib.rt:559:1
 returns-11 : tie.Need-returns-11
 returns-11 c = search (needs, body-of)
 
--- src/lib.rt:559:1
 returns-12 : tie.Need-returns-12
 returns-12 c = search (needs, body-of)
 

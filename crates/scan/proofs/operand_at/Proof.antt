@@ -1,4 +1,4 @@
-use Rattle.scan.specs.OperandLaws.{operand-none, from-within, by-is, by-bad, by-over}
+use Rattle.scan.specs.OperandLaws.{operand-none, operand-named, from-within, by-is, by-bad, by-over}
 use borrow.Author.Needs.{needs}
 use Rattle.scan.proofs.operand_at.Statement.{statement}
 use Rattle.scan.proofs.operand_at.Tie as tie
@@ -8,6 +8,15 @@ returns c = search (needs, operand-none)
 
 shared-slice-read-b : tie.Need-shared-slice-read-b
 shared-slice-read-b c = search needs
+
+add-variable-operand : tie.Need-add-variable-operand
+add-variable-operand c = search needs
+
+variable-operand-requires : tie.Need-variable-operand-requires
+variable-operand-requires c κs = search needs
+
+returns-2 : tie.Need-returns-2
+returns-2 c = search (needs, operand-named)
 
 digits-from-requires : tie.Need-digits-from-requires
 digits-from-requires c κs = search needs
@@ -27,14 +36,14 @@ enum-told c = search needs
 enum-told-2 : tie.Need-enum-told-2
 enum-told-2 c = search needs
 
-returns-2 : tie.Need-returns-2
-returns-2 c = search (needs, by-is)
-
 returns-3 : tie.Need-returns-3
-returns-3 c = search (needs, by-bad)
+returns-3 c = search (needs, by-is)
 
 returns-4 : tie.Need-returns-4
-returns-4 c = search (needs, by-over)
+returns-4 c = search (needs, by-bad)
+
+returns-5 : tie.Need-returns-5
+returns-5 c = search (needs, by-over)
 
 pub operand-at-spec : {M : Type 1} → statement M
 operand-at-spec =
@@ -42,12 +51,15 @@ operand-at-spec =
     (tie.spec
     returns
     shared-slice-read-b
+    add-variable-operand
+    variable-operand-requires
+    returns-2
     digits-from-requires
     numeral-at-requires
     enum-known-x
     any-operand-requires
     enum-told
     enum-told-2
-    returns-2
     returns-3
-    returns-4)
+    returns-4
+    returns-5)

@@ -4,8 +4,8 @@ use borrow.Author.Needs.{needs}
 use Rattle.scan.proofs.operand_field.Statement.{statement}
 use Rattle.scan.proofs.operand_field.Tie as tie
 
-after-requires : tie.Need-after-requires
-after-requires c κs = search needs
+after-name-requires : tie.Need-after-name-requires
+after-name-requires c κs = search needs
 
 enum-known-b : tie.Need-enum-known-b
 enum-known-b c = search needs
@@ -32,7 +32,7 @@ pub operand-field-spec : {M : Type 1} → statement M
 operand-field-spec =
     tie.close
     (tie.spec
-    after-requires
+    after-name-requires
     enum-known-b
     operand-at-requires
     enum-told

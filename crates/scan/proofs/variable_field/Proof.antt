@@ -1,54 +1,46 @@
-use Rattle.scan.specs.PlaceLaws.{token-from, token-to}
-use Rattle.scan.specs.OperandLaws.{variable-stop, variable-step}
+use Rattle.scan.specs.PlaceLaws.{found-within}
+use Rattle.scan.specs.OperandLaws.{variable-found, variable-differs, variable-broken}
 use borrow.Author.Needs.{needs}
 use Rattle.scan.proofs.variable_field.Statement.{statement}
 use Rattle.scan.proofs.variable_field.Tie as tie
 
-slice-aggregate-token-at : tie.Need-slice-aggregate-token-at
-slice-aggregate-token-at c = search needs
+slice-aggregate-after-word : tie.Need-slice-aggregate-after-word
+slice-aggregate-after-word c = search needs
 
-token-at-requires : tie.Need-token-at-requires
-token-at-requires c κs = search needs
+after-word-requires : tie.Need-after-word-requires
+after-word-requires c κs = search needs
 
-enum-known-found : tie.Need-enum-known-found
-enum-known-found c = search needs
+enum-known-b : tie.Need-enum-known-b
+enum-known-b c = search needs
+
+variable-at-requires : tie.Need-variable-at-requires
+variable-at-requires c κs = search (needs, found-within)
 
 enum-told : tie.Need-enum-told
 enum-told c = search needs
 
-refusal-requires : tie.Need-refusal-requires
-refusal-requires c κs = search needs
+enum-told-2 : tie.Need-enum-told-2
+enum-told-2 c = search needs
 
 returns : tie.Need-returns
-returns c = search (needs, variable-stop)
-
-sub-variable-value : tie.Need-sub-variable-value
-sub-variable-value c = search (needs, token-from)
-
-part-variable-value-start : tie.Need-part-variable-value-start
-part-variable-value-start c = search (needs, token-from)
-
-part-variable-value-end : tie.Need-part-variable-value-end
-part-variable-value-end c = search (needs, token-to)
-
-variable-value-requires : tie.Need-variable-value-requires
-variable-value-requires c κs = search needs
+returns c = search (needs, variable-found)
 
 returns-2 : tie.Need-returns-2
-returns-2 c = search (needs, variable-step)
+returns-2 c = search (needs, variable-differs)
+
+returns-3 : tie.Need-returns-3
+returns-3 c = search (needs, variable-broken)
 
 pub variable-field-spec : {M : Type 1} → statement M
 variable-field-spec =
     tie.close
     (tie.spec
-    slice-aggregate-token-at
-    token-at-requires
-    enum-known-found
+    slice-aggregate-after-word
+    after-word-requires
+    enum-known-b
+    variable-at-requires
     enum-told
-    refusal-requires
+    enum-told-2
     returns
-    sub-variable-value
-    part-variable-value-start
-    part-variable-value-end
-    variable-value-requires
-    returns-2)
+    returns-2
+    returns-3)
