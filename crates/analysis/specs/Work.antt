@@ -10,8 +10,7 @@ use lib.ListN.{length, set, replicate, length-set, length-replicate}
 use lib.Seq.{getD-set-same, getD-set-other, set-getD}
 use lib.Bits.{bitOr, or-lt}
 use lib.Pow.{pow-lt}
-use lib.Dec.{eqb, ltb}
-use borrow.Author.Tests.{eqb-true, eqb-false}
+use lib.Dec.{ltb}
 use Rattle.table.specs.Mask.{pick, bit}
 use Rattle.table.specs.Table.{procAt, nodeAt, nodeIn}
 use Rattle.table.specs.declared.Node.{Node}

@@ -1,5 +1,5 @@
 -- The cells say exactly where each node leads, once no node that is not kept has anything to get from its targets.
-use Prim.Native.Nat.{ℕ, _+_, _*_, _-_, _^_, _<_, _≤_}
+use Prim.Native.Nat.{ℕ, _+_, _*_, _-_, _^_, _<_}
 use native.Mathlib.Omega.{arith}
 use native.Mathlib.Nat.{lt-of-le-of-lt, lt-trans, pow-suc, one-mul}
 use mathlib.Core.Path.{_≡_, refl, sym, _∙_, ap, subst}
