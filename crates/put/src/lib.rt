@@ -88,16 +88,21 @@ pub fn fill_small(out: &mut [u8], at: usize, n: u8) -> usize
     fill_byte(out, b, 48 + n % 10)
 }
 
+// The same, clipped byte by byte: it is short enough to be compiled into the lines that use it.
 pub fn put_small(out: &mut [u8], at: usize, n: u8) -> usize
     requires { ⌜ DigitsAt at ⌝ }
     ensures { λ r. ⌜ Put 3 (now (out .entry)) at (digits n) (now (out .exit)) r ⌝ }
 {
-    if at + 3 <= out.len() {
-        return fill_small(out, at, n);
+    if n < 10 {
+        return put_byte(out, at, 48 + n);
     }
-    let mut t = [0u8; 3];
-    let k = fill_small(&mut t, 0, n);
-    put_text(out, at, &t[..k])
+    if n < 100 {
+        let a = put_byte(out, at, 48 + n / 10);
+        return put_byte(out, a, 48 + n % 10);
+    }
+    let a = put_byte(out, at, 48 + n / 100);
+    let b = put_byte(out, a, 48 + n / 10 % 10);
+    put_byte(out, b, 48 + n % 10)
 }
 
 // The last two digits of a number, zeros among them.
