@@ -1,5 +1,5 @@
-// Writing values into a lent buffer. Each function writes at a place, as far as the buffer reaches, and gives the place after what it
-// wrote: on an empty buffer it measures.
+// Writing values into a lent buffer at a place. Each function gives the place after what it wrote. Those named put write as far as the
+// buffer reaches: on an empty buffer they measure. Those named fill ask for room, and check nothing.
 
 use table::Args;
 use table::Op;
@@ -26,7 +26,6 @@ pub fn put_byte(out: &mut [u8], at: usize, b: u8) -> usize
     at + 1
 }
 
-// Writes t where the buffer has room for it, as every function named fill does.
 pub fn fill_text(out: &mut [u8], at: usize, t: &[u8]) -> usize
     requires { ⌜ at + length (now t) ≤ length (now out) ⌝ }
     ensures { λ r. ⌜ Put (length (now (t .entry))) (now (out .entry)) at (now (t .entry)) (now (out .exit)) r ⌝ }
