@@ -1,5 +1,5 @@
-// Writing each line of a table's text into a lent buffer. Each function writes at a place, as far as the buffer reaches, and gives the
-// place after what it wrote: on an empty buffer it measures.
+// Writing each line of a table's text into a lent buffer at a place. Each function gives the place after what it wrote. Those named put
+// write as far as the buffer reaches: on an empty buffer they measure. Those named fill ask for room, and check nothing.
 
 use put::fill_args;
 use put::fill_byte;

@@ -1,5 +1,5 @@
-// Writing values into a lent buffer. Each function writes at a place, as far as the buffer reaches, and gives the place after what it
-// wrote: on an empty buffer it measures.
+// Writing values into a lent buffer at a place. Each function gives the place after what it wrote. Those named put write as far as the
+// buffer reaches: on an empty buffer they measure. Those named fill ask for room, and check nothing.
 
 use table::Args;
 use table::Op;
@@ -26,7 +26,6 @@ pub fn put_byte(out: &mut [u8], at: usize, b: u8) -> usize
     at + 1
 }
 
-// Writes t where the buffer has room for it, as every function named fill does.
 pub fn fill_text(out: &mut [u8], at: usize, t: &[u8]) -> usize
     requires { ⌜ at + length (now t) ≤ length (now out) ⌝ }
     ensures { λ r. ⌜ Put (length (now (t .entry))) (now (out .entry)) at (now (t .entry)) (now (out .exit)) r ⌝ }
@@ -88,16 +87,21 @@ pub fn fill_small(out: &mut [u8], at: usize, n: u8) -> usize
     fill_byte(out, b, 48 + n % 10)
 }
 
+// The same, clipped byte by byte: it is short enough to be compiled into the lines that use it.
 pub fn put_small(out: &mut [u8], at: usize, n: u8) -> usize
     requires { ⌜ DigitsAt at ⌝ }
     ensures { λ r. ⌜ Put 3 (now (out .entry)) at (digits n) (now (out .exit)) r ⌝ }
 {
-    if at + 3 <= out.len() {
-        return fill_small(out, at, n);
+    if n < 10 {
+        return put_byte(out, at, 48 + n);
     }
-    let mut t = [0u8; 3];
-    let k = fill_small(&mut t, 0, n);
-    put_text(out, at, &t[..k])
+    if n < 100 {
+        let a = put_byte(out, at, 48 + n / 10);
+        return put_byte(out, a, 48 + n % 10);
+    }
+    let a = put_byte(out, at, 48 + n / 100);
+    let b = put_byte(out, a, 48 + n / 10 % 10);
+    put_byte(out, b, 48 + n % 10)
 }
 
 // The last two digits of a number, zeros among them.
