@@ -195,8 +195,14 @@ module _ {c : Judged} {s : List ℕ} {at line : ℕ} {r : Line} (m : NodeAt c 0 
       let e : k ≡ line = node-line m q in
       rw (d, q, e) (record { same = rw (node-refused m q); within = tt; lines = omega arith })
 
-  pub closed-go : {x : Node} {j e : ℕ} → r ≡ IsNode x j e → {y : Slots} → FurtherAt c (set noSlots 0 (record { node = x })) s e (line + 1) y → SlotsAt c true s at line y
-  closed-go q u = record { same = rw (node-took m q, ← add-one line) (u .same); within = u .within; lines = omega (arith, u .lines) }
+  pub closed-index : {x : Node} {j e : ℕ} → r ≡ IsNode x j e → j < 32
+  closed-index q = omega (arith, node-below m q)
+
+  pub closed-go : {x : Node} {j e : ℕ} → r ≡ IsNode x j e → {y : Slots} → FurtherAt c (set noSlots j (record { node = x })) s e (line + 1) y → SlotsAt c true s at line y
+  closed-go {x} {j} q u =
+      let z : j ≡ 0 = omega (arith, node-below m q) in
+      let v = rw z at (u .same) in
+      record { same = rw (node-took m q, ← add-one line) v; within = u .within; lines = omega (arith, u .lines) }
 
 pub nodes-form : {c : Judged} {closed b : Bool} {s : List ℕ} {at line : ℕ} {r : Slots} → closed ≡ b → SlotsAt c b s at line r → SlotsAt c closed s at line r
 nodes-form q u = rw q u

@@ -136,10 +136,11 @@ fn closed_nodes(s: &[u8], at: usize, line: usize, c: nodes::Scope) -> Slots
     };
     let mut slots = [none; 32];
     let row = line_reader::next_node(s, at, line, c, 0, 1);
-    let nodes::Line::Node(node, _, e) = row else {
+    let nodes::Line::Node(node, j, e) = row else {
         return stopped(row, slots);
     };
-    slots[0] = table::Slot { node };
+    let k = j as usize;
+    slots[k] = table::Slot { node };
     further_nodes(s, e, line + 1, c, slots)
 }
 
@@ -190,6 +191,15 @@ fn empty_proc() -> table::Proc
     }
 }
 
+// As `empty_proc`, stored into at a computed place: procedures are then copied in one piece and not slot by slot.
+fn blank_proc(k: usize) -> table::Proc {
+    let mut q = empty_proc();
+    let none = q.slots[0];
+    let i = k % 32;
+    q.slots[i] = none;
+    q
+}
+
 fn proc_fault(head: records::ProcLine) -> text::Fault
     ensures { λ r. ⌜ r ≡ procFault head ⌝ }
 {
@@ -216,7 +226,7 @@ fn proc_row(
         return ProcRow {
             end: rows::End::Refused(proc_fault(head)),
             line,
-            proc: empty_proc(),
+            proc: blank_proc(at),
         };
     };
     let c = nodes::Scope {
