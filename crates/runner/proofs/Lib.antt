@@ -1,3 +1,4 @@
 pub mod Walks
 pub mod Runs
 pub mod Turns
+pub mod Stores

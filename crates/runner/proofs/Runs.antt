@@ -23,12 +23,12 @@ use Rattle.machine.specs.declared.State.{State}
 use Rattle.machine.specs.declared.Running.{Running}
 use Rattle.machine.specs.State.{noFrame, openFrames, isLost, place, frameAt, topmost, semCount, entriesAt, varAt, standsBefore, firstState, Begun, begun, blockedAt, blocked}
 use Rattle.machine.specs.State as First
-use Rattle.machine.specs.Step.{Stop, noTask, logFull, taskLost, taskBlocked, stopNumber, Memory, assign, appended, oldest, shortened, Did, stops, goes, exec, keptIn, Walk, halts, arrives, onward, walk, Flow, flow, Entry, shown, Step, stopped, stepped, landed, settled, entering, called, closed, memory, flowed, entryOf, stepOf, before, step}
+use Rattle.machine.specs.Step.{Stop, noTask, logFull, taskLost, taskBlocked, stopNumber, Memory, valueOf, assign, appended, oldest, shortened, Did, stops, goes, exec, keptIn, Walk, halts, arrives, onward, walk, Flow, flow, Entry, shown, Step, stopped, stepped, landed, settled, entering, called, closed, memory, flowed, entryOf, stepOf, before, step}
 use Rattle.machine.specs.Run.{word, flagged, entryBytes, Ran, ended, turn, afterStep, runFrom, runBegun}
-use Rattle.steps.specs.Cut.{stopOf, goesTo, haltsAt, readAt, stuckOf, showing, shownOf, actOf, sidesOf, queueAfter}
+use Rattle.steps.specs.Cut.{stopOf, Within, goesTo, haltsAt, showsTo, readAt, stuckOf, actOf, backOf, semsAfter, lensAfter, itemsAfter, flagOf, bitsOf}
 use Rattle.steps.specs.declared.Acted.{Acted}
-use Rattle.steps.specs.declared.Sides.{Sides}
-use Rattle.steps.specs.declared.Shown.{Shown}
+use Rattle.columns.specs.Columns.{queuesOf}
+use Rattle.columns.specs.ColumnLaws.{queue-at, queue-set}
 use Rattle.runner.proofs.Walks.{Met, halted, arrived, met, withVars, didOf, read-did}
 
 pub true-false : _≡_ {A = Bool} true false → ⊥
@@ -36,22 +36,25 @@ true-false e = let y : _≡_ {A = ℕ} 0 1 = cc in omega arith
 
 -- ---- blocked
 
-pub stuck-is : (t : Table) (s : State) (k : ℕ) (x : Node)
-    → blockedAt t s k x ≡ stuckOf x (openFrames s k) (semCount (s .sems) (sidesOf x .sem)) (entriesAt (s .queues) (sidesOf x .queue) .len) (queueAt t (sidesOf x .queue) .cap)
-unfolding blockedAt stuckOf sidesOf
-stuck-is t s k Absent = refl
-stuck-is t s k (Start to) = refl
-stuck-is t s k (Set v o a b to) = refl
-stuck-is t s k (Test o a b y n) = refl
-stuck-is t s k (Read v to) = refl
-stuck-is t s k (Call q xs to) = refl
-stuck-is t s k (Wait i to) = refl
-stuck-is t s k (Signal i to) = refl
-stuck-is t s k (Send q v to) = refl
-stuck-is t s k (Recv q v to) = refl
-stuck-is t s k (Assert v to) = refl
-stuck-is t s k (Out v to) = refl
-stuck-is t s k Return = refl
+module _ (t : Table) (s : State) (k : ℕ) (ls : List ℕ) (is : List (List ℤ)) (cs : List ℕ) (queued : s .queues ≡ queuesOf ls is) (even : length ls ≡ length is) (caps : (q : ℕ) → q < 8 → getD cs q 0 ≡ queueAt t q .cap) where
+  len-is : (q : ℕ) → entriesAt (s .queues) q .len ≡ getD ls q 0
+  len-is q = ap (λ (l : List Entries). entriesAt l q .len) queued ∙ ap (λ (e : Entries). e .len) (queue-at ls is q even)
+
+  pub stuck-is : (x : Node) → Within x → blockedAt t s k x ≡ stuckOf x (openFrames s k) (s .sems) ls cs
+  unfolding blockedAt stuckOf
+  stuck-is Absent w = refl
+  stuck-is (Start to) w = refl
+  stuck-is (Set v o a b to) w = refl
+  stuck-is (Test o a b y n) w = refl
+  stuck-is (Read v to) w = refl
+  stuck-is (Call q xs to) w = refl
+  stuck-is (Wait i to) w = refl
+  stuck-is (Signal i to) w = refl
+  stuck-is (Send q v to) w = let c = sym (caps q w) in λ i. leb (c i) (len-is q i)
+  stuck-is (Recv q v to) w = λ i. eqb (len-is q i) 0
+  stuck-is (Assert v to) w = refl
+  stuck-is (Out v to) w = refl
+  stuck-is Return w = refl
 
 -- ---- the kept node executed; y is the node of the frame that goes on
 
@@ -70,109 +73,116 @@ doing (Assert v to) y m vs = exec (Assert v to) m vs
 doing (Out v to) y m vs = exec (Out v to) m vs
 doing Return y m vs = goes (arcTo y) m vs
 
-abbrev pub storedIn : Memory → Sides → Acted → Memory
-storedIn m v r = record {
+-- after it, the queues being columns
+abbrev pub storedIn : Memory → List ℕ → List (List ℤ) → Acted → Memory
+storedIn m ls is r = record {
   vars = set (m .vars) (r .var) (r .value);
-  sems = set (m .sems) (v .sem) (r .count);
-  queues = set (m .queues) (v .queue) (queueAfter (entriesAt (m .queues) (v .queue)) (v .how) (r .value));
+  sems = semsAfter (m .sems) (r .how) (r .at) (r .count);
+  queues = queuesOf (lensAfter ls (r .how) (r .at) (r .count)) (itemsAfter is ls (r .how) (r .at) (r .value));
 }
 
-abbrev pub didIn : List ℤ → Memory → Sides → Acted → Did
-didIn vs m v r = pick (eqb (r .stop) 0) (goes (r .arc) (storedIn m v r) (drop (r .used) vs)) (stops (stopOf (r .stop)))
+abbrev pub didIn : List ℤ → Memory → List ℕ → List (List ℤ) → Acted → Did
+didIn vs m ls is r = pick (eqb (r .stop) 0) (goes (r .arc) (storedIn m ls is r) (drop (r .used) vs)) (stops (stopOf (r .stop)))
 
-abbrev pub actIn : Node → Node → Memory → List ℤ → ℕ → Acted
-actIn x y m vs used = actOf x (arcTo y) (m .vars) (semCount (m .sems) (sidesOf x .sem)) (oldest (entriesAt (m .queues) (sidesOf x .queue))) vs used
-
-module _ (m : Memory) (long : length (m .vars) ≡ 16) where
+module _ (m : Memory) (long : length (m .vars) ≡ 16) (ls : List ℕ) (is : List (List ℤ)) (queued : m .queues ≡ queuesOf ls is) (even : length ls ≡ length is) (vs : List ℤ) (used : ℕ) where
   same-vars : (x : ℤ) → m .vars ≡ set (m .vars) 255 x
   same-vars x = sym (set-out (m .vars) 255 x (omega arith))
-
-  same-sems : m .sems ≡ set (m .sems) 0 (semCount (m .sems) 0)
-  same-sems = sym (set-getD (m .sems) 0 0)
-
-  same-queues : m .queues ≡ set (m .queues) 0 (entriesAt (m .queues) 0)
-  same-queues = sym (set-getD (m .queues) 0 (record { len = 0; items = [] }))
 
   abbrev parts : List ℤ → List ℕ → List Entries → Memory
   parts a b c = record { vars = a; sems = b; queues = c }
 
-  module _ (vs : List ℤ) (used d cap : ℕ) (few : cap ≤ 8) where
-    abbrev free : Node → Type 0
-    free x = stuckOf x d (semCount (m .sems) (sidesOf x .sem)) (entriesAt (m .queues) (sidesOf x .queue) .len) cap ≡ false
+  -- a node that leaves all but its variables
+  plain : (to v : ℕ) (x : ℤ) (u : ℕ) → goes to (assign v x m) (drop u vs) ≡ goes to (parts (set (m .vars) v x) (m .sems) (queuesOf ls is)) (drop u vs)
+  plain to v x u = λ i. goes to (parts (set (m .vars) v x) (m .sems) (queued i)) (drop u vs)
 
-    -- a node that leaves all but its variables
-    plain : (to v : ℕ) (x : ℤ) (u : ℕ) → goes to (assign v x m) (drop u vs) ≡ goes to (parts (set (m .vars) v x) (set (m .sems) 0 (semCount (m .sems) 0)) (set (m .queues) 0 (entriesAt (m .queues) 0))) (drop u vs)
-    plain to v x u = λ i. goes to (parts (set (m .vars) v x) (same-sems i) (same-queues i)) (drop u vs)
+  none-set : (to : ℕ) (x : ℤ) → goes to m (drop used vs) ≡ goes to (parts (set (m .vars) 255 x) (m .sems) (queuesOf ls is)) (drop used vs)
+  none-set to x = λ i. goes to (parts (same-vars x i) (m .sems) (queued i)) (drop used vs)
 
-    none-set : (to : ℕ) → goes to m (drop used vs) ≡ goes to (parts (set (m .vars) 255 (pos 0)) (set (m .sems) 0 (semCount (m .sems) 0)) (set (m .queues) 0 (entriesAt (m .queues) 0))) (drop used vs)
-    none-set to = λ i. goes to (parts (same-vars (pos 0) i) (same-sems i) (same-queues i)) (drop used vs)
+  entries-is : (q : ℕ) → entriesAt (m .queues) q ≡ record { len = getD ls q 0; items = getD is q [] }
+  entries-is q = ap (λ (l : List Entries). entriesAt l q) queued ∙ queue-at ls is q even
 
-    pub doing-is : (x y : Node) → free x → doing x y m (drop used vs) ≡ didIn vs m (sidesOf x) (actIn x y m vs used)
-    unfolding doing exec actOf sidesOf stuckOf
-    doing-is Absent y f = none-set 0
-    doing-is (Start to) y f = none-set to
-    doing-is (Set v o a b to) y f = plain to v _ used
-    doing-is (Test o a b i j) y f = none-set _
-    doing-is (Read v to) y f = read-did v to (semCount (m .sems) 0) m vs used ∙ go (leb (length vs) used)
-      where
-        go : (b : Bool) → didOf vs m (pick b (haltsAt 15 used (semCount (m .sems) 0)) (goesTo v (getD vs used (pos 0)) (used + 1) to (semCount (m .sems) 0)))
-            ≡ didIn vs m (record { sem = 0; queue = 0; how = 0; back = 0; few = false }) (pick b (haltsAt 15 used (semCount (m .sems) 0)) (goesTo v (getD vs used (pos 0)) (used + 1) to (semCount (m .sems) 0)))
-        go true = refl
-        go false = plain to v (getD vs used (pos 0)) (used + 1)
-    doing-is (Call q xs to) y f = none-set 0
-    doing-is (Wait i to) y f = λ j. goes to (parts (same-vars (pos 0) j) (set (m .sems) i (semCount (m .sems) i - 1)) (same-queues j)) (drop used vs)
-    doing-is (Signal i to) y f = λ j. goes to (parts (same-vars (pos 0) j) (set (m .sems) i (semCount (m .sems) i + 1)) (same-queues j)) (drop used vs)
-    doing-is (Send q v to) y f =
-        let b = entriesAt (m .queues) q in
-        let x = varAt (m .vars) v in
-        let e : appended x b ≡ queueAfter b 1 x = rw (lt-ltb (b .len) 8 (omega (arith, leb-false cap (b .len) f))) refl in
-        λ j. goes to (parts (same-vars x j) (same-sems j) (set (m .queues) q (e j))) (drop used vs)
-    doing-is (Recv q v to) y f = λ j. goes to (parts (set (m .vars) v (oldest (entriesAt (m .queues) q))) (same-sems j) (set (m .queues) q (shortened (entriesAt (m .queues) q)))) (drop used vs)
-    doing-is (Assert v to) y f = none-set to
-    doing-is (Out v to) y f = none-set to
-    doing-is Return y f = none-set (arcTo y)
+  -- a queue changed
+  requeued : (f : Entries → Entries) (q : ℕ) → let e = f (record { len = getD ls q 0; items = getD is q [] }) in set (m .queues) q (f (entriesAt (m .queues) q)) ≡ queuesOf (set ls q (e .len)) (set is q (e .items))
+  requeued f q =
+      (λ i. set (queued i) q (f (entries-is q i))) ∙
+      sym (queue-set ls is q (f (record { len = getD ls q 0; items = getD is q [] }) .len) (f (record { len = getD ls q 0; items = getD is q [] }) .items))
+
+  shows : (to : ℕ) (o : Option ℤ) → goes to m (drop used vs) ≡ didIn vs m ls is (showsTo used to o)
+  shows to none = none-set to (pos 0)
+  shows to (some x) = none-set to x
+
+  pub doing-is : (x y : Node) → doing x y m (drop used vs) ≡ didIn vs m ls is (actOf x (arcTo y) (m .vars) (m .sems) ls is vs used)
+  unfolding doing exec actOf
+  doing-is Absent y = none-set 0 (pos 0)
+  doing-is (Start to) y = none-set to (pos 0)
+  doing-is (Set v o a b to) y = plain to v _ used
+  doing-is (Test o a b i j) y = none-set _ (pos 0)
+  doing-is (Read v to) y = read-did v to m vs used ∙ go (leb (length vs) used)
+    where
+      go : (b : Bool) → didOf vs m (pick b (haltsAt 15 used) (goesTo v (getD vs used (pos 0)) (used + 1) to)) ≡ didIn vs m ls is (pick b (haltsAt 15 used) (goesTo v (getD vs used (pos 0)) (used + 1) to))
+      go true = refl
+      go false = plain to v (getD vs used (pos 0)) (used + 1)
+  doing-is (Call q xs to) y = none-set 0 (pos 0)
+  doing-is (Wait i to) y = λ j. goes to (parts (same-vars (pos 0) j) (set (m .sems) i (semCount (m .sems) i - 1)) (queued j)) (drop used vs)
+  doing-is (Signal i to) y = λ j. goes to (parts (same-vars (pos 0) j) (set (m .sems) i (semCount (m .sems) i + 1)) (queued j)) (drop used vs)
+  doing-is (Send q v to) y =
+      let x = varAt (m .vars) v in
+      let e = requeued (appended x) q in
+      λ j. goes to (parts (same-vars x j) (m .sems) (e j)) (drop used vs)
+  doing-is (Recv q v to) y =
+      let e = requeued shortened q in
+      let x = ap oldest (entries-is q) in
+      λ j. goes to (parts (set (m .vars) v (x j)) (m .sems) (e j)) (drop used vs)
+  doing-is (Assert v to) y = shows to (valueOf (m .vars) v)
+  doing-is (Out v to) y = shows to (valueOf (m .vars) v)
+  doing-is Return y = none-set (arcTo y) (pos 0)
 
 -- the call's arc matters to a return alone
-pub back-free : (x : Node) (a b : ℕ) (l : List ℤ) (c : ℕ) (y : ℤ) (vs : List ℤ) (used : ℕ) → sidesOf x .back ≡ 0 → actOf x a l c y vs used ≡ actOf x b l c y vs used
-unfolding actOf sidesOf
-back-free Absent a b l c y vs used h = refl
-back-free (Start to) a b l c y vs used h = refl
-back-free (Set v o i j to) a b l c y vs used h = refl
-back-free (Test o i j k n) a b l c y vs used h = refl
-back-free (Read v to) a b l c y vs used h = refl
-back-free (Call q xs to) a b l c y vs used h = refl
-back-free (Wait i to) a b l c y vs used h = refl
-back-free (Signal i to) a b l c y vs used h = refl
-back-free (Send q v to) a b l c y vs used h = refl
-back-free (Recv q v to) a b l c y vs used h = refl
-back-free (Assert v to) a b l c y vs used h = refl
-back-free (Out v to) a b l c y vs used h = refl
-back-free Return a b l c y vs used h = absurd (omega arith)
+pub back-free : (x : Node) (a b : ℕ) (l : List ℤ) (ss ls : List ℕ) (is : List (List ℤ)) (vs : List ℤ) (used : ℕ) → backOf x ≡ 0 → actOf x a l ss ls is vs used ≡ actOf x b l ss ls is vs used
+unfolding actOf backOf
+back-free Absent a b l ss ls is vs used h = refl
+back-free (Start to) a b l ss ls is vs used h = refl
+back-free (Set v o i j to) a b l ss ls is vs used h = refl
+back-free (Test o i j k n) a b l ss ls is vs used h = refl
+back-free (Read v to) a b l ss ls is vs used h = refl
+back-free (Call q xs to) a b l ss ls is vs used h = refl
+back-free (Wait i to) a b l ss ls is vs used h = refl
+back-free (Signal i to) a b l ss ls is vs used h = refl
+back-free (Send q v to) a b l ss ls is vs used h = refl
+back-free (Recv q v to) a b l ss ls is vs used h = refl
+back-free (Assert v to) a b l ss ls is vs used h = refl
+back-free (Out v to) a b l ss ls is vs used h = refl
+back-free Return a b l ss ls is vs used h = absurd (omega arith)
 
 -- what is logged is what the node shows
-pub logged-is : (x : Node) (a : ℕ) (l : List ℤ) (c : ℕ) (y : ℤ) (vs : List ℤ) (used : ℕ) → let r = actOf x a l c y vs used in showing (r .flag) (r .bits) ≡ shownOf (shown l x)
+
+shows-logged : (used to : ℕ) (o : Option ℤ) → let r = showsTo used to o in flagged o ≡ flagOf (r .how) ∷ word (bitsOf (r .how) (r .value))
+shows-logged used to none = refl
+shows-logged used to (some x) = refl
+
+pub logged-is : (x : Node) (a : ℕ) (l : List ℤ) (ss ls : List ℕ) (is : List (List ℤ)) (vs : List ℤ) (used : ℕ) → let r = actOf x a l ss ls is vs used in flagged (shown l x) ≡ flagOf (r .how) ∷ word (bitsOf (r .how) (r .value))
 unfolding actOf shown
-logged-is Absent a l c y vs used = refl
-logged-is (Start to) a l c y vs used = refl
-logged-is (Set v o i j to) a l c y vs used = refl
-logged-is (Test o i j k n) a l c y vs used = refl
-logged-is (Read v to) a l c y vs used = go (leb (length vs) used)
+logged-is Absent a l ss ls is vs used = refl
+logged-is (Start to) a l ss ls is vs used = refl
+logged-is (Set v o i j to) a l ss ls is vs used = refl
+logged-is (Test o i j k n) a l ss ls is vs used = refl
+logged-is (Read v to) a l ss ls is vs used = go (leb (length vs) used)
   where
-    go : (b : Bool) → let r = pick b (haltsAt 15 used c) (goesTo v (getD vs used (pos 0)) (used + 1) to c) in showing (r .flag) (r .bits) ≡ showing 0 0
+    go : (b : Bool) → let r = pick b (haltsAt 15 used) (goesTo v (getD vs used (pos 0)) (used + 1) to) in flagged none ≡ flagOf (r .how) ∷ word (bitsOf (r .how) (r .value))
     go true = refl
     go false = refl
-logged-is (Call q xs to) a l c y vs used = refl
-logged-is (Wait i to) a l c y vs used = refl
-logged-is (Signal i to) a l c y vs used = refl
-logged-is (Send q v to) a l c y vs used = refl
-logged-is (Recv q v to) a l c y vs used = refl
-logged-is (Assert v to) a l c y vs used = refl
-logged-is (Out v to) a l c y vs used = refl
-logged-is Return a l c y vs used = refl
+logged-is (Call q xs to) a l ss ls is vs used = refl
+logged-is (Wait i to) a l ss ls is vs used = refl
+logged-is (Signal i to) a l ss ls is vs used = refl
+logged-is (Send q v to) a l ss ls is vs used = refl
+logged-is (Recv q v to) a l ss ls is vs used = refl
+logged-is (Assert v to) a l ss ls is vs used = shows-logged used to (valueOf l v)
+logged-is (Out v to) a l ss ls is vs used = shows-logged used to (valueOf l v)
+logged-is Return a l ss ls is vs used = refl
 
 -- a return shows nothing
-pub unshown : (x : Node) (l l′ : List ℤ) → (sidesOf x .back ≡ 0 → ⊥) → shown l x ≡ shown l′ x
-unfolding shown sidesOf
+pub unshown : (x : Node) (l l′ : List ℤ) → (backOf x ≡ 0 → ⊥) → shown l x ≡ shown l′ x
+unfolding shown backOf
 unshown Absent l l′ h = refl
 unshown (Start to) l l′ h = refl
 unshown (Set v o i j to) l l′ h = refl
@@ -186,39 +196,6 @@ unshown (Recv q v to) l l′ h = refl
 unshown (Assert v to) l l′ h = absurd (h refl)
 unshown (Out v to) l l′ h = absurd (h refl)
 unshown Return l l′ h = refl
-
--- a node that neither closes a frame nor has a queue
-pub few-back : (x : Node) → sidesOf x .few ≡ false → sidesOf x .back ≡ 0
-unfolding sidesOf
-few-back Absent h = refl
-few-back (Start to) h = refl
-few-back (Set v o i j to) h = refl
-few-back (Test o i j k n) h = refl
-few-back (Read v to) h = refl
-few-back (Call q xs to) h = refl
-few-back (Wait i to) h = refl
-few-back (Signal i to) h = refl
-few-back (Send q v to) h = refl
-few-back (Recv q v to) h = refl
-few-back (Assert v to) h = refl
-few-back (Out v to) h = refl
-few-back Return h = absurd (true-false h)
-
-pub few-how : (x : Node) → sidesOf x .few ≡ false → sidesOf x .how ≡ 0
-unfolding sidesOf
-few-how Absent h = refl
-few-how (Start to) h = refl
-few-how (Set v o i j to) h = refl
-few-how (Test o i j k n) h = refl
-few-how (Read v to) h = refl
-few-how (Call q xs to) h = refl
-few-how (Wait i to) h = refl
-few-how (Signal i to) h = refl
-few-how (Send q v to) h = absurd (true-false h)
-few-how (Recv q v to) h = absurd (true-false h)
-few-how (Assert v to) h = refl
-few-how (Out v to) h = refl
-few-how Return h = refl
 
 -- ---- a step that is no call
 
@@ -264,8 +241,8 @@ module _ (t : Table) (most : ℕ) (s : State) (k : ℕ) (vs : List ℤ) where
   stay : (x : Node) (j : ℕ) → j + 0 ≡ openFrames s k - 1 → goesOn x 0 (openFrames s k - 1) ≡ goesOn x 0 j
   stay x j b = ap (λ (i : ℕ). goesOn x 0 i) (omega arith)
 
-  flows-on : (x : Node) (j : ℕ) → opens x ≡ false → j + sidesOf x .back ≡ openFrames s k - 1 → flows x ≡ goesOn x (sidesOf x .back) j
-  unfolding flow doing sidesOf opens
+  flows-on : (x : Node) (j : ℕ) → opens x ≡ false → j + backOf x ≡ openFrames s k - 1 → flows x ≡ goesOn x (backOf x) j
+  unfolding flow doing backOf opens
   flows-on Absent j o b = stay Absent j b
   flows-on (Start to) j o b = stay (Start to) j b
   flows-on (Set v c a d to) j o b = stay (Set v c a d to) j b
@@ -280,21 +257,22 @@ module _ (t : Table) (most : ℕ) (s : State) (k : ℕ) (vs : List ℤ) where
   flows-on (Out v to) j o b = stay (Out v to) j b
   flows-on Return j o b = ap (λ (i : ℕ). goesOn Return 1 i) (let h : j + 1 ≡ openFrames s k - 1 = b in omega arith)
 
-  pub step-goes : (x : Node) (j : ℕ) → x ≡ standsBefore t s k → opens x ≡ false → j + sidesOf x .back ≡ openFrames s k - 1 → stepOf t (keptIn t) most s k vs ≡ goesOn x (sidesOf x .back) j
+  pub step-goes : (x : Node) (j : ℕ) → x ≡ standsBefore t s k → opens x ≡ false → j + backOf x ≡ openFrames s k - 1 → stepOf t (keptIn t) most s k vs ≡ goesOn x (backOf x) j
   step-goes x j e o b = step-flows x e ∙ flows-on x j o b
 
 -- ---- the state after it
 
-abbrev pub storedAs : State → ℕ → ℕ → ℕ → ℕ → Frame → Bool → List ℕ → List Entries → State
-storedAs s k f g n fr l ss qs = record {
+-- frame b in the topmost place, then fr in that of the frame that goes on
+abbrev pub storedAs : State → ℕ → ℕ → ℕ → ℕ → Frame → Frame → Bool → List ℕ → List Entries → State
+storedAs s k f g n b fr l ss qs = record {
   depth = set (s .depth) k n;
   lost = set (s .lost) k l;
-  frames = set (set (s .frames) f noFrame) g fr;
+  frames = set (set (s .frames) f b) g fr;
   sems = ss;
   queues = qs;
 }
 
-module _ (s : State) (k f g j back p node : ℕ) (m : Memory) (at-top : f ≡ place k (openFrames s k - 1)) (at-next : g ≡ place k j) (nearer : j + back ≡ openFrames s k - 1) (here : isLost s k ≡ false) where
+module _ (s : State) (k f g j back p node : ℕ) (m : Memory) (at-top : f ≡ place k (openFrames s k - 1)) (at-next : g ≡ place k j) (nearer : j + back ≡ openFrames s k - 1) (here : isLost s k ≡ false) (top : Frame) (blank : (back ≡ 0 → ⊥) → top ≡ noFrame) where
   abbrev kept-depth : List ℕ
   kept-depth = set (s .depth) k (openFrames s k - back)
 
@@ -306,11 +284,11 @@ module _ (s : State) (k f g j back p node : ℕ) (m : Memory) (at-top : f ≡ pl
   depth-is (suc zero) e h = rw e refl
   depth-is (suc (suc b)) e h = absurd (omega arith)
 
-  frames-is : (b n : ℕ) → back ≡ b → b ≤ 1 → set (set (s .frames) f noFrame) g (framed n) ≡ set (closes b s k .frames) (place k j) (framed n)
+  frames-is : (b n : ℕ) → back ≡ b → b ≤ 1 → set (set (s .frames) f top) g (framed n) ≡ set (closes b s k .frames) (place k j) (framed n)
   frames-is zero n e h =
       let z : g ≡ f = omega arith in
-      rw z (set-set (s .frames) f noFrame (framed n) ∙ ap (λ (i : ℕ). set (s .frames) i (framed n)) (omega arith))
-  frames-is (suc b) n e h = rw (at-top, at-next) refl
+      rw z (set-set (s .frames) f top (framed n) ∙ ap (λ (i : ℕ). set (s .frames) i (framed n)) (omega arith))
+  frames-is (suc b) n e h = rw (at-top, at-next, blank (λ z. omega (arith, z, e))) refl
 
   lost-kept : (b : ℕ) → s .lost ≡ closes b s k .lost
   lost-kept zero = refl
@@ -320,15 +298,9 @@ module _ (s : State) (k f g j back p node : ℕ) (m : Memory) (at-top : f ≡ pl
   not-lost = ap (λ (x : Bool). set (s .lost) k x) (sym here) ∙ set-getD (s .lost) k false
 
   pub landed-is : (l : Bool) → back ≤ 1 → pick l node 0 ≡ 0
-      → storedAs s k f g (openFrames s k - back) (framed node) l (m .sems) (m .queues) ≡ landed (closes back s k) k j p (pick l none (some node)) m
-  landed-is true h z = λ i. record { depth = depth-is back refl h i; lost = set (lost-kept back i) k true; frames = (ap (λ (n : ℕ). set (set (s .frames) f noFrame) g (framed n)) z ∙ frames-is back 0 refl h) i; sems = m .sems; queues = m .queues }
+      → storedAs s k f g (openFrames s k - back) top (framed node) l (m .sems) (m .queues) ≡ landed (closes back s k) k j p (pick l none (some node)) m
+  landed-is true h z = λ i. record { depth = depth-is back refl h i; lost = set (lost-kept back i) k true; frames = (ap (λ (n : ℕ). set (set (s .frames) f top) g (framed n)) z ∙ frames-is back 0 refl h) i; sems = m .sems; queues = m .queues }
   landed-is false h z = λ i. record { depth = depth-is back refl h i; lost = (not-lost ∙ lost-kept back) i; frames = frames-is back node refl h i; sems = m .sems; queues = m .queues }
-
--- ---- the log's entry
-
-pub flagged-is : (o : Option ℤ) → flagged o ≡ shownOf o .flag ∷ word (shownOf o .bits)
-flagged-is none = refl
-flagged-is (some x) = refl
 
 -- ---- a run of the rest of a schedule
 

@@ -18,8 +18,8 @@ use Rattle.table.specs.declared.Node.the-variants.{Absent, Start, Set, Test, Re
 use Rattle.table.specs.declared.Table.{Table}
 use Rattle.closing.specs.Dirty.{Fact}
 use Rattle.closing.specs.Closing.{dirty, keptBy, kept}
-use Rattle.machine.specs.Step.{Stop, tooMany, stopNumber, Memory, operandIn, assign, Did, stops, goes, exec, Choice, nowhere, node, bad, choose, keptOf, keptIn, Walk, halts, arrives, along, onward, noting, walk}
-use Rattle.steps.specs.Cut.{stopOf, Named, choiceOf, overIn, Sound, halting, goesTo, haltsAt, readAt, stuckOf, actOf, triedOf, passOf}
+use Rattle.machine.specs.Step.{Stop, tooMany, stopNumber, Memory, operandIn, valueOf, assign, Did, stops, goes, exec, Choice, nowhere, node, bad, choose, keptOf, keptIn, Walk, halts, arrives, along, onward, noting, walk}
+use Rattle.steps.specs.Cut.{stopOf, Named, choiceOf, overIn, Sound, halting, goesTo, haltsAt, showsTo, readAt, stuckOf, actOf, triedOf, passOf}
 use Rattle.steps.specs.declared.Chosen.{Chosen}
 use Rattle.steps.specs.declared.Acted.{Acted}
 use Rattle.starts.specs.Ready.{Ready}
@@ -68,11 +68,11 @@ didOf vs m r = pick (eqb (r .stop) 0) (goes (r .arc) (assign (r .var) (r .value)
 unset : (m : Memory) (x : ℤ) → length (m .vars) ≡ 16 → assign 255 x m ≡ m
 unset m x h = ap (λ (l : List ℤ). withVars m l) (set-out (m .vars) 255 x (omega arith))
 
-pub read-did : (v to c : ℕ) (m : Memory) (vs : List ℤ) (used : ℕ) → exec (Read v to) m (drop used vs) ≡ didOf vs m (readAt v to c vs used)
+pub read-did : (v to : ℕ) (m : Memory) (vs : List ℤ) (used : ℕ) → exec (Read v to) m (drop used vs) ≡ didOf vs m (readAt v to vs used)
 unfolding exec
-read-did v to c m vs used = go (leb (length vs) used) refl
+read-did v to m vs used = go (leb (length vs) used) refl
   where
-    go : (b : Bool) → leb (length vs) used ≡ b → exec (Read v to) m (drop used vs) ≡ didOf vs m (pick b (haltsAt 15 used c) (goesTo v (getD vs used (pos 0)) (used + 1) to c))
+    go : (b : Bool) → leb (length vs) used ≡ b → exec (Read v to) m (drop used vs) ≡ didOf vs m (pick b (haltsAt 15 used) (goesTo v (getD vs used (pos 0)) (used + 1) to))
     go true e = rw (drop-of-length-le vs (leb-true (length vs) used e)) refl
     go false e = let s : used + 1 ≡ suc used = omega arith in rw (drop-cons vs used (pos 0) (leb-false (length vs) used e), s) refl
 
@@ -82,7 +82,7 @@ dropped-did Absent m vs used s h = ap (λ (y : Memory). goes 0 y (drop used vs))
 dropped-did (Start to) m vs used s h = absurd (s refl)
 dropped-did (Set v o a b to) m vs used s h = refl
 dropped-did (Test o a b y n) m vs used s h = ap (λ (z : Memory). goes (pick (holds (apply o (operandIn (m .vars) a) (operandIn (m .vars) b))) y n) z (drop used vs)) (sym (unset m (pos 0) h))
-dropped-did (Read v to) m vs used s h = read-did v to 0 m vs used
+dropped-did (Read v to) m vs used s h = read-did v to m vs used
 dropped-did (Call q xs to) m vs used s h = absurd (s refl)
 dropped-did (Wait i to) m vs used s h = absurd (s refl)
 dropped-did (Signal i to) m vs used s h = absurd (s refl)
@@ -92,53 +92,61 @@ dropped-did (Assert v to) m vs used s h = absurd (s refl)
 dropped-did (Out v to) m vs used s h = absurd (s refl)
 dropped-did Return m vs used s h = absurd (s refl)
 
+shows-named : (used to : ℕ) (o : Option ℤ) → Named (showsTo used to o .stop)
+shows-named used to none = refl
+shows-named used to (some x) = refl
+
+shows-used : (used to : ℕ) (o : Option ℤ) → showsTo used to o .used ≡ used
+shows-used used to none = refl
+shows-used used to (some x) = refl
+
 -- an answer's stop is 0 or the number of a stop
-pub act-named : (x : Node) (back : ℕ) (l : List ℤ) (c : ℕ) (y : ℤ) (vs : List ℤ) (used : ℕ) → Named (actOf x back l c y vs used .stop)
+pub act-named : (x : Node) (back : ℕ) (l : List ℤ) (ss ls : List ℕ) (is : List (List ℤ)) (vs : List ℤ) (used : ℕ) → Named (actOf x back l ss ls is vs used .stop)
 unfolding actOf stopNumber
-act-named Absent back l c y vs used = refl
-act-named (Start to) back l c y vs used = refl
-act-named (Set v o a b to) back l c y vs used = refl
-act-named (Test o a b k z) back l c y vs used = refl
-act-named (Read v to) back l c y vs used = go (leb (length vs) used)
+act-named Absent back l ss ls is vs used = refl
+act-named (Start to) back l ss ls is vs used = refl
+act-named (Set v o a b to) back l ss ls is vs used = refl
+act-named (Test o a b k z) back l ss ls is vs used = refl
+act-named (Read v to) back l ss ls is vs used = go (leb (length vs) used)
   where
-    go : (b : Bool) → Named ((pick b (haltsAt 15 used c) (goesTo v (getD vs used (pos 0)) (used + 1) to c)) .stop)
+    go : (b : Bool) → Named ((pick b (haltsAt 15 used) (goesTo v (getD vs used (pos 0)) (used + 1) to)) .stop)
     go true = refl
     go false = refl
-act-named (Call q xs to) back l c y vs used = refl
-act-named (Wait i to) back l c y vs used = refl
-act-named (Signal i to) back l c y vs used = refl
-act-named (Send q v to) back l c y vs used = refl
-act-named (Recv q v to) back l c y vs used = refl
-act-named (Assert v to) back l c y vs used = refl
-act-named (Out v to) back l c y vs used = refl
-act-named Return back l c y vs used = refl
+act-named (Call q xs to) back l ss ls is vs used = refl
+act-named (Wait i to) back l ss ls is vs used = refl
+act-named (Signal i to) back l ss ls is vs used = refl
+act-named (Send q v to) back l ss ls is vs used = refl
+act-named (Recv q v to) back l ss ls is vs used = refl
+act-named (Assert v to) back l ss ls is vs used = shows-named used to (valueOf l v)
+act-named (Out v to) back l ss ls is vs used = shows-named used to (valueOf l v)
+act-named Return back l ss ls is vs used = refl
 
-pub act-within : (x : Node) (back : ℕ) (l : List ℤ) (c : ℕ) (y : ℤ) (vs : List ℤ) (used : ℕ) → used ≤ length vs → actOf x back l c y vs used .used ≤ length vs
+pub act-within : (x : Node) (back : ℕ) (l : List ℤ) (ss ls : List ℕ) (is : List (List ℤ)) (vs : List ℤ) (used : ℕ) → used ≤ length vs → actOf x back l ss ls is vs used .used ≤ length vs
 unfolding actOf
-act-within Absent back l c y vs used h = h
-act-within (Start to) back l c y vs used h = h
-act-within (Set v o a b to) back l c y vs used h = h
-act-within (Test o a b k z) back l c y vs used h = h
-act-within (Read v to) back l c y vs used h = go (leb (length vs) used) refl
+act-within Absent back l ss ls is vs used h = h
+act-within (Start to) back l ss ls is vs used h = h
+act-within (Set v o a b to) back l ss ls is vs used h = h
+act-within (Test o a b k z) back l ss ls is vs used h = h
+act-within (Read v to) back l ss ls is vs used h = go (leb (length vs) used) refl
   where
-    go : (b : Bool) → leb (length vs) used ≡ b → (pick b (haltsAt 15 used c) (goesTo v (getD vs used (pos 0)) (used + 1) to c)) .used ≤ length vs
+    go : (b : Bool) → leb (length vs) used ≡ b → (pick b (haltsAt 15 used) (goesTo v (getD vs used (pos 0)) (used + 1) to)) .used ≤ length vs
     go true e = h
     go false e = omega (arith, leb-false (length vs) used e)
-act-within (Call q xs to) back l c y vs used h = h
-act-within (Wait i to) back l c y vs used h = h
-act-within (Signal i to) back l c y vs used h = h
-act-within (Send q v to) back l c y vs used h = h
-act-within (Recv q v to) back l c y vs used h = h
-act-within (Assert v to) back l c y vs used h = h
-act-within (Out v to) back l c y vs used h = h
-act-within Return back l c y vs used h = h
+act-within (Call q xs to) back l ss ls is vs used h = h
+act-within (Wait i to) back l ss ls is vs used h = h
+act-within (Signal i to) back l ss ls is vs used h = h
+act-within (Send q v to) back l ss ls is vs used h = h
+act-within (Recv q v to) back l ss ls is vs used h = h
+act-within (Assert v to) back l ss ls is vs used h = rw (shows-used used to (valueOf l v)) h
+act-within (Out v to) back l ss ls is vs used h = rw (shows-used used to (valueOf l v)) h
+act-within Return back l ss ls is vs used h = h
 
-pub tried-within : (x : Node) (back : ℕ) (l : List ℤ) (d c len cap : ℕ) (y : ℤ) (vs : List ℤ) (used : ℕ) → used ≤ length vs → triedOf x back l d c len cap y vs used .used ≤ length vs
-tried-within x back l d c len cap y vs used h = go (stuckOf x d c len cap)
+pub tried-within : (x : Node) (back : ℕ) (l : List ℤ) (d : ℕ) (ss ls cs : List ℕ) (is : List (List ℤ)) (vs : List ℤ) (used : ℕ) → used ≤ length vs → triedOf x back l d ss ls cs is vs used .used ≤ length vs
+tried-within x back l d ss ls cs is vs used h = go (stuckOf x d ss ls cs)
   where
-    go : (b : Bool) → (pick b (haltsAt 13 used c) (actOf x back l c y vs used)) .used ≤ length vs
+    go : (b : Bool) → (pick b (haltsAt 13 used) (actOf x back l ss ls is vs used)) .used ≤ length vs
     go true = h
-    go false = act-within x back l c y vs used h
+    go false = act-within x back l ss ls is vs used h
 
 pub pass-named : (x : Node) (l vs : List ℤ) (used : ℕ) → Named (passOf x l vs used .stop)
 unfolding passOf stopNumber
@@ -148,7 +156,7 @@ pass-named (Set v o a b to) l vs used = refl
 pass-named (Test o a b k z) l vs used = refl
 pass-named (Read v to) l vs used = go (leb (length vs) used)
   where
-    go : (b : Bool) → Named ((pick b (haltsAt 15 used 0) (goesTo v (getD vs used (pos 0)) (used + 1) to 0)) .stop)
+    go : (b : Bool) → Named ((pick b (haltsAt 15 used) (goesTo v (getD vs used (pos 0)) (used + 1) to)) .stop)
     go true = refl
     go false = refl
 pass-named (Call q xs to) l vs used = refl
@@ -168,7 +176,7 @@ pass-within (Set v o a b to) l vs used h = h
 pass-within (Test o a b k z) l vs used h = h
 pass-within (Read v to) l vs used h = go (leb (length vs) used) refl
   where
-    go : (b : Bool) → leb (length vs) used ≡ b → (pick b (haltsAt 15 used 0) (goesTo v (getD vs used (pos 0)) (used + 1) to 0)) .used ≤ length vs
+    go : (b : Bool) → leb (length vs) used ≡ b → (pick b (haltsAt 15 used) (goesTo v (getD vs used (pos 0)) (used + 1) to)) .used ≤ length vs
     go true e = h
     go false e = omega (arith, leb-false (length vs) used e)
 pass-within (Call q xs to) l vs used h = h

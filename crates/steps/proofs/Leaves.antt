@@ -17,11 +17,9 @@ use Rattle.table.specs.Mask.{pick, bit, also, membersFrom, members}
 use Rattle.table.specs.Values.{holds}
 use Rattle.table.specs.declared.Args.{Args}
 use Rattle.text.specs.Reader.{concat}
-use Rattle.machine.specs.declared.Entries.{Entries}
-use Rattle.machine.specs.declared.Frame.{Frame}
 use Rattle.machine.specs.State.{varAt}
-use Rattle.machine.specs.Step.{appended, shortened, entering}
-use Rattle.steps.specs.Cut.{halting, meeting, targetAt, tossed, queueAfter}
+use Rattle.machine.specs.Step.{entering}
+use Rattle.steps.specs.Cut.{halting, meeting, targetAt, tossed, shiftedOf}
 use Rattle.steps.specs.declared.Chosen.{Chosen}
 
 -- a value that went through its bits
@@ -86,22 +84,19 @@ four a b c d = a ∷ b ∷ c ∷ d ∷ pos 0 ∷ pos 0 ∷ pos 0 ∷ pos 0 ∷ p
 abbrev passing : List ℤ → ℕ → ℕ → ℕ → ℤ
 passing l len i v = pick (ltb i len) (varAt l v) (pos 0)
 
-abbrev entered : ℕ → List ℤ → Frame
-entered q l = record { proc = q; node = 0; vars = l }
-
 pub entering-is : (l : List ℤ) (q : ℕ) (xs : Args) {a b c d : ℤ} → xs .len ≤ 4
     → a ≡ passing l (xs .len) 0 (xs .a0) → b ≡ passing l (xs .len) 1 (xs .a1) → c ≡ passing l (xs .len) 2 (xs .a2) → d ≡ passing l (xs .len) 3 (xs .a3)
-    → entered q (four a b c d) ≡ entering l q xs
+    → four a b c d ≡ entering l q xs .vars
 unfolding concat
 entering-is l q xs h e f g k =
-    (λ i. entered q (four (e i) (f i) (g i) (k i))) ∙
+    (λ i. four (e i) (f i) (g i) (k i)) ∙
     rw (le-ltb 4 (xs .len) (omega arith), le-ltb 5 (xs .len) (omega arith), le-ltb 6 (xs .len) (omega arith), le-ltb 7 (xs .len) (omega arith), le-ltb 8 (xs .len) (omega arith), le-ltb 9 (xs .len) (omega arith), le-ltb 10 (xs .len) (omega arith), le-ltb 11 (xs .len) (omega arith), le-ltb 12 (xs .len) (omega arith), le-ltb 13 (xs .len) (omega arith), le-ltb 14 (xs .len) (omega arith), le-ltb 15 (xs .len) (omega arith)) refl
 
 -- ---- queues
 abbrev shifted : List ℤ → List ℤ
 shifted a = getD a 1 (pos 0) ∷ getD a 2 (pos 0) ∷ getD a 3 (pos 0) ∷ getD a 4 (pos 0) ∷ getD a 5 (pos 0) ∷ getD a 6 (pos 0) ∷ getD a 7 (pos 0) ∷ pos 0 ∷ []
 
-pub shift-is : (l : List ℤ) → length l ≡ 8 → shifted l ≡ drop 1 l ++ (pos 0 ∷ [])
+shift-is : (l : List ℤ) → length l ≡ 8 → shifted l ≡ drop 1 l ++ (pos 0 ∷ [])
 shift-is (a ∷ b ∷ c ∷ d ∷ e ∷ f ∷ g ∷ h ∷ []) z = refl
 shift-is [] z = absurd (omega arith)
 shift-is (a ∷ []) z = absurd (omega arith)
@@ -112,15 +107,6 @@ shift-is (a ∷ b ∷ c ∷ d ∷ e ∷ []) z = absurd (omega arith)
 shift-is (a ∷ b ∷ c ∷ d ∷ e ∷ f ∷ []) z = absurd (omega arith)
 shift-is (a ∷ b ∷ c ∷ d ∷ e ∷ f ∷ g ∷ []) z = absurd (omega arith)
 shift-is (a ∷ b ∷ c ∷ d ∷ e ∷ f ∷ g ∷ h ∷ i ∷ l) z = absurd (omega arith)
-
-pub queue-sends : (e : Entries) (how : ℕ) (x : ℤ) → how ≡ 1 → pick (ltb (e .len) 8) (appended x e) e ≡ queueAfter e how x
-queue-sends e how x h = rw (eq-eqb how 1 h) refl
-
-pub queue-takes : (e : Entries) (how : ℕ) (x : ℤ) → (how ≡ 1 → ⊥) → how ≡ 2 → shortened e ≡ queueAfter e how x
-queue-takes e how x n h = rw (ne-eqb how 1 n, eq-eqb how 2 h) refl
-
-pub queue-stays : (e : Entries) (how : ℕ) (x : ℤ) → (how ≡ 1 → ⊥) → (how ≡ 2 → ⊥) → e ≡ queueAfter e how x
-queue-stays e how x n h = rw (ne-eqb how 1 n, ne-eqb how 2 h) refl
 
 -- ---- eight bytes of the log
 pub put-is : (l : List ℕ) (at a b c d e f g h : ℕ)
@@ -136,10 +122,7 @@ put-is l at a b c d e f g h =
     let e7 : at + 7 ≡ suc (suc (suc (suc (suc (suc (suc at)))))) = omega arith in
     rw (e1, e2, e3, e4, e5, e6, e7) refl
 
-pub popped-is : (e : Entries) {n : ℕ} {a b c d f g h : ℤ} → length (e .items) ≡ 8 → n ≡ e .len - 1
-    → a ≡ getD (e .items) 1 (pos 0) → b ≡ getD (e .items) 2 (pos 0) → c ≡ getD (e .items) 3 (pos 0) → d ≡ getD (e .items) 4 (pos 0)
-    → f ≡ getD (e .items) 5 (pos 0) → g ≡ getD (e .items) 6 (pos 0) → h ≡ getD (e .items) 7 (pos 0)
-    → _≡_ {A = Entries} (record { len = n; items = a ∷ b ∷ c ∷ d ∷ f ∷ g ∷ h ∷ pos 0 ∷ [] }) (shortened e)
-popped-is e l en ea eb ec ed ef eg eh =
-    (λ i. record { len = en i; items = ea i ∷ eb i ∷ ec i ∷ ed i ∷ ef i ∷ eg i ∷ eh i ∷ pos 0 ∷ [] }) ∙
-    ap (λ (l : List ℤ). record { len = e .len - 1; items = l }) (shift-is (e .items) l)
+pub popped-is : (l : List ℤ) {a b c d f g h : ℤ} → length l ≡ 8
+    → a ≡ getD l 1 (pos 0) → b ≡ getD l 2 (pos 0) → c ≡ getD l 3 (pos 0) → d ≡ getD l 4 (pos 0) → f ≡ getD l 5 (pos 0) → g ≡ getD l 6 (pos 0) → h ≡ getD l 7 (pos 0)
+    → (a ∷ b ∷ c ∷ d ∷ f ∷ g ∷ h ∷ pos 0 ∷ []) ≡ shiftedOf l
+popped-is l z ea eb ec ed ef eg eh = (λ i. ea i ∷ eb i ∷ ec i ∷ ed i ∷ ef i ∷ eg i ∷ eh i ∷ pos 0 ∷ []) ∙ shift-is l z

@@ -2,7 +2,7 @@
 use Prim.Native.Nat.{ℕ, zero, suc, _+_, _-_, _*_, _<_, _≤_}
 use mathlib.Core.Path.{_≡_}
 use mathlib.Core.Bool.{Bool, true, false}
-use mathlib.Core.List.{List, [], _∷_}
+use mathlib.Core.List.{List, [], _∷_, _++_}
 use mathlib.Core.Option.{Option, none, some}
 use lib.ListN.{length, getD, set, drop}
 use lib.Dec.{eqb, leb, ltb}
@@ -13,13 +13,10 @@ use Rattle.table.specs.Mask.{pick, bit, members}
 use Rattle.table.specs.Values.{apply, holds}
 use Rattle.table.specs.declared.Node.{Node}
 use Rattle.table.specs.declared.Node.the-variants.{Absent, Start, Set, Test, Read, Call, Wait, Signal, Send, Recv, Assert, Out, Return}
-use Rattle.machine.specs.declared.Entries.{Entries}
-use Rattle.machine.specs.State.{semCount, entriesAt, varAt}
-use Rattle.machine.specs.Step.{Stop, tooMany, spent, badToss, stopNumber, Memory, operandIn, valueOf, appended, shortened, Choice, nowhere, node, bad, choose, Did, stops, goes}
+use Rattle.machine.specs.State.{varAt}
+use Rattle.machine.specs.Step.{Stop, tooMany, spent, badToss, stopNumber, operandIn, valueOf, Choice, nowhere, node, bad, choose}
 use Rattle.steps.specs.declared.Chosen.{Chosen}
 use Rattle.steps.specs.declared.Acted.{Acted}
-use Rattle.steps.specs.declared.Shown.{Shown}
-use Rattle.steps.specs.declared.Sides.{Sides}
 
 -- ---- the stop that a number stands for, of those that come within a step
 abbrev pub stopOf : ℕ → Stop
@@ -67,74 +64,86 @@ pub record Arrived (arc keep : ℕ) (vs : List ℤ) (used : ℕ) (r : Chosen) : 
   pub choice : choose arc (drop used vs) ≡ choiceOf vs r
   pub sound : Sound keep vs r
 
--- ---- blocked, by the frames open, the semaphore's count, the queue's length and capacity
-unfoldable pub stuckOf : Node → ℕ → ℕ → ℕ → ℕ → Bool
-stuckOf Absent d c len cap = false
-stuckOf (Start to) d c len cap = false
-stuckOf (Set v o a b to) d c len cap = false
-stuckOf (Test o a b y n) d c len cap = false
-stuckOf (Read v to) d c len cap = false
-stuckOf (Call q xs to) d c len cap = leb 8 d
-stuckOf (Wait i to) d c len cap = eqb c 0
-stuckOf (Signal i to) d c len cap = leb 255 c
-stuckOf (Send q v to) d c len cap = leb cap len
-stuckOf (Recv q v to) d c len cap = eqb len 0
-stuckOf (Assert v to) d c len cap = false
-stuckOf (Out v to) d c len cap = false
-stuckOf Return d c len cap = leb d 1
+-- ---- blocked, by the frames open, the semaphores' counts, the queues' lengths and capacities
+unfoldable pub stuckOf : Node → ℕ → List ℕ → List ℕ → List ℕ → Bool
+stuckOf Absent d ss ls cs = false
+stuckOf (Start to) d ss ls cs = false
+stuckOf (Set v o a b to) d ss ls cs = false
+stuckOf (Test o a b y n) d ss ls cs = false
+stuckOf (Read v to) d ss ls cs = false
+stuckOf (Call q xs to) d ss ls cs = leb 8 d
+stuckOf (Wait i to) d ss ls cs = eqb (getD ss i 0) 0
+stuckOf (Signal i to) d ss ls cs = leb 255 (getD ss i 0)
+stuckOf (Send q v to) d ss ls cs = leb (getD cs q 0) (getD ls q 0)
+stuckOf (Recv q v to) d ss ls cs = eqb (getD ls q 0) 0
+stuckOf (Assert v to) d ss ls cs = false
+stuckOf (Out v to) d ss ls cs = false
+stuckOf Return d ss ls cs = leb d 1
 
--- ---- the log's flag and the value's bits
-abbrev pub showing : ℕ → ℕ → Shown
-showing flag bits = record { flag = flag; bits = bits }
+-- a node's semaphore and queue have a place
+abbrev pub Within : Node → Type 0
+Within Absent = Unit {0}
+Within (Start to) = Unit {0}
+Within (Set v o a b to) = Unit {0}
+Within (Test o a b y n) = Unit {0}
+Within (Read v to) = Unit {0}
+Within (Call q xs to) = Unit {0}
+Within (Wait i to) = i < 8
+Within (Signal i to) = i < 8
+Within (Send q v to) = q < 8
+Within (Recv q v to) = q < 8
+Within (Assert v to) = Unit {0}
+Within (Out v to) = Unit {0}
+Within Return = Unit {0}
 
-abbrev pub shownOf : Option ℤ → Shown
-shownOf none = showing 0 0
-shownOf (some x) = showing 1 (ofZ w32 x)
+-- ---- a node executed: the variable set and its value, the values used, the arc; what else it does, where, and the length or count after it
 
--- ---- a node executed: the variable set and its value, the values used, the arc, the semaphore's count after it, the log's flag and bits
+abbrev pub doesTo : ℕ → ℤ → ℕ → ℕ → ℕ → ℕ → ℕ → Acted
+doesTo v x used arc how at c = record { stop = 0; var = v; value = x; used = used; arc = arc; how = how; at = at; count = c }
 
-abbrev pub goesTo : ℕ → ℤ → ℕ → ℕ → ℕ → Acted
-goesTo v x used arc c = record { stop = 0; var = v; value = x; used = used; arc = arc; count = c; flag = 0; bits = 0 }
+abbrev pub goesTo : ℕ → ℤ → ℕ → ℕ → Acted
+goesTo v x used arc = doesTo v x used arc 0 0 0
 
-abbrev pub haltsAt : ℕ → ℕ → ℕ → Acted
-haltsAt stop used c = record { stop = stop; var = 255; value = pos 0; used = used; arc = 0; count = c; flag = 0; bits = 0 }
+abbrev pub haltsAt : ℕ → ℕ → Acted
+haltsAt stop used = record { stop = stop; var = 255; value = pos 0; used = used; arc = 0; how = 0; at = 0; count = 0 }
 
-abbrev pub logsTo : ℕ → ℕ → ℕ → Shown → Acted
-logsTo used arc c e = record { stop = 0; var = 255; value = pos 0; used = used; arc = arc; count = c; flag = e .flag; bits = e .bits }
+abbrev pub showsTo : ℕ → ℕ → Option ℤ → Acted
+showsTo used arc none = goesTo 255 (pos 0) used arc
+showsTo used arc (some x) = doesTo 255 x used arc 4 0 0
 
 -- a node that is blocked if b
-abbrev pub unless : Bool → ℕ → ℕ → Acted → Acted
-unless b used c r = pick b (haltsAt 13 used c) r
+abbrev pub unless : Bool → ℕ → Acted → Acted
+unless b used r = pick b (haltsAt 13 used) r
 
-abbrev pub readAt : ℕ → ℕ → ℕ → List ℤ → ℕ → Acted
-readAt v to c vs used = pick (leb (length vs) used) (haltsAt 15 used c) (goesTo v (getD vs used (pos 0)) (used + 1) to c)
+abbrev pub readAt : ℕ → ℕ → List ℤ → ℕ → Acted
+readAt v to vs used = pick (leb (length vs) used) (haltsAt 15 used) (goesTo v (getD vs used (pos 0)) (used + 1) to)
 
--- from the arc of the call that a return goes back to, the frame's variables, the semaphore's count and the queue's oldest entry
-unfoldable pub actOf : Node → ℕ → List ℤ → ℕ → ℤ → List ℤ → ℕ → Acted
-actOf Absent back l c x vs used = goesTo 255 (pos 0) used 0 c
-actOf (Start to) back l c x vs used = goesTo 255 (pos 0) used to c
-actOf (Set v o a b to) back l c x vs used = goesTo v (apply o (operandIn l a) (operandIn l b)) used to c
-actOf (Test o a b y n) back l c x vs used = goesTo 255 (pos 0) used (pick (holds (apply o (operandIn l a) (operandIn l b))) y n) c
-actOf (Read v to) back l c x vs used = readAt v to c vs used
-actOf (Call q xs to) back l c x vs used = goesTo 255 (pos 0) used 0 c
-actOf (Wait i to) back l c x vs used = goesTo 255 (pos 0) used to (c - 1)
-actOf (Signal i to) back l c x vs used = goesTo 255 (pos 0) used to (c + 1)
-actOf (Send q v to) back l c x vs used = goesTo 255 (varAt l v) used to c
-actOf (Recv q v to) back l c x vs used = goesTo v x used to c
-actOf (Assert v to) back l c x vs used = logsTo used to c (shownOf (valueOf l v))
-actOf (Out v to) back l c x vs used = logsTo used to c (shownOf (valueOf l v))
-actOf Return back l c x vs used = goesTo 255 (pos 0) used back c
+-- from the arc of the call that a return goes back to, the frame's variables, the semaphores' counts, the queues' lengths and items
+unfoldable pub actOf : Node → ℕ → List ℤ → List ℕ → List ℕ → List (List ℤ) → List ℤ → ℕ → Acted
+actOf Absent back l ss ls is vs used = goesTo 255 (pos 0) used 0
+actOf (Start to) back l ss ls is vs used = goesTo 255 (pos 0) used to
+actOf (Set v o a b to) back l ss ls is vs used = goesTo v (apply o (operandIn l a) (operandIn l b)) used to
+actOf (Test o a b y n) back l ss ls is vs used = goesTo 255 (pos 0) used (pick (holds (apply o (operandIn l a) (operandIn l b))) y n)
+actOf (Read v to) back l ss ls is vs used = readAt v to vs used
+actOf (Call q xs to) back l ss ls is vs used = goesTo 255 (pos 0) used 0
+actOf (Wait i to) back l ss ls is vs used = doesTo 255 (pos 0) used to 3 i (getD ss i 0 - 1)
+actOf (Signal i to) back l ss ls is vs used = doesTo 255 (pos 0) used to 3 i (getD ss i 0 + 1)
+actOf (Send q v to) back l ss ls is vs used = doesTo 255 (varAt l v) used to 1 q (getD ls q 0 + 1)
+actOf (Recv q v to) back l ss ls is vs used = doesTo v (getD (getD is q []) 0 (pos 0)) used to 2 q (getD ls q 0 - 1)
+actOf (Assert v to) back l ss ls is vs used = showsTo used to (valueOf l v)
+actOf (Out v to) back l ss ls is vs used = showsTo used to (valueOf l v)
+actOf Return back l ss ls is vs used = goesTo 255 (pos 0) used back
 
 -- a dropped node executed; others are not met on the way
 abbrev pub passing : ℕ → Acted
-passing used = goesTo 255 (pos 0) used 0 0
+passing used = goesTo 255 (pos 0) used 0
 
 unfoldable pub passOf : Node → List ℤ → List ℤ → ℕ → Acted
 passOf Absent l vs used = passing used
 passOf (Start to) l vs used = passing used
-passOf (Set v o a b to) l vs used = goesTo v (apply o (operandIn l a) (operandIn l b)) used to 0
-passOf (Test o a b y n) l vs used = goesTo 255 (pos 0) used (pick (holds (apply o (operandIn l a) (operandIn l b))) y n) 0
-passOf (Read v to) l vs used = readAt v to 0 vs used
+passOf (Set v o a b to) l vs used = goesTo v (apply o (operandIn l a) (operandIn l b)) used to
+passOf (Test o a b y n) l vs used = goesTo 255 (pos 0) used (pick (holds (apply o (operandIn l a) (operandIn l b))) y n)
+passOf (Read v to) l vs used = readAt v to vs used
 passOf (Call q xs to) l vs used = passing used
 passOf (Wait i to) l vs used = passing used
 passOf (Signal i to) l vs used = passing used
@@ -144,36 +153,47 @@ passOf (Assert v to) l vs used = passing used
 passOf (Out v to) l vs used = passing used
 passOf Return l vs used = passing used
 
--- a node executed, where it may be blocked: by the frames open, the semaphore's count, the queue's length and capacity
-abbrev pub triedOf : Node → ℕ → List ℤ → ℕ → ℕ → ℕ → ℕ → ℤ → List ℤ → ℕ → Acted
-triedOf x back l d c len cap y vs used = unless (stuckOf x d c len cap) used c (actOf x back l c y vs used)
+-- a node executed, where it may be blocked: by the frames open, the semaphores' counts, the queues' lengths and capacities
+abbrev pub triedOf : Node → ℕ → List ℤ → ℕ → List ℕ → List ℕ → List ℕ → List (List ℤ) → List ℤ → ℕ → Acted
+triedOf x back l d ss ls cs is vs used = unless (stuckOf x d ss ls cs) used (actOf x back l ss ls is vs used)
 
--- ---- what a node has to do with: its semaphore, its queue, 1 if it sends and 2 if it receives, how many frames it closes; few do either
+-- how many frames a node closes
+unfoldable pub backOf : Node → ℕ
+backOf Absent = 0
+backOf (Start to) = 0
+backOf (Set v o a b to) = 0
+backOf (Test o a b y n) = 0
+backOf (Read v to) = 0
+backOf (Call q xs to) = 0
+backOf (Wait i to) = 0
+backOf (Signal i to) = 0
+backOf (Send q v to) = 0
+backOf (Recv q v to) = 0
+backOf (Assert v to) = 0
+backOf (Out v to) = 0
+backOf Return = 1
 
-abbrev pub siding : ℕ → ℕ → ℕ → ℕ → Bool → Sides
-siding sem queue how back few = record { sem = sem; queue = queue; how = how; back = back; few = few }
+-- ---- semaphores and queues after it
 
-abbrev pub noSides : Sides
-noSides = siding 0 0 0 0 false
+abbrev pub semsAfter : List ℕ → ℕ → ℕ → ℕ → List ℕ
+semsAfter ss how at c = pick (eqb how 3) (set ss at c) ss
 
-unfoldable pub sidesOf : Node → Sides
-sidesOf Absent = noSides
-sidesOf (Start to) = noSides
-sidesOf (Set v o a b to) = noSides
-sidesOf (Test o a b y n) = noSides
-sidesOf (Read v to) = noSides
-sidesOf (Call q xs to) = noSides
-sidesOf (Wait i to) = siding i 0 0 0 false
-sidesOf (Signal i to) = siding i 0 0 0 false
-sidesOf (Send q v to) = siding 0 q 1 0 true
-sidesOf (Recv q v to) = siding 0 q 2 0 true
-sidesOf (Assert v to) = noSides
-sidesOf (Out v to) = noSides
-sidesOf Return = siding 0 0 0 1 true
+abbrev pub lensAfter : List ℕ → ℕ → ℕ → ℕ → List ℕ
+lensAfter ls how at c = pick (eqb how 1) (set ls at c) (pick (eqb how 2) (set ls at c) ls)
 
--- the queue after it, x being the value sent
-abbrev pub queueAfter : Entries → ℕ → ℤ → Entries
-queueAfter e how x = pick (eqb how 1) (pick (ltb (e .len) 8) (appended x e) e) (pick (eqb how 2) (shortened e) e)
+-- the oldest item removed
+abbrev pub shiftedOf : List ℤ → List ℤ
+shiftedOf l = drop 1 l ++ (pos 0 ∷ [])
+
+abbrev pub itemsAfter : List (List ℤ) → List ℕ → ℕ → ℕ → ℤ → List (List ℤ)
+itemsAfter is ls how at x = let l = getD is at [] in pick (eqb how 1) (set is at (set l (getD ls at 0) x)) (pick (eqb how 2) (set is at (shiftedOf l)) is)
+
+-- the log's flag and the bits of the value
+abbrev pub flagOf : ℕ → ℕ
+flagOf how = pick (eqb how 4) 1 0
+
+abbrev pub bitsOf : ℕ → ℤ → ℕ
+bitsOf how x = pick (eqb how 4) (ofZ w32 x) 0
 
 -- the place of the frame that goes on: f is the topmost's
 abbrev pub underOf : ℕ → ℕ → ℕ → ℕ

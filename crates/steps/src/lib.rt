@@ -8,10 +8,10 @@ ghost use lib.Dec.{eqb, leb, ltb};
 ghost use lib.IntN.{pos};
 ghost use Rattle.table.specs.Mask.{members, pick};
 ghost use Rattle.table.specs.Table.{arcTo};
-ghost use Rattle.machine.specs.State.{varAt, noFrame};
-ghost use Rattle.machine.specs.Step.{operandIn, valueOf, entering, appended, shortened};
+ghost use Rattle.machine.specs.State.{varAt, noFrame, noVars};
+ghost use Rattle.machine.specs.Step.{operandIn, valueOf, entering};
 ghost use Rattle.machine.specs.Run.{word};
-ghost use Rattle.steps.specs.Cut.{Arrived, meeting, halting, tossed, goesTo, haltsAt, logsTo, unless, readAt, triedOf, passOf, siding, sidesOf, queueAfter, underOf, showing, shownOf};
+ghost use Rattle.steps.specs.Cut.{Arrived, meeting, halting, tossed, goesTo, doesTo, haltsAt, showsTo, unless, readAt, Within, triedOf, passOf, backOf, semsAfter, lensAfter, itemsAfter, shiftedOf, flagOf, bitsOf, underOf};
 ghost use Rattle.table.specs.Values.{holds};
 use table::Node;
 
@@ -24,32 +24,17 @@ pub struct Chosen {
     pub used: usize,
 }
 
-// A node executed: a stop's number; the variable set, 255 for none, and its value; the values used; its arc; its semaphore's count; the
-// flag and the value's bits that it logs.
+// A node executed: a stop's number; the variable set, 255 for none, and its value; the values used; its arc; what else it does (1 sends the
+// value, 2 receives it, 3 changes a semaphore, 4 shows the value), at which queue or semaphore, and the length or count there after it.
 pub struct Acted {
     pub stop: u8,
     pub var: u8,
     pub value: i32,
     pub used: usize,
     pub arc: u32,
-    pub count: u8,
-    pub flag: u8,
-    pub bits: u32,
-}
-
-// A log entry's flag and the bits of its value.
-pub struct Shown {
-    pub flag: u8,
-    pub bits: u32,
-}
-
-// A node's semaphore and queue, 1 if it sends and 2 if it receives, how many frames it closes, and whether it does either.
-pub struct Sides {
-    pub sem: usize,
-    pub queue: usize,
     pub how: u8,
-    pub back: u8,
-    pub few: bool,
+    pub at: u8,
+    pub count: u8,
 }
 
 // ---- variables
@@ -167,24 +152,8 @@ pub fn arrive(arc: u32, keep: u32, values: &[i32], used: usize) -> Chosen
 
 // ---- nodes
 
-fn show(flag: u8, bits: u32) -> Shown
-    ensures { λ r. ⌜ r ≡ showing flag bits ⌝ }
-{
-    Shown { flag, bits }
-}
-
-fn show_var(vars: &[i32; 16], v: u8) -> Shown
-    requires { ⌜ length (now vars) ≡ 16 ⌝ }
-    ensures { λ r. ⌜ r ≡ shownOf (valueOf (now (vars .entry)) v) ⌝ }
-{
-    if v == 255 {
-        return show(0, 0);
-    }
-    show(1, values::bits_of(var_at(vars, v)))
-}
-
-fn goes(var: u8, value: i32, used: usize, arc: u32, count: u8) -> Acted
-    ensures { λ r. ⌜ r ≡ goesTo var value used arc count ⌝ }
+fn does(var: u8, value: i32, used: usize, arc: u32, how: u8, at: u8, count: u8) -> Acted
+    ensures { λ r. ⌜ r ≡ doesTo var value used arc how at count ⌝ }
 {
     Acted {
         stop: 0,
@@ -192,14 +161,29 @@ fn goes(var: u8, value: i32, used: usize, arc: u32, count: u8) -> Acted
         value,
         used,
         arc,
+        how,
+        at,
         count,
-        flag: 0,
-        bits: 0,
     }
 }
 
-fn halts(stop: u8, used: usize, count: u8) -> Acted
-    ensures { λ r. ⌜ r ≡ haltsAt stop used count ⌝ }
+fn goes(var: u8, value: i32, used: usize, arc: u32) -> Acted
+    ensures { λ r. ⌜ r ≡ goesTo var value used arc ⌝ }
+{
+    Acted {
+        stop: 0,
+        var,
+        value,
+        used,
+        arc,
+        how: 0,
+        at: 0,
+        count: 0,
+    }
+}
+
+fn halts(stop: u8, used: usize) -> Acted
+    ensures { λ r. ⌜ r ≡ haltsAt stop used ⌝ }
 {
     Acted {
         stop,
@@ -207,35 +191,30 @@ fn halts(stop: u8, used: usize, count: u8) -> Acted
         value: 0,
         used,
         arc: 0,
-        count,
-        flag: 0,
-        bits: 0,
+        how: 0,
+        at: 0,
+        count: 0,
     }
 }
 
-fn logs(used: usize, arc: u32, count: u8, e: Shown) -> Acted
-    ensures { λ r. ⌜ r ≡ logsTo used arc count e ⌝ }
+fn show(vars: &[i32; 16], v: u8, used: usize, to: u32) -> Acted
+    requires { ⌜ length (now vars) ≡ 16 ⌝ }
+    ensures { λ r. ⌜ r ≡ showsTo used to (valueOf (now (vars .entry)) v) ⌝ }
 {
-    Acted {
-        stop: 0,
-        var: 255,
-        value: 0,
-        used,
-        arc,
-        count,
-        flag: e.flag,
-        bits: e.bits,
+    if v == 255 {
+        return goes(255, 0, used, to);
     }
+    does(255, var_at(vars, v), used, to, 4, 0, 0)
 }
 
-fn read(var: u8, to: u32, count: u8, values: &[i32], used: usize) -> Acted
+fn read(var: u8, to: u32, values: &[i32], used: usize) -> Acted
     requires { ⌜ used ≤ length (now values) ⌝ }
-    ensures { λ r. ⌜ r ≡ readAt var to count (now (values .entry)) used ⌝ }
+    ensures { λ r. ⌜ r ≡ readAt var to (now (values .entry)) used ⌝ }
 {
     if values.len() <= used {
-        return halts(15, used, count);
+        return halts(15, used);
     }
-    goes(var, values[used], used + 1, to, count)
+    goes(var, values[used], used + 1, to)
 }
 
 fn branch(z: i32, yes: u32, no: u32) -> u32
@@ -244,108 +223,115 @@ fn branch(z: i32, yes: u32, no: u32) -> u32
     if z == 0 { no } else { yes }
 }
 
-fn call(depth: u8, used: usize, count: u8) -> Acted
-    ensures { λ r. ⌜ r ≡ unless (leb 8 depth) used count (goesTo 255 (pos 0) used 0 count) ⌝ }
+fn call(depth: u8, used: usize) -> Acted
+    ensures { λ r. ⌜ r ≡ unless (leb 8 depth) used (goesTo 255 (pos 0) used 0) ⌝ }
 {
     if 8 <= depth {
-        return halts(13, used, count);
+        return halts(13, used);
     }
-    goes(255, 0, used, 0, count)
+    goes(255, 0, used, 0)
 }
 
-fn wait(to: u32, used: usize, count: u8) -> Acted
-    ensures { λ r. ⌜ r ≡ unless (eqb count 0) used count (goesTo 255 (pos 0) used to (count - 1)) ⌝ }
+fn wait(sem: u8, to: u32, used: usize, count: u8) -> Acted
+    ensures { λ r. ⌜ r ≡ unless (eqb count 0) used (doesTo 255 (pos 0) used to 3 sem (count - 1)) ⌝ }
 {
     if count == 0 {
-        return halts(13, used, count);
+        return halts(13, used);
     }
-    goes(255, 0, used, to, count - 1)
+    does(255, 0, used, to, 3, sem, count - 1)
 }
 
-fn signal(to: u32, used: usize, count: u8) -> Acted
-    ensures { λ r. ⌜ r ≡ unless (leb 255 count) used count (goesTo 255 (pos 0) used to (count + 1)) ⌝ }
+fn signal(sem: u8, to: u32, used: usize, count: u8) -> Acted
+    ensures { λ r. ⌜ r ≡ unless (leb 255 count) used (doesTo 255 (pos 0) used to 3 sem (count + 1)) ⌝ }
 {
     if 255 <= count {
-        return halts(13, used, count);
+        return halts(13, used);
     }
-    goes(255, 0, used, to, count + 1)
+    does(255, 0, used, to, 3, sem, count + 1)
 }
 
-fn send(x: i32, to: u32, used: usize, count: u8, len: u8, cap: u8) -> Acted
-    ensures { λ r. ⌜ r ≡ unless (leb cap len) used count (goesTo 255 x used to count) ⌝ }
+fn send(queue: u8, x: i32, to: u32, used: usize, len: u8, cap: u8) -> Acted
+    ensures { λ r. ⌜ r ≡ unless (leb cap len) used (doesTo 255 x used to 1 queue (len + 1)) ⌝ }
 {
     if cap <= len {
-        return halts(13, used, count);
+        return halts(13, used);
     }
-    goes(255, x, used, to, count)
+    does(255, x, used, to, 1, queue, len + 1)
 }
 
-fn receive(var: u8, x: i32, to: u32, used: usize, count: u8, len: u8) -> Acted
-    ensures { λ r. ⌜ r ≡ unless (eqb len 0) used count (goesTo var x used to count) ⌝ }
+fn receive(queue: u8, var: u8, x: i32, to: u32, used: usize, len: u8) -> Acted
+    ensures { λ r. ⌜ r ≡ unless (eqb len 0) used (doesTo var x used to 2 queue (len - 1)) ⌝ }
 {
     if len == 0 {
-        return halts(13, used, count);
+        return halts(13, used);
     }
-    goes(var, x, used, to, count)
+    does(var, x, used, to, 2, queue, len - 1)
 }
 
-fn give_back(arc: u32, depth: u8, used: usize, count: u8) -> Acted
-    ensures { λ r. ⌜ r ≡ unless (leb depth 1) used count (goesTo 255 (pos 0) used arc count) ⌝ }
+fn give_back(arc: u32, depth: u8, used: usize) -> Acted
+    ensures { λ r. ⌜ r ≡ unless (leb depth 1) used (goesTo 255 (pos 0) used arc) ⌝ }
 {
     if depth <= 1 {
-        return halts(13, used, count);
+        return halts(13, used);
     }
-    goes(255, 0, used, arc, count)
+    goes(255, 0, used, arc)
 }
 
-// A node executed within its frame, or blocked; of a return, `back` is the arc of the call that it goes back to.
+// A node executed within its frame, or blocked; of a return, `back` is the arc of the call that it goes back to. The queues are their lengths,
+// capacities and items.
 pub fn act<'a>(
     x: Node,
     back: u32,
     vars: &'a [i32; 16],
     depth: u8,
-    count: u8,
-    len: u8,
-    cap: u8,
-    first: i32,
+    sems: &'a [u8; 8],
+    lens: &'a [u8; 8],
+    caps: &'a [u8; 8],
+    items: &'a [[i32; 8]; 8],
     values: &'a [i32],
     used: usize,
 ) -> Acted
-    requires { ⌜ (length (now vars) ≡ 16) × (used ≤ length (now values)) ⌝ }
-    ensures { λ r. ⌜ r ≡ triedOf x back (now (vars .entry)) depth count len cap first (now (values .entry)) used ⌝ }
+    requires { ⌜ Within x × ((length (now vars) ≡ 16) × (used ≤ length (now values))) ⌝ }
+    ensures { λ r. ⌜ r ≡ triedOf x back (now (vars .entry)) depth (now (sems .entry)) (now (lens .entry)) (now (caps .entry)) (now (items .entry)) (now (values .entry)) used ⌝ }
 {
     match x {
-        Node::Absent => goes(255, 0, used, 0, count),
-        Node::Start { to } => goes(255, 0, used, to, count),
+        Node::Absent => goes(255, 0, used, 0),
+        Node::Start { to } => goes(255, 0, used, to),
         Node::Set { var, op, a, b, to } => {
             let p = operand(vars, a);
             let q = operand(vars, b);
-            goes(var, values::apply(op, p, q), used, to, count)
+            goes(var, values::apply(op, p, q), used, to)
         }
         Node::Test { op, a, b, yes, no } => {
             let p = operand(vars, a);
             let q = operand(vars, b);
-            goes(
-                255,
-                0,
-                used,
-                branch(values::apply(op, p, q), yes, no),
-                count,
-            )
+            goes(255, 0, used, branch(values::apply(op, p, q), yes, no))
         }
-        Node::Read { var, to } => read(var, to, count, values, used),
+        Node::Read { var, to } => read(var, to, values, used),
         Node::Call {
             callee: _,
             args: _,
             to: _,
-        } => call(depth, used, count),
-        Node::Wait { sem: _, to } => wait(to, used, count),
-        Node::Signal { sem: _, to } => signal(to, used, count),
-        Node::Send { queue: _, var, to } => send(var_at(vars, var), to, used, count, len, cap),
-        Node::Recv { queue: _, var, to } => receive(var, first, to, used, count, len),
-        Node::Assert { var, to } => logs(used, to, count, show_var(vars, var)),
-        Node::Out { var, to } => logs(used, to, count, show_var(vars, var)),
-        Node::Return => give_back(back, depth, used, count),
+        } => call(depth, used),
+        Node::Wait { sem, to } => {
+            let i = sem as usize;
+            wait(sem, to, used, sems[i])
+        }
+        Node::Signal { sem, to } => {
+            let i = sem as usize;
+            signal(sem, to, used, sems[i])
+        }
+        Node::Send { queue, var, to } => {
+            let i = queue as usize;
+            send(queue, var_at(vars, var), to, used, lens[i], caps[i])
+        }
+        Node::Recv { queue, var, to } => {
+            let i = queue as usize;
+            receive(queue, var, items[i][0], to, used, lens[i])
+        }
+        Node::Assert { var, to } => show(vars, var, used, to),
+        Node::Out { var, to } => show(vars, var, used, to),
+        Node::Return => give_back(back, depth, used),
     }
 }
 
@@ -355,39 +341,39 @@ pub fn pass<'a>(x: Node, vars: &'a [i32; 16], values: &'a [i32], used: usize) ->
     ensures { λ r. ⌜ r ≡ passOf x (now (vars .entry)) (now (values .entry)) used ⌝ }
 {
     match x {
-        Node::Absent => goes(255, 0, used, 0, 0),
-        Node::Start { to: _ } => goes(255, 0, used, 0, 0),
+        Node::Absent => goes(255, 0, used, 0),
+        Node::Start { to: _ } => goes(255, 0, used, 0),
         Node::Set { var, op, a, b, to } => {
             let p = operand(vars, a);
             let q = operand(vars, b);
-            goes(var, values::apply(op, p, q), used, to, 0)
+            goes(var, values::apply(op, p, q), used, to)
         }
         Node::Test { op, a, b, yes, no } => {
             let p = operand(vars, a);
             let q = operand(vars, b);
-            goes(255, 0, used, branch(values::apply(op, p, q), yes, no), 0)
+            goes(255, 0, used, branch(values::apply(op, p, q), yes, no))
         }
-        Node::Read { var, to } => read(var, to, 0, values, used),
+        Node::Read { var, to } => read(var, to, values, used),
         Node::Call {
             callee: _,
             args: _,
             to: _,
-        } => goes(255, 0, used, 0, 0),
-        Node::Wait { sem: _, to: _ } => goes(255, 0, used, 0, 0),
-        Node::Signal { sem: _, to: _ } => goes(255, 0, used, 0, 0),
+        } => goes(255, 0, used, 0),
+        Node::Wait { sem: _, to: _ } => goes(255, 0, used, 0),
+        Node::Signal { sem: _, to: _ } => goes(255, 0, used, 0),
         Node::Send {
             queue: _,
             var: _,
             to: _,
-        } => goes(255, 0, used, 0, 0),
+        } => goes(255, 0, used, 0),
         Node::Recv {
             queue: _,
             var: _,
             to: _,
-        } => goes(255, 0, used, 0, 0),
-        Node::Assert { var: _, to: _ } => goes(255, 0, used, 0, 0),
-        Node::Out { var: _, to: _ } => goes(255, 0, used, 0, 0),
-        Node::Return => goes(255, 0, used, 0, 0),
+        } => goes(255, 0, used, 0),
+        Node::Assert { var: _, to: _ } => goes(255, 0, used, 0),
+        Node::Out { var: _, to: _ } => goes(255, 0, used, 0),
+        Node::Return => goes(255, 0, used, 0),
     }
 }
 
@@ -435,59 +421,156 @@ pub fn arc_to(x: Node) -> u32
     }
 }
 
-fn with(sem: u8, queue: u8, how: u8, back: u8, few: bool) -> Sides
-    ensures { λ r. ⌜ r ≡ siding sem queue how back few ⌝ }
-{
-    Sides {
-        sem: sem as usize,
-        queue: queue as usize,
-        how,
-        back,
-        few,
-    }
-}
-
-pub fn beside(x: Node) -> Sides
-    ensures { λ r. ⌜ r ≡ sidesOf x ⌝ }
+// How many frames a node closes.
+pub fn closes(x: Node) -> u8
+    ensures { λ r. ⌜ r ≡ backOf x ⌝ }
 {
     match x {
-        Node::Absent => with(0, 0, 0, 0, false),
-        Node::Start { to: _ } => with(0, 0, 0, 0, false),
+        Node::Absent => 0,
+        Node::Start { to: _ } => 0,
         Node::Set {
             var: _,
             op: _,
             a: _,
             b: _,
             to: _,
-        } => with(0, 0, 0, 0, false),
+        } => 0,
         Node::Test {
             op: _,
             a: _,
             b: _,
             yes: _,
             no: _,
-        } => with(0, 0, 0, 0, false),
-        Node::Read { var: _, to: _ } => with(0, 0, 0, 0, false),
+        } => 0,
+        Node::Read { var: _, to: _ } => 0,
         Node::Call {
             callee: _,
             args: _,
             to: _,
-        } => with(0, 0, 0, 0, false),
-        Node::Wait { sem, to: _ } => with(sem, 0, 0, 0, false),
-        Node::Signal { sem, to: _ } => with(sem, 0, 0, 0, false),
+        } => 0,
+        Node::Wait { sem: _, to: _ } => 0,
+        Node::Signal { sem: _, to: _ } => 0,
         Node::Send {
-            queue,
+            queue: _,
             var: _,
             to: _,
-        } => with(0, queue, 1, 0, true),
+        } => 0,
         Node::Recv {
-            queue,
+            queue: _,
             var: _,
             to: _,
-        } => with(0, queue, 2, 0, true),
-        Node::Assert { var: _, to: _ } => with(0, 0, 0, 0, false),
-        Node::Out { var: _, to: _ } => with(0, 0, 0, 0, false),
-        Node::Return => with(0, 0, 0, 1, true),
+        } => 0,
+        Node::Assert { var: _, to: _ } => 0,
+        Node::Out { var: _, to: _ } => 0,
+        Node::Return => 1,
+    }
+}
+
+// ---- what a node does beside its variables
+
+fn push(items: &mut [i32; 8], len: u8, x: i32)
+    requires { ⌜ length (now items) ≡ 8 ⌝ }
+    ensures { λ _. ⌜ now (items .exit) ≡ set (now (items .entry)) len x ⌝ }
+{
+    let k = len as usize;
+    if k < 8 {
+        items[k] = x;
+        return;
+    }
+}
+
+fn pop(items: &mut [i32; 8])
+    requires { ⌜ length (now items) ≡ 8 ⌝ }
+    ensures { λ _. ⌜ now (items .exit) ≡ shiftedOf (now (items .entry)) ⌝ }
+{
+    let a = items[1];
+    let b = items[2];
+    let c = items[3];
+    let d = items[4];
+    let e = items[5];
+    let f = items[6];
+    let g = items[7];
+    *items = [a, b, c, d, e, f, g, 0];
+}
+
+pub fn affect<'a>(
+    how: u8,
+    at: u8,
+    count: u8,
+    value: i32,
+    sems: &'a mut [u8; 8],
+    lens: &'a mut [u8; 8],
+    items: &'a mut [[i32; 8]; 8],
+)
+    requires { ⌜ (at < 8) × (length (getD (now items) at []) ≡ 8) ⌝ }
+    ensures sems { λ _. ⌜ now (sems .exit) ≡ semsAfter (now (sems .entry)) how at count ⌝ }
+    ensures lens { λ _. ⌜ now (lens .exit) ≡ lensAfter (now (lens .entry)) how at count ⌝ }
+    ensures items { λ _. ⌜ now (items .exit) ≡ itemsAfter (now (items .entry)) (now (lens .entry)) how at value ⌝ }
+{
+    let i = at as usize;
+    if how == 1 {
+        let k = lens[i];
+        push(&mut items[i], k, value);
+        lens[i] = count;
+        return;
+    }
+    if how == 2 {
+        pop(&mut items[i]);
+        lens[i] = count;
+        return;
+    }
+    if how == 3 {
+        sems[i] = count;
+        return;
+    }
+}
+
+// The log's flag, and the bits of the value.
+pub fn flag(how: u8) -> u8
+    ensures { λ r. ⌜ r ≡ flagOf how ⌝ }
+{
+    if how == 4 { 1 } else { 0 }
+}
+
+pub fn bits(how: u8, value: i32) -> u32
+    ensures { λ r. ⌜ r ≡ bitsOf how value ⌝ }
+{
+    if how == 4 { values::bits_of(value) } else { 0 }
+}
+
+// ---- variables beside
+
+// Variables kept if `far`, else those of a frame with one set.
+pub fn ahead<'a>(w: &'a mut [i32; 16], far: bool, vars: &'a [i32; 16], v: u8, x: i32)
+    requires { ⌜ length (now vars) ≡ 16 ⌝ }
+    ensures { λ _. ⌜ now (w .exit) ≡ pick far (now (w .entry)) (set (now (vars .entry)) v x) ⌝ }
+{
+    if far {
+        return;
+    }
+    *w = *vars;
+    set_var(w, v, x);
+}
+
+// Variables replaced by w if `far`, else one of them set.
+pub fn settle<'a>(vars: &'a mut [i32; 16], far: bool, w: &'a [i32; 16], v: u8, x: i32)
+    requires { ⌜ length (now vars) ≡ 16 ⌝ }
+    ensures { λ _. ⌜ now (vars .exit) ≡ pick far (now (w .entry)) (set (now (vars .entry)) v x) ⌝ }
+{
+    if far {
+        *vars = *w;
+        return;
+    }
+    set_var(vars, v, x);
+}
+
+// The variables of a frame that is closed become 0.
+pub fn clear(vars: &mut [i32; 16], back: u8)
+    ensures { λ _. ⌜ now (vars .exit) ≡ pick (eqb back 0) (now (vars .entry)) noVars ⌝ }
+{
+    if back != 0 {
+        *vars = [0, 0, 0, 0, 0, 0, 0, 0, 0, 0, 0, 0, 0, 0, 0, 0];
+        return;
     }
 }
 
@@ -518,7 +601,7 @@ pub fn put(log: &mut [u8], at: usize, task: u8, proc: u8, node: u8, flag: u8, bi
     log[at + 7] = (bits / 16777216 % 256) as u8;
 }
 
-// ---- frames and queues
+// ---- frames
 
 pub fn no_frame() -> machine::Frame
     ensures { λ r. ⌜ r ≡ noFrame ⌝ }
@@ -538,62 +621,16 @@ fn passed(vars: &[i32; 16], on: bool, v: u8) -> i32
     if on { var_at(vars, v) } else { 0 }
 }
 
-// The frame that a call opens.
-pub fn enter(vars: &[i32; 16], callee: u8, xs: table::Args) -> machine::Frame
+// The variables of the frame that a call opens.
+pub fn enter(vars: &[i32; 16], callee: u8, xs: table::Args) -> [i32; 16]
     requires { ⌜ (length (now vars) ≡ 16) × (xs .len ≤ 4) ⌝ }
-    ensures { λ r. ⌜ r ≡ entering (now (vars .entry)) callee xs ⌝ }
+    ensures { λ r. ⌜ r ≡ entering (now (vars .entry)) callee xs .vars ⌝ }
 {
     let a = passed(vars, 0 < xs.len, xs.a0);
     let b = passed(vars, 1 < xs.len, xs.a1);
     let c = passed(vars, 2 < xs.len, xs.a2);
     let d = passed(vars, 3 < xs.len, xs.a3);
-    machine::Frame {
-        proc: callee,
-        node: 0,
-        vars: [a, b, c, d, 0, 0, 0, 0, 0, 0, 0, 0, 0, 0, 0, 0],
-    }
-}
-
-fn lowered(c: u8) -> u8
-    ensures { λ r. ⌜ r ≡ c - 1 ⌝ }
-{
-    if c == 0 { 0 } else { c - 1 }
-}
-
-fn pushed(e: machine::Entries, x: i32) -> machine::Entries
-    ensures { λ r. ⌜ r ≡ pick (ltb (e .len) 8) (appended x e) e ⌝ }
-{
-    let k = e.len as usize;
-    if k < 8 {
-        let mut r = e;
-        r.items[k] = x;
-        r.len = e.len + 1;
-        return r;
-    }
-    e
-}
-
-fn popped(e: machine::Entries) -> machine::Entries
-    ensures { λ r. ⌜ r ≡ shortened e ⌝ }
-{
-    let a = e.items;
-    machine::Entries {
-        len: lowered(e.len),
-        items: [a[1], a[2], a[3], a[4], a[5], a[6], a[7], 0],
-    }
-}
-
-// The queue after a node: 1 sends x, 2 receives.
-pub fn queue_after(e: machine::Entries, how: u8, x: i32) -> machine::Entries
-    ensures { λ r. ⌜ r ≡ queueAfter e how x ⌝ }
-{
-    if how == 1 {
-        return pushed(e, x);
-    }
-    if how == 2 {
-        return popped(e);
-    }
-    e
+    [a, b, c, d, 0, 0, 0, 0, 0, 0, 0, 0, 0, 0, 0, 0]
 }
 
 // ---- places

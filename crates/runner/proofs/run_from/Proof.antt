@@ -6,165 +6,274 @@ use mathlib.Core.List.{List, _∷_, []}
 use mathlib.Core.Logic.{⊎-elim}
 use Prim.Native.Nat.{ℕ, suc, _+_, _-_, _*_, _≤_, _<_}
 use lib.ListN.{length, getD, set, take, drop, length-set}
-use lib.Seq.{length-sets}
+use lib.Seq.{sets, length-sets}
+use lib.Dec.{eqb}
 use lib.IntN.{ℤ, pos}
 use mir.Syntax.{w32}
-use mir.Val.{toZ}
+use mir.Val.{toZ, ofZ}
 use mir.Facts.{toZ-ofZ}
+use Rattle.table.specs.Mask.{pick}
 use Rattle.table.specs.Table.{noSlot, nodeAt, arcTo}
 use Rattle.table.specs.declared.Node.{Node}
-use Rattle.machine.specs.State.{entriesAt, openFrames}
-use Rattle.machine.specs.Step.{Memory, keptIn}
-use Rattle.machine.specs.Run.{runFrom}
-use Rattle.steps.specs.Cut.{Arrived, showing, triedOf, passOf, sidesOf, queueAfter, underOf}
+use Rattle.machine.specs.declared.Frame.{Frame}
+use Rattle.machine.specs.declared.State.{State}
+use Rattle.machine.specs.declared.Running.{Running}
+use Rattle.machine.specs.State.{openFrames, noVars, noFrame}
+use Rattle.machine.specs.Step.{Memory, keptIn, entering, shown}
+use Rattle.machine.specs.Run.{word, flagged, runFrom, Ran}
+use Rattle.steps.specs.Cut.{Arrived, triedOf, passOf, backOf, actOf, flagOf, bitsOf, underOf, semsAfter, lensAfter, itemsAfter}
+use Rattle.steps.specs.declared.Acted.{Acted}
 use Rattle.starts.specs.Ready.{Placed}
 use Rattle.starts.specs.Begins.{Good, frameIn}
-use Rattle.runner.proofs.Walks.{met, heading, withVars, tried-within, pass-within}
+use Rattle.starts.specs.GoodLaws.{FrameGood}
+use Rattle.columns.specs.Columns.{framesOf, queuesOf, stateOf, Shape}
+use Rattle.columns.specs.ColumnLaws.{frame-set}
+use Rattle.runner.proofs.Walks.{met, metOf, heading, withVars, tried-within, pass-within}
 use Rattle.runner.proofs.Runs.{answered, at-end}
-use Rattle.runner.proofs.Turns.{back-below, sem-below, queue-below, call-below, Ends, ends-over, ends-spent, ends-halts, goes-on, stop-none, stop-full, stop-lost, Standing, node-is, blocks, stop-call, call-free, call-shows, placed, turn-calls, opened-good, under-le, stays-here, few-none, few-tries, freed, acted, logs, stop-tried, stop-acting, stop-walking, few-is, most-is, turn-walks, stored-good, no-call}
-use lib.Seq.{sets}
-use Rattle.table.specs.Table.{queueAt}
-use Rattle.machine.specs.Run.{word}
+use Rattle.runner.proofs.Turns.{back-below, within, at-below, call-below, Ends, ends-over, ends-spent, ends-halts, goes-on, stop-none, stop-full, stop-lost, Standing, node-is, blocks, stop-call, call-free, call-shows, placed, turn-calls, opened-good, under-le, stays-here, freed, acted, logs, stop-tried, stop-acting, stop-walking, whole, turn-walks, stored-good, no-call, under-less, rest-less, next-room}
+use Rattle.runner.proofs.Stores.{state-of, shape-of, proc-in, node-in, vars-in, shape-set, shape-after, frames-after, vars-still, cleared-none, cleared-good}
 use Rattle.runner.proofs.run_from.Statement.{statement}
 use Rattle.runner.proofs.run_from.Tie as tie
 
 abbrev Inv-loop2 : tie.InvT-loop2
-Inv-loop2 before schedule values most log t keep row rest u n used k at i d f top a v sj c qj g back len cap first p fv₀ o pi kp arc₀ us₀ m₀ fv arc us m = ((mm : Memory) → met (heading t values p most (withVars mm fv₀) arc₀ us₀) ≡ met (heading t values p m (withVars mm fv) arc us)) × ((us ≤ length values) × (length fv ≡ 16))
+Inv-loop2 t before schedule values most log keep row caps procs nodes vars lens items depth lost sems rest n used k at i d f tp tn a back g to p o pi kp w₀ far₀ arc₀ us₀ m₀ w far arc us m =
+    let l₀ = set (getD vars g []) (o .var) (o .value) in
+    ((mm : Memory) → met (heading t values p most (withVars mm l₀) (o .arc) (o .used)) ≡ met (heading t values p m (withVars mm (pick far w l₀)) arc us)) × ((us ≤ length values) × (length (pick far w l₀) ≡ 16))
 
 abbrev μ-loop2 : tie.MeasureT-loop2
-μ-loop2 before schedule values most log t keep row rest u n used k at i d f top a v sj c qj g back len cap first p fv₀ o pi kp arc₀ us₀ m₀ fv arc us m = m
+μ-loop2 t before schedule values most log keep row caps procs nodes vars lens items depth lost sems rest n used k at i d f tp tn a back g to p o pi kp w₀ far₀ arc₀ us₀ m₀ w far arc us m = m
 
 abbrev Inv-loop : tie.InvT-loop
-Inv-loop before schedule values most log₀ t keep row rest₀ u₀ n₀ used₀ log rest u n used = (runFrom t (keptIn t) most values schedule 0 u₀ (drop before values) log₀ ≡ runFrom t (keptIn t) most values rest n u (drop used values) log) × (Good t u × ((used ≤ length values) × ((8 * n ≤ length log) × ((length log ≡ length log₀) × (length log < 18446744073709551616)))))
+Inv-loop t before schedule values most log₀ keep row caps procs₀ nodes₀ vars₀ lens₀ items₀ depth₀ lost₀ sems₀ rest₀ n₀ used₀ log procs nodes vars lens items depth lost sems rest n used =
+    let u = stateOf depth lost procs nodes vars sems lens items in
+    (runFrom t (keptIn t) most values schedule 0 (stateOf depth₀ lost₀ procs₀ nodes₀ vars₀ sems₀ lens₀ items₀) (drop before values) log₀ ≡ runFrom t (keptIn t) most values rest n u (drop used values) log) ×
+    (Good t u × (Shape procs nodes vars lens items × ((used ≤ length values) × ((8 * n ≤ length log) × ((length log ≡ length log₀) × (length log < 18446744073709551616))))))
 
 abbrev μ-loop : tie.MeasureT-loop
-μ-loop before schedule values most log₀ t keep row rest₀ u₀ n₀ used₀ log rest u n used = length rest
+μ-loop t before schedule values most log₀ keep row caps procs₀ nodes₀ vars₀ lens₀ items₀ depth₀ lost₀ sems₀ rest₀ n₀ used₀ log procs nodes vars lens items depth lost sems rest n used = length rest
+
+begins : (c : tie.After-items Inv-loop2 μ-loop2 Inv-loop μ-loop) → stateOf ((c .before .before .before .before .before .before .before .before .before .before .args) .s .depth) ((c .before .before .before .before .before .before .before .before .before .before .args) .s .lost) ((c .before .before .before .before .procs) .result) ((c .before .before .before .nodes) .result) ((c .before .before .vars) .result) ((c .before .before .before .before .before .before .before .before .before .before .args) .s .sems) ((c .before .lens) .result) ((c .items) .result) ≡ (c .before .before .before .before .before .before .before .before .before .before .args) .s
+begins c = state-of ((c .before .before .before .before .before .before .before .before .before .before .pre) .1 .0) ((c .before .before .before .before .procs) .ensures) ((c .before .before .before .nodes) .ensures) ((c .before .before .vars) .ensures) ((c .before .lens) .ensures .0) ((c .items) .ensures .0)
+
+proc-lt : (c : tie.At-loop Inv-loop2 μ-loop2 Inv-loop μ-loop) → (i : ℕ) → getD ((c .loop) .procs) i 0 < 8
+proc-lt c i = rw (proc-in ((c .loop) .inv .1 .1 .0) i) (((c .loop) .inv .1 .0) .procs i)
+
+node-lt : (c : tie.At-loop Inv-loop2 μ-loop2 Inv-loop μ-loop) → (i : ℕ) → getD ((c .loop) .nodes) i 0 < 32
+node-lt c i = rw (node-in ((c .loop) .inv .1 .1 .0) i) (((c .loop) .inv .1 .0) .nodes i)
+
+vars-long : (c : tie.At-loop Inv-loop2 μ-loop2 Inv-loop μ-loop) → (i : ℕ) → i < 32 → length (getD ((c .loop) .vars) i []) ≡ 16
+vars-long c i h = ap length (vars-in ((c .loop) .inv .1 .1 .0) i) ∙ ((c .loop) .inv .1 .0) .vars i h
 
 f-below : (c : tie.After-top-of Inv-loop2 μ-loop2 Inv-loop μ-loop) → (c .top-of) .result < 32
-f-below c = omega (arith, (c .top-of) .ensures, (c .before .before .before .before .before .if2) .left, (c .before .before .before .before .before .before .before .before .before .before .before .before .pre) .0 .tasks, (c .before .before .before .before .before .before .before .before .loop) .inv .1 .0 .bounded (getD ((c .before .before .before .before .before .before .before .before .loop) .rest .now) 0 0) ((c .before .before .before .before .before .if2) .left), (c .before .before .before .before .before .before .before .before .loop) .inv .1 .0 .opened (getD ((c .before .before .before .before .before .before .before .before .loop) .rest .now) 0 0) ((c .before .before .before .before .before .if2) .left))
+f-below c = omega (arith, (c .top-of) .ensures, (c .before .before .before .if2) .left, (c .before .before .before .before .before .before .before .before .before .before .before .before .before .before .before .before .before .before .before .before .before .pre) .0 .tasks, ((c .before .before .before .before .before .before .before .loop) .inv .1 .0) .bounded (getD ((c .before .before .before .before .before .before .before .loop) .rest .now) 0 0) ((c .before .before .before .if2) .left), ((c .before .before .before .before .before .before .before .loop) .inv .1 .0) .opened (getD ((c .before .before .before .before .before .before .before .loop) .rest .now) 0 0) ((c .before .before .before .if2) .left))
 
 a-below : (c : tie.After-place Inv-loop2 μ-loop2 Inv-loop μ-loop) → (c .place) .result < 256
-a-below c = omega (arith, (c .place) .ensures, (c .before .before .before .before .before .before .before .before .before .before .loop) .inv .1 .0 .procs ((c .before .before .top-of) .result), (c .before .before .before .before .before .before .before .before .before .before .loop) .inv .1 .0 .nodes ((c .before .before .top-of) .result))
+a-below c = omega (arith, (c .place) .ensures, proc-lt (c .before .before .before .before .before .before .before .before) ((c .before .top-of) .result), node-lt (c .before .before .before .before .before .before .before .before) ((c .before .top-of) .result))
 
-standing0 : (c : tie.After-sl Inv-loop2 μ-loop2 Inv-loop μ-loop) → Standing ((c .before .before .before .before .before .before .before .before .before .before .before .before .before .before .before .args) .t1) ((c .before .before .before .before .before .before .before .before .before .before .before .before .before .before .before .args) .t2) ((c .before .before .before .before .before .before .before .before .before .before .before .before .before .before .before .pre) .0) ((c .before .before .before .before .before .before .before .before .before .before .before .before .before .before .before .args) .most) ((c .before .before .before .before .before .before .before .before .before .before .before .before .before .before .before .args) .values .now) ((c .before .before .before .before .before .before .before .before .before .before .before .loop) .rest .now) ((c .before .before .before .before .before .before .before .before .before .before .before .loop) .n) ((c .before .before .before .before .before .before .before .before .before .before .before .loop) .u) ((c .before .before .before .before .before .before .before .before .before .before .before .loop) .used) ((c .before .before .before .before .before .before .before .before .before .before .before .loop) .log) ((c .before .before .before .top-of) .result) (getD ((c .before .before .before .before .before .before .before .before .before .before .before .before .row) .result) ((c .before .place) .result) noSlot .node) (sidesOf (getD ((c .before .before .before .before .before .before .before .before .before .before .before .before .row) .result) ((c .before .place) .result) noSlot .node))
-standing0 c = record {
-  some = (c .before .before .before .before .before .before .before .before .before .before .if1) .left;
-  task = (c .before .before .before .before .before .before .before .before .if2) .left;
-  room = (c .before .before .before .before .before .before .before .if3) .left;
-  here = (c .before .before .before .before .before .if4) .left;
-  good = (c .before .before .before .before .before .before .before .before .before .before .before .loop) .inv .1 .0;
-  at = (c .before .before .before .top-of) .ensures;
-  node = node-is ((c .before .before .before .before .before .before .before .before .before .before .before .before .before .before .before .args) .t1) ((c .before .before .before .before .before .before .before .before .before .before .before .before .before .before .before .args) .t2) ((c .before .before .before .before .before .before .before .before .before .before .before .before .before .before .before .pre) .0) ((c .before .before .before .before .before .before .before .before .before .before .before .before .before .before .before .args) .most) ((c .before .before .before .before .before .before .before .before .before .before .before .before .before .before .before .args) .values .now) ((c .before .before .before .before .before .before .before .before .before .before .before .loop) .rest .now) ((c .before .before .before .before .before .before .before .before .before .before .before .loop) .n) ((c .before .before .before .before .before .before .before .before .before .before .before .loop) .u) ((c .before .before .before .before .before .before .before .before .before .before .before .loop) .used) ((c .before .before .before .before .before .before .before .before .before .before .before .loop) .log) ((c .before .before .before .before .before .before .before .before .before .before .before .before .row) .result) ((c .before .before .before .top-of) .result) ((c .before .place) .result) ((c .before .before .before .before .before .before .before .before .before .before .before .before .row) .ensures) ((c .before .before .before .before .before .before .before .before .before .before .before .loop) .inv .1 .0) ((c .before .before .before .top-of) .ensures) ((c .before .place) .ensures);
-  sides = refl;
-}
-
-standing : (c : tie.After-beside Inv-loop2 μ-loop2 Inv-loop μ-loop) → Standing ((c .before .before .before .before .before .before .before .before .before .before .before .before .before .before .before .before .before .args) .t1) ((c .before .before .before .before .before .before .before .before .before .before .before .before .before .before .before .before .before .args) .t2) ((c .before .before .before .before .before .before .before .before .before .before .before .before .before .before .before .before .before .pre) .0) ((c .before .before .before .before .before .before .before .before .before .before .before .before .before .before .before .before .before .args) .most) ((c .before .before .before .before .before .before .before .before .before .before .before .before .before .before .before .before .before .args) .values .now) ((c .before .before .before .before .before .before .before .before .before .before .before .before .before .loop) .rest .now) ((c .before .before .before .before .before .before .before .before .before .before .before .before .before .loop) .n) ((c .before .before .before .before .before .before .before .before .before .before .before .before .before .loop) .u) ((c .before .before .before .before .before .before .before .before .before .before .before .before .before .loop) .used) ((c .before .before .before .before .before .before .before .before .before .before .before .before .before .loop) .log) ((c .before .before .before .before .before .top-of) .result) (getD ((c .before .before .before .before .before .before .before .before .before .before .before .before .before .before .row) .result) ((c .before .before .before .place) .result) noSlot .node) ((c .beside) .result)
+standing : (c : tie.After-sl Inv-loop2 μ-loop2 Inv-loop μ-loop) → Standing ((c .before .before .before .before .before .before .before .before .before .before .before .before .before .before .before .before .before .before .before .before .before .before .before .args) .t) ((c .before .before .before .before .before .before .before .before .before .before .before .before .before .before .before .before .before .before .before .before .before .before .before .args) .t2) ((c .before .before .before .before .before .before .before .before .before .before .before .before .before .before .before .before .before .before .before .before .before .before .before .pre) .0) ((c .before .before .before .before .before .before .before .before .before .before .before .before .before .before .before .before .before .before .before .before .before .before .before .args) .most) ((c .before .before .before .before .before .before .before .before .before .before .before .before .before .before .before .before .before .before .before .before .before .before .before .args) .values .now) ((c .before .before .before .before .before .before .before .before .before .loop) .rest .now) ((c .before .before .before .before .before .before .before .before .before .loop) .n) (stateOf ((c .before .before .before .before .before .before .before .before .before .loop) .depth) ((c .before .before .before .before .before .before .before .before .before .loop) .lost) ((c .before .before .before .before .before .before .before .before .before .loop) .procs) ((c .before .before .before .before .before .before .before .before .before .loop) .nodes) ((c .before .before .before .before .before .before .before .before .before .loop) .vars) ((c .before .before .before .before .before .before .before .before .before .loop) .sems) ((c .before .before .before .before .before .before .before .before .before .loop) .lens) ((c .before .before .before .before .before .before .before .before .before .loop) .items)) ((c .before .before .before .before .before .before .before .before .before .loop) .used) ((c .before .before .before .before .before .before .before .before .before .loop) .log) ((c .before .before .top-of) .result) (getD ((c .before .before .before .before .before .before .before .before .before .before .before .before .before .before .before .before .before .before .before .before .row) .result) ((c .before .place) .result) noSlot .node) ((c .before .before .before .before .before .before .before .before .before .loop) .lens) ((c .before .before .before .before .before .before .before .before .before .loop) .items) ((c .before .before .before .before .before .before .before .before .before .before .before .before .before .before .before .before .before .before .before .caps) .result)
 standing c = record {
-  some = (c .before .before .before .before .before .before .before .before .before .before .before .before .if1) .left;
-  task = (c .before .before .before .before .before .before .before .before .before .before .if2) .left;
-  room = (c .before .before .before .before .before .before .before .before .before .if3) .left;
-  here = (c .before .before .before .before .before .before .before .if4) .left;
-  good = (c .before .before .before .before .before .before .before .before .before .before .before .before .before .loop) .inv .1 .0;
-  at = (c .before .before .before .before .before .top-of) .ensures;
-  node = node-is ((c .before .before .before .before .before .before .before .before .before .before .before .before .before .before .before .before .before .args) .t1) ((c .before .before .before .before .before .before .before .before .before .before .before .before .before .before .before .before .before .args) .t2) ((c .before .before .before .before .before .before .before .before .before .before .before .before .before .before .before .before .before .pre) .0) ((c .before .before .before .before .before .before .before .before .before .before .before .before .before .before .before .before .before .args) .most) ((c .before .before .before .before .before .before .before .before .before .before .before .before .before .before .before .before .before .args) .values .now) ((c .before .before .before .before .before .before .before .before .before .before .before .before .before .loop) .rest .now) ((c .before .before .before .before .before .before .before .before .before .before .before .before .before .loop) .n) ((c .before .before .before .before .before .before .before .before .before .before .before .before .before .loop) .u) ((c .before .before .before .before .before .before .before .before .before .before .before .before .before .loop) .used) ((c .before .before .before .before .before .before .before .before .before .before .before .before .before .loop) .log) ((c .before .before .before .before .before .before .before .before .before .before .before .before .before .before .row) .result) ((c .before .before .before .before .before .top-of) .result) ((c .before .before .before .place) .result) ((c .before .before .before .before .before .before .before .before .before .before .before .before .before .before .row) .ensures) ((c .before .before .before .before .before .before .before .before .before .before .before .before .before .loop) .inv .1 .0) ((c .before .before .before .before .before .top-of) .ensures) ((c .before .before .before .place) .ensures);
-  sides = (c .beside) .ensures;
+  some = (c .before .before .before .before .before .before .before .before .if1) .left;
+  task = (c .before .before .before .before .before .if2) .left;
+  room = (c .before .before .before .before .if3) .left;
+  here = (c .before .before .before .if4) .left;
+  good = ((c .before .before .before .before .before .before .before .before .before .loop) .inv .1 .0);
+  at = (c .before .before .top-of) .ensures;
+  node = node-is ((c .before .before .before .before .before .before .before .before .before .before .before .before .before .before .before .before .before .before .before .before .before .before .before .args) .t) ((c .before .before .before .before .before .before .before .before .before .before .before .before .before .before .before .before .before .before .before .before .before .before .before .args) .t2) ((c .before .before .before .before .before .before .before .before .before .before .before .before .before .before .before .before .before .before .before .before .before .before .before .pre) .0) ((c .before .before .before .before .before .before .before .before .before .before .before .before .before .before .before .before .before .before .before .before .before .before .before .args) .most) ((c .before .before .before .before .before .before .before .before .before .before .before .before .before .before .before .before .before .before .before .before .before .before .before .args) .values .now) ((c .before .before .before .before .before .before .before .before .before .loop) .rest .now) ((c .before .before .before .before .before .before .before .before .before .loop) .n) (stateOf ((c .before .before .before .before .before .before .before .before .before .loop) .depth) ((c .before .before .before .before .before .before .before .before .before .loop) .lost) ((c .before .before .before .before .before .before .before .before .before .loop) .procs) ((c .before .before .before .before .before .before .before .before .before .loop) .nodes) ((c .before .before .before .before .before .before .before .before .before .loop) .vars) ((c .before .before .before .before .before .before .before .before .before .loop) .sems) ((c .before .before .before .before .before .before .before .before .before .loop) .lens) ((c .before .before .before .before .before .before .before .before .before .loop) .items)) ((c .before .before .before .before .before .before .before .before .before .loop) .used) ((c .before .before .before .before .before .before .before .before .before .loop) .log) ((c .before .before .before .before .before .before .before .before .before .before .before .before .before .before .before .before .before .before .before .before .row) .result) ((c .before .before .top-of) .result) ((c .before .place) .result) ((c .before .before .before .before .before .before .before .before .before .before .before .before .before .before .before .before .before .before .before .before .row) .ensures) ((c .before .before .before .before .before .before .before .before .before .loop) .inv .1 .0) ((c .before .before .top-of) .ensures) ((c .before .place) .ensures ∙ (λ i. 32 * proc-in ((c .before .before .before .before .before .before .before .before .before .loop) .inv .1 .1 .0) ((c .before .before .top-of) .result) i + node-in ((c .before .before .before .before .before .before .before .before .before .loop) .inv .1 .1 .0) ((c .before .before .top-of) .result) i));
+  queued = refl;
+  even = ((c .before .before .before .before .before .before .before .before .before .loop) .inv .1 .1 .0) .lens ∙ sym (((c .before .before .before .before .before .before .before .before .before .loop) .inv .1 .1 .0) .items);
+  caps = (c .before .before .before .before .before .before .before .before .before .before .before .before .before .before .before .before .before .before .before .caps) .ensures;
 }
-
-sem-lt : (c : tie.After-beside Inv-loop2 μ-loop2 Inv-loop μ-loop) → (c .beside) .result .sem < 8
-sem-lt c = rw ((c .beside) .ensures) (sem-below (getD ((c .before .before .before .before .before .before .before .before .before .before .before .before .before .before .row) .result) ((c .before .before .before .place) .result) noSlot .node) (placed ((c .before .before .before .before .before .before .before .before .before .before .before .before .before .before .before .before .before .args) .t1) ((c .before .before .before .before .before .before .before .before .before .before .before .before .before .before .before .before .before .args) .t2) ((c .before .before .before .before .before .before .before .before .before .before .before .before .before .before .before .before .before .pre) .0) ((c .before .before .before .before .before .before .before .before .before .before .before .before .before .before .before .before .before .args) .most) ((c .before .before .before .before .before .before .before .before .before .before .before .before .before .before .before .before .before .args) .values .now) ((c .before .before .before .before .before .before .before .before .before .before .before .before .before .loop) .rest .now) ((c .before .before .before .before .before .before .before .before .before .before .before .before .before .loop) .n) ((c .before .before .before .before .before .before .before .before .before .before .before .before .before .loop) .u) ((c .before .before .before .before .before .before .before .before .before .before .before .before .before .loop) .used) ((c .before .before .before .before .before .before .before .before .before .before .before .before .before .loop) .log) ((c .before .before .before .before .before .top-of) .result) (getD ((c .before .before .before .before .before .before .before .before .before .before .before .before .before .before .row) .result) ((c .before .before .before .place) .result) noSlot .node) ((c .beside) .result) (standing c)))
-
-queue-lt : (c : tie.After-beside Inv-loop2 μ-loop2 Inv-loop μ-loop) → (c .beside) .result .queue < 8
-queue-lt c = rw ((c .beside) .ensures) (queue-below (getD ((c .before .before .before .before .before .before .before .before .before .before .before .before .before .before .row) .result) ((c .before .before .before .place) .result) noSlot .node) (placed ((c .before .before .before .before .before .before .before .before .before .before .before .before .before .before .before .before .before .args) .t1) ((c .before .before .before .before .before .before .before .before .before .before .before .before .before .before .before .before .before .args) .t2) ((c .before .before .before .before .before .before .before .before .before .before .before .before .before .before .before .before .before .pre) .0) ((c .before .before .before .before .before .before .before .before .before .before .before .before .before .before .before .before .before .args) .most) ((c .before .before .before .before .before .before .before .before .before .before .before .before .before .before .before .before .before .args) .values .now) ((c .before .before .before .before .before .before .before .before .before .before .before .before .before .loop) .rest .now) ((c .before .before .before .before .before .before .before .before .before .before .before .before .before .loop) .n) ((c .before .before .before .before .before .before .before .before .before .before .before .before .before .loop) .u) ((c .before .before .before .before .before .before .before .before .before .before .before .before .before .loop) .used) ((c .before .before .before .before .before .before .before .before .before .before .before .before .before .loop) .log) ((c .before .before .before .before .before .top-of) .result) (getD ((c .before .before .before .before .before .before .before .before .before .before .before .before .before .before .row) .result) ((c .before .before .before .place) .result) noSlot .node) ((c .beside) .result) (standing c)))
 
 under-below : (c : tie.After-under Inv-loop2 μ-loop2 Inv-loop μ-loop) → (c .under) .result < 32
-under-below c = omega (arith, f-below (c .before .before .before .before .before .before .before .before), (c .under) .ensures, under-le ((c .before .before .before .before .before .before .before .before .top-of) .result) ((c .before .before .before .beside) .result .back) (getD ((c .before .before .before .before .before .before .before .before .before .before .before .before .before .before .before .before .loop) .u .depth) (getD ((c .before .before .before .before .before .before .before .before .before .before .before .before .before .before .before .before .loop) .rest .now) 0 0) 0))
+under-below c = omega (arith, f-below (c .before .before .before .before .before .before), (c .under) .ensures, under-le ((c .before .before .before .before .before .before .top-of) .result) ((c .before .before .closes) .result) (getD ((c .before .before .before .before .before .before .before .before .before .before .before .before .before .loop) .depth) (getD ((c .before .before .before .before .before .before .before .before .before .before .before .before .before .loop) .rest .now) 0 0) 0))
 
-nexts : (c : tie.Joined6 Inv-loop2 μ-loop2 Inv-loop μ-loop) → (c .if6) .g ≡ underOf ((c .before .before .before .before .before .before .before .top-of) .result) ((c .before .before .beside) .result .back) (getD ((c .before .before .before .before .before .before .before .before .before .before .before .before .before .before .before .loop) .u .depth) (getD ((c .before .before .before .before .before .before .before .before .before .before .before .before .before .before .before .loop) .rest .now) 0 0) 0)
-nexts c = ⊎-elim (λ w. w .10 ∙ w .1 .ensures) (λ w. w .1 ∙ stays-here ((c .before .before .before .before .before .before .before .before .before .before .before .before .before .before .before .before .before .before .before .args) .t1) ((c .before .before .before .before .before .before .before .before .before .before .before .before .before .before .before .before .before .before .before .args) .t2) ((c .before .before .before .before .before .before .before .before .before .before .before .before .before .before .before .before .before .before .before .pre) .0) ((c .before .before .before .before .before .before .before .before .before .before .before .before .before .before .before .before .before .before .before .args) .most) ((c .before .before .before .before .before .before .before .before .before .before .before .before .before .before .before .before .before .before .before .args) .values .now) ((c .before .before .before .before .before .before .before .before .before .before .before .before .before .before .before .loop) .rest .now) ((c .before .before .before .before .before .before .before .before .before .before .before .before .before .before .before .loop) .n) ((c .before .before .before .before .before .before .before .before .before .before .before .before .before .before .before .loop) .u) ((c .before .before .before .before .before .before .before .before .before .before .before .before .before .before .before .loop) .used) ((c .before .before .before .before .before .before .before .before .before .before .before .before .before .before .before .loop) .log) ((c .before .before .before .before .before .before .before .top-of) .result) (getD ((c .before .before .before .before .before .before .before .before .before .before .before .before .before .before .before .before .row) .result) ((c .before .before .before .before .before .place) .result) noSlot .node) ((c .before .before .beside) .result) (standing (c .before .before)) (w .0 .left)) ((c .if6) .came)
-
-g-below : (c : tie.Joined6 Inv-loop2 μ-loop2 Inv-loop μ-loop) → (c .if6) .g < 32
-g-below c = omega (arith, f-below (c .before .before .before .before .before .before .before), nexts c, under-le ((c .before .before .before .before .before .before .before .top-of) .result) ((c .before .before .beside) .result .back) (getD ((c .before .before .before .before .before .before .before .before .before .before .before .before .before .before .before .loop) .u .depth) (getD ((c .before .before .before .before .before .before .before .before .before .before .before .before .before .before .before .loop) .rest .now) 0 0) 0))
-
-backs : (c : tie.Joined6 Inv-loop2 μ-loop2 Inv-loop μ-loop) → ((c .before .before .beside) .result .back ≡ 0 → ⊥) → (c .if6) .back ≡ arcTo (nodeAt ((c .before .before .before .before .before .before .before .before .before .before .before .before .before .before .before .before .before .before .before .args) .t1) ((frameIn ((c .before .before .before .before .before .before .before .before .before .before .before .before .before .before .before .loop) .u .frames) ((c .if6) .g)) .proc) ((frameIn ((c .before .before .before .before .before .before .before .before .before .before .before .before .before .before .before .loop) .u .frames) ((c .if6) .g)) .node))
-backs c h =
-    ⊎-elim
-    (λ w. w .11 ∙ w .5 .ensures ∙ ap arcTo (ap (λ (i : ℕ). getD ((c .before .before .before .before .before .before .before .before .before .before .before .before .before .before .before .before .row) .result) i noSlot .node) (w .3 .ensures) ∙ (c .before .before .before .before .before .before .before .before .before .before .before .before .before .before .before .before .row) .ensures .nodes _ _ ((c .before .before .before .before .before .before .before .before .before .before .before .before .before .before .before .loop) .inv .1 .0 .procs (w .1 .result)) ((c .before .before .before .before .before .before .before .before .before .before .before .before .before .before .before .loop) .inv .1 .0 .nodes (w .1 .result))) ∙ ap (λ (i : ℕ). arcTo (nodeAt ((c .before .before .before .before .before .before .before .before .before .before .before .before .before .before .before .before .before .before .before .args) .t1) (frameIn ((c .before .before .before .before .before .before .before .before .before .before .before .before .before .before .before .loop) .u .frames) i .proc) (frameIn ((c .before .before .before .before .before .before .before .before .before .before .before .before .before .before .before .loop) .u .frames) i .node))) (sym (w .10)))
-    (λ w. absurd (h (few-none ((c .before .before .before .before .before .before .before .before .before .before .before .before .before .before .before .before .before .before .before .args) .t1) ((c .before .before .before .before .before .before .before .before .before .before .before .before .before .before .before .before .before .before .before .args) .t2) ((c .before .before .before .before .before .before .before .before .before .before .before .before .before .before .before .before .before .before .before .pre) .0) ((c .before .before .before .before .before .before .before .before .before .before .before .before .before .before .before .before .before .before .before .args) .most) ((c .before .before .before .before .before .before .before .before .before .before .before .before .before .before .before .before .before .before .before .args) .values .now) ((c .before .before .before .before .before .before .before .before .before .before .before .before .before .before .before .loop) .rest .now) ((c .before .before .before .before .before .before .before .before .before .before .before .before .before .before .before .loop) .n) ((c .before .before .before .before .before .before .before .before .before .before .before .before .before .before .before .loop) .u) ((c .before .before .before .before .before .before .before .before .before .before .before .before .before .before .before .loop) .used) ((c .before .before .before .before .before .before .before .before .before .before .before .before .before .before .before .loop) .log) ((c .before .before .before .before .before .before .before .top-of) .result) (getD ((c .before .before .before .before .before .before .before .before .before .before .before .before .before .before .before .before .row) .result) ((c .before .before .before .before .before .place) .result) noSlot .node) ((c .before .before .beside) .result) (standing (c .before .before)) (w .0 .left))))
+nexts : (c : tie.Joined6 Inv-loop2 μ-loop2 Inv-loop μ-loop) → ((c .if6) .g) ≡ underOf ((c .before .before .before .before .before .top-of) .result) (backOf (getD ((c .before .before .before .before .before .before .before .before .before .before .before .before .before .before .before .before .before .before .before .before .before .before .before .row) .result) ((c .before .before .before .before .place) .result) noSlot .node)) (getD ((c .before .before .before .before .before .before .before .before .before .before .before .before .loop) .depth) (getD ((c .before .before .before .before .before .before .before .before .before .before .before .before .loop) .rest .now) 0 0) 0)
+nexts c =
+    ⊎-elim (λ w. w .5 ∙ w .1 .ensures ∙ ap (λ (b : ℕ). underOf ((c .before .before .before .before .before .top-of) .result) b (getD ((c .before .before .before .before .before .before .before .before .before .before .before .before .loop) .depth) (getD ((c .before .before .before .before .before .before .before .before .before .before .before .before .loop) .rest .now) 0 0) 0)) ((c .before .closes) .ensures))
+    (λ w. w .1 ∙ stays-here ((c .before .before .before .before .before .before .before .before .before .before .before .before .before .before .before .before .before .before .before .before .before .before .before .before .before .before .args) .t) ((c .before .before .before .before .before .before .before .before .before .before .before .before .before .before .before .before .before .before .before .before .before .before .before .before .before .before .args) .t2) ((c .before .before .before .before .before .before .before .before .before .before .before .before .before .before .before .before .before .before .before .before .before .before .before .before .before .before .pre) .0) ((c .before .before .before .before .before .before .before .before .before .before .before .before .before .before .before .before .before .before .before .before .before .before .before .before .before .before .args) .most) ((c .before .before .before .before .before .before .before .before .before .before .before .before .before .before .before .before .before .before .before .before .before .before .before .before .before .before .args) .values .now) ((c .before .before .before .before .before .before .before .before .before .before .before .before .loop) .rest .now) ((c .before .before .before .before .before .before .before .before .before .before .before .before .loop) .n) (stateOf ((c .before .before .before .before .before .before .before .before .before .before .before .before .loop) .depth) ((c .before .before .before .before .before .before .before .before .before .before .before .before .loop) .lost) ((c .before .before .before .before .before .before .before .before .before .before .before .before .loop) .procs) ((c .before .before .before .before .before .before .before .before .before .before .before .before .loop) .nodes) ((c .before .before .before .before .before .before .before .before .before .before .before .before .loop) .vars) ((c .before .before .before .before .before .before .before .before .before .before .before .before .loop) .sems) ((c .before .before .before .before .before .before .before .before .before .before .before .before .loop) .lens) ((c .before .before .before .before .before .before .before .before .before .before .before .before .loop) .items)) ((c .before .before .before .before .before .before .before .before .before .before .before .before .loop) .used) ((c .before .before .before .before .before .before .before .before .before .before .before .before .loop) .log) ((c .before .before .before .before .before .top-of) .result) (getD ((c .before .before .before .before .before .before .before .before .before .before .before .before .before .before .before .before .before .before .before .before .before .before .before .row) .result) ((c .before .before .before .before .place) .result) noSlot .node) ((c .before .before .before .before .before .before .before .before .before .before .before .before .loop) .lens) ((c .before .before .before .before .before .before .before .before .before .before .before .before .loop) .items) ((c .before .before .before .before .before .before .before .before .before .before .before .before .before .before .before .before .before .before .before .before .before .before .caps) .result) (standing (c .before .before .before)) (sym ((c .before .closes) .ensures) ∙ w .0 .left))
     ((c .if6) .came)
 
-tries : (c : tie.After-act Inv-loop2 μ-loop2 Inv-loop μ-loop) → (c .act) .result ≡ triedOf (getD ((c .before .before .before .before .before .before .before .before .before .before .before .before .before .before .before .before .before .before .before .before .before .row) .result) ((c .before .before .before .before .before .before .before .before .before .before .place) .result) noSlot .node) ((c .before .before .before .before .before .if6) .back) ((frameIn ((c .before .before .before .before .before .before .before .before .before .before .before .before .before .before .before .before .before .before .before .before .loop) .u .frames) ((c .before .before .before .before .before .if6) .g)) .vars) (getD ((c .before .before .before .before .before .before .before .before .before .before .before .before .before .before .before .before .before .before .before .before .loop) .u .depth) (getD ((c .before .before .before .before .before .before .before .before .before .before .before .before .before .before .before .before .before .before .before .before .loop) .rest .now) 0 0) 0) (getD ((c .before .before .before .before .before .before .before .before .before .before .before .before .before .before .before .before .before .before .before .before .loop) .u .sems) ((c .before .before .before .before .before .before .before .beside) .result .sem) 0) ((entriesAt ((c .before .before .before .before .before .before .before .before .before .before .before .before .before .before .before .before .before .before .before .before .loop) .u .queues) ((c .before .before .before .before .before .before .before .beside) .result .queue)) .len) (queueAt ((c .before .before .before .before .before .before .before .before .before .before .before .before .before .before .before .before .before .before .before .before .before .before .before .before .args) .t1) ((c .before .before .before .before .before .before .before .beside) .result .queue) .cap) (getD ((entriesAt ((c .before .before .before .before .before .before .before .before .before .before .before .before .before .before .before .before .before .before .before .before .loop) .u .queues) ((c .before .before .before .before .before .before .before .beside) .result .queue)) .items) 0 (pos 0)) ((c .before .before .before .before .before .before .before .before .before .before .before .before .before .before .before .before .before .before .before .before .before .before .before .before .args) .values .now) ((c .before .before .before .before .before .before .before .before .before .before .before .before .before .before .before .before .before .before .before .before .loop) .used)
-tries c =
-    (c .act) .ensures ∙
+g-below : (c : tie.Joined6 Inv-loop2 μ-loop2 Inv-loop μ-loop) → ((c .if6) .g) < 32
+g-below c = omega (arith, f-below (c .before .before .before .before .before), nexts c, under-le ((c .before .before .before .before .before .top-of) .result) (backOf (getD ((c .before .before .before .before .before .before .before .before .before .before .before .before .before .before .before .before .before .before .before .before .before .before .before .row) .result) ((c .before .before .before .before .place) .result) noSlot .node)) (getD ((c .before .before .before .before .before .before .before .before .before .before .before .before .loop) .depth) (getD ((c .before .before .before .before .before .before .before .before .before .before .before .before .loop) .rest .now) 0 0) 0))
+
+backs : (c : tie.Joined6 Inv-loop2 μ-loop2 Inv-loop μ-loop) → (backOf (getD ((c .before .before .before .before .before .before .before .before .before .before .before .before .before .before .before .before .before .before .before .before .before .before .before .row) .result) ((c .before .before .before .before .place) .result) noSlot .node) ≡ 0 → ⊥) → (c .if6) .to ≡ arcTo (nodeAt ((c .before .before .before .before .before .before .before .before .before .before .before .before .before .before .before .before .before .before .before .before .before .before .before .before .before .before .args) .t) (frameIn (framesOf ((c .before .before .before .before .before .before .before .before .before .before .before .before .loop) .procs) ((c .before .before .before .before .before .before .before .before .before .before .before .before .loop) .nodes) ((c .before .before .before .before .before .before .before .before .before .before .before .before .loop) .vars)) ((c .if6) .g) .proc) (frameIn (framesOf ((c .before .before .before .before .before .before .before .before .before .before .before .before .loop) .procs) ((c .before .before .before .before .before .before .before .before .before .before .before .before .loop) .nodes) ((c .before .before .before .before .before .before .before .before .before .before .before .before .loop) .vars)) ((c .if6) .g) .node))
+backs c h =
     ⊎-elim
-    (λ w. let e : toZ w32 ((c .before .before .before .before .before .if6) .first) ≡ (getD ((entriesAt ((c .before .before .before .before .before .before .before .before .before .before .before .before .before .before .before .before .before .before .before .before .loop) .u .queues) ((c .before .before .before .before .before .before .before .beside) .result .queue)) .items) 0 (pos 0)) = ap (toZ w32) (w .14) ∙ toZ-ofZ {w = w32} (record { sfits = w .9 .given }) in λ i. triedOf (getD ((c .before .before .before .before .before .before .before .before .before .before .before .before .before .before .before .before .before .before .before .before .before .row) .result) ((c .before .before .before .before .before .before .before .before .before .before .place) .result) noSlot .node) ((c .before .before .before .before .before .if6) .back) ((frameIn ((c .before .before .before .before .before .before .before .before .before .before .before .before .before .before .before .before .before .before .before .before .loop) .u .frames) ((c .before .before .before .before .before .if6) .g)) .vars) (getD ((c .before .before .before .before .before .before .before .before .before .before .before .before .before .before .before .before .before .before .before .before .loop) .u .depth) (getD ((c .before .before .before .before .before .before .before .before .before .before .before .before .before .before .before .before .before .before .before .before .loop) .rest .now) 0 0) 0) (getD ((c .before .before .before .before .before .before .before .before .before .before .before .before .before .before .before .before .before .before .before .before .loop) .u .sems) ((c .before .before .before .before .before .before .before .beside) .result .sem) 0) (w .12 i) (w .13 i) (e i) ((c .before .before .before .before .before .before .before .before .before .before .before .before .before .before .before .before .before .before .before .before .before .before .before .before .args) .values .now) ((c .before .before .before .before .before .before .before .before .before .before .before .before .before .before .before .before .before .before .before .before .loop) .used))
-    (λ w. (λ i. triedOf (getD ((c .before .before .before .before .before .before .before .before .before .before .before .before .before .before .before .before .before .before .before .before .before .row) .result) ((c .before .before .before .before .before .before .before .before .before .before .place) .result) noSlot .node) (w .2 i) ((frameIn ((c .before .before .before .before .before .before .before .before .before .before .before .before .before .before .before .before .before .before .before .before .loop) .u .frames) ((c .before .before .before .before .before .if6) .g)) .vars) (getD ((c .before .before .before .before .before .before .before .before .before .before .before .before .before .before .before .before .before .before .before .before .loop) .u .depth) (getD ((c .before .before .before .before .before .before .before .before .before .before .before .before .before .before .before .before .before .before .before .before .loop) .rest .now) 0 0) 0) (getD ((c .before .before .before .before .before .before .before .before .before .before .before .before .before .before .before .before .before .before .before .before .loop) .u .sems) ((c .before .before .before .before .before .before .before .beside) .result .sem) 0) (w .3 i) (w .4 i) (toZ w32 (w .5 i)) ((c .before .before .before .before .before .before .before .before .before .before .before .before .before .before .before .before .before .before .before .before .before .before .before .before .args) .values .now) ((c .before .before .before .before .before .before .before .before .before .before .before .before .before .before .before .before .before .before .before .before .loop) .used)) ∙ few-tries ((c .before .before .before .before .before .before .before .before .before .before .before .before .before .before .before .before .before .before .before .before .before .before .before .before .args) .t1) ((c .before .before .before .before .before .before .before .before .before .before .before .before .before .before .before .before .before .before .before .before .before .before .before .before .args) .t2) ((c .before .before .before .before .before .before .before .before .before .before .before .before .before .before .before .before .before .before .before .before .before .before .before .before .pre) .0) ((c .before .before .before .before .before .before .before .before .before .before .before .before .before .before .before .before .before .before .before .before .before .before .before .before .args) .most) ((c .before .before .before .before .before .before .before .before .before .before .before .before .before .before .before .before .before .before .before .before .before .before .before .before .args) .values .now) ((c .before .before .before .before .before .before .before .before .before .before .before .before .before .before .before .before .before .before .before .before .loop) .rest .now) ((c .before .before .before .before .before .before .before .before .before .before .before .before .before .before .before .before .before .before .before .before .loop) .n) ((c .before .before .before .before .before .before .before .before .before .before .before .before .before .before .before .before .before .before .before .before .loop) .u) ((c .before .before .before .before .before .before .before .before .before .before .before .before .before .before .before .before .before .before .before .before .loop) .used) ((c .before .before .before .before .before .before .before .before .before .before .before .before .before .before .before .before .before .before .before .before .loop) .log) ((c .before .before .before .before .before .before .before .before .before .before .before .before .top-of) .result) (getD ((c .before .before .before .before .before .before .before .before .before .before .before .before .before .before .before .before .before .before .before .before .before .row) .result) ((c .before .before .before .before .before .before .before .before .before .before .place) .result) noSlot .node) ((c .before .before .before .before .before .before .before .beside) .result) (standing (c .before .before .before .before .before .before .before)) (w .0 .left) ((frameIn ((c .before .before .before .before .before .before .before .before .before .before .before .before .before .before .before .before .before .before .before .before .loop) .u .frames) ((c .before .before .before .before .before .if6) .g)) .vars) ((c .before .before .before .before .before .if6) .back))
-    ((c .before .before .before .before .before .if6) .came)
+    (λ w. w .6 ∙ w .4 .ensures ∙ ap arcTo (ap (λ (i : ℕ). getD ((c .before .before .before .before .before .before .before .before .before .before .before .before .before .before .before .before .before .before .before .before .before .before .before .row) .result) i noSlot .node) (w .2 .ensures) ∙ (c .before .before .before .before .before .before .before .before .before .before .before .before .before .before .before .before .before .before .before .before .before .before .before .row) .ensures .nodes _ _ (proc-lt (c .before .before .before .before .before .before .before .before .before .before .before .before) (w .1 .result)) (node-lt (c .before .before .before .before .before .before .before .before .before .before .before .before) (w .1 .result))) ∙ (λ i. arcTo (nodeAt ((c .before .before .before .before .before .before .before .before .before .before .before .before .before .before .before .before .before .before .before .before .before .before .before .before .before .before .args) .t) (proc-in ((c .before .before .before .before .before .before .before .before .before .before .before .before .loop) .inv .1 .1 .0) (w .1 .result) i) (node-in ((c .before .before .before .before .before .before .before .before .before .before .before .before .loop) .inv .1 .1 .0) (w .1 .result) i))) ∙ ap (λ (i : ℕ). arcTo (nodeAt ((c .before .before .before .before .before .before .before .before .before .before .before .before .before .before .before .before .before .before .before .before .before .before .before .before .before .before .args) .t) (frameIn (framesOf ((c .before .before .before .before .before .before .before .before .before .before .before .before .loop) .procs) ((c .before .before .before .before .before .before .before .before .before .before .before .before .loop) .nodes) ((c .before .before .before .before .before .before .before .before .before .before .before .before .loop) .vars)) i .proc) (frameIn (framesOf ((c .before .before .before .before .before .before .before .before .before .before .before .before .loop) .procs) ((c .before .before .before .before .before .before .before .before .before .before .before .before .loop) .nodes) ((c .before .before .before .before .before .before .before .before .before .before .before .before .loop) .vars)) i .node))) (sym (w .5)))
+    (λ w. absurd (h (sym ((c .before .closes) .ensures) ∙ w .0 .left)))
+    ((c .if6) .came)
 
-free : (c : tie.Else7 Inv-loop2 μ-loop2 Inv-loop μ-loop) → blocks ((c .before .before .before .before .before .before .before .before .before .before .before .before .before .before .before .before .before .before .before .before .before .before .before .before .before .before .args) .t1) ((c .before .before .before .before .before .before .before .before .before .before .before .before .before .before .before .before .before .before .before .before .before .before .before .before .before .before .args) .t2) ((c .before .before .before .before .before .before .before .before .before .before .before .before .before .before .before .before .before .before .before .before .before .before .before .before .before .before .pre) .0) ((c .before .before .before .before .before .before .before .before .before .before .before .before .before .before .before .before .before .before .before .before .before .before .before .before .before .before .args) .most) ((c .before .before .before .before .before .before .before .before .before .before .before .before .before .before .before .before .before .before .before .before .before .before .before .before .before .before .args) .values .now) ((c .before .before .before .before .before .before .before .before .before .before .before .before .before .before .before .before .before .before .before .before .before .before .loop) .rest .now) ((c .before .before .before .before .before .before .before .before .before .before .before .before .before .before .before .before .before .before .before .before .before .before .loop) .n) ((c .before .before .before .before .before .before .before .before .before .before .before .before .before .before .before .before .before .before .before .before .before .before .loop) .u) ((c .before .before .before .before .before .before .before .before .before .before .before .before .before .before .before .before .before .before .before .before .before .before .loop) .used) ((c .before .before .before .before .before .before .before .before .before .before .before .before .before .before .before .before .before .before .before .before .before .before .loop) .log) ((c .before .before .before .before .before .before .before .before .before .before .before .before .before .before .top-of) .result) (getD ((c .before .before .before .before .before .before .before .before .before .before .before .before .before .before .before .before .before .before .before .before .before .before .before .row) .result) ((c .before .before .before .before .before .before .before .before .before .before .before .before .place) .result) noSlot .node) ((c .before .before .before .before .before .before .before .before .before .beside) .result) (standing (c .before .before .before .before .before .before .before .before .before)) ≡ false
-free c = freed ((c .before .before .before .before .before .before .before .before .before .before .before .before .before .before .before .before .before .before .before .before .before .before .before .before .before .before .args) .t1) ((c .before .before .before .before .before .before .before .before .before .before .before .before .before .before .before .before .before .before .before .before .before .before .before .before .before .before .args) .t2) ((c .before .before .before .before .before .before .before .before .before .before .before .before .before .before .before .before .before .before .before .before .before .before .before .before .before .before .pre) .0) ((c .before .before .before .before .before .before .before .before .before .before .before .before .before .before .before .before .before .before .before .before .before .before .before .before .before .before .args) .most) ((c .before .before .before .before .before .before .before .before .before .before .before .before .before .before .before .before .before .before .before .before .before .before .before .before .before .before .args) .values .now) ((c .before .before .before .before .before .before .before .before .before .before .before .before .before .before .before .before .before .before .before .before .before .before .loop) .rest .now) ((c .before .before .before .before .before .before .before .before .before .before .before .before .before .before .before .before .before .before .before .before .before .before .loop) .n) ((c .before .before .before .before .before .before .before .before .before .before .before .before .before .before .before .before .before .before .before .before .before .before .loop) .u) ((c .before .before .before .before .before .before .before .before .before .before .before .before .before .before .before .before .before .before .before .before .before .before .loop) .used) ((c .before .before .before .before .before .before .before .before .before .before .before .before .before .before .before .before .before .before .before .before .before .before .loop) .log) ((c .before .before .before .before .before .before .before .before .before .before .before .before .before .before .top-of) .result) (getD ((c .before .before .before .before .before .before .before .before .before .before .before .before .before .before .before .before .before .before .before .before .before .before .before .row) .result) ((c .before .before .before .before .before .before .before .before .before .before .before .before .place) .result) noSlot .node) ((c .before .before .before .before .before .before .before .before .before .beside) .result) (standing (c .before .before .before .before .before .before .before .before .before)) ((c .before .before .before .before .before .before .before .if6) .g) ((c .before .before .before .before .before .before .before .if6) .back) ((c .before .before .act) .result) (backs (c .before .before .before .before .before .before .before)) (tries (c .before .before)) ((c .if7) .left)
+tries : (c : tie.After-act Inv-loop2 μ-loop2 Inv-loop μ-loop) → (c .act) .result ≡ triedOf (getD ((c .before .before .before .before .before .before .before .before .before .before .before .before .before .before .before .before .before .before .before .before .before .before .before .before .before .before .before .before .before .before .row) .result) ((c .before .before .before .before .before .before .before .before .before .before .before .place) .result) noSlot .node) ((c .before .before .before .before .before .before .before .if6) .to) (frameIn (framesOf ((c .before .before .before .before .before .before .before .before .before .before .before .before .before .before .before .before .before .before .before .loop) .procs) ((c .before .before .before .before .before .before .before .before .before .before .before .before .before .before .before .before .before .before .before .loop) .nodes) ((c .before .before .before .before .before .before .before .before .before .before .before .before .before .before .before .before .before .before .before .loop) .vars)) ((c .before .before .before .before .before .before .before .if6) .g) .vars) (getD ((c .before .before .before .before .before .before .before .before .before .before .before .before .before .before .before .before .before .before .before .loop) .depth) (getD ((c .before .before .before .before .before .before .before .before .before .before .before .before .before .before .before .before .before .before .before .loop) .rest .now) 0 0) 0) ((c .before .before .before .before .before .before .before .before .before .before .before .before .before .before .before .before .before .before .before .loop) .sems) ((c .before .before .before .before .before .before .before .before .before .before .before .before .before .before .before .before .before .before .before .loop) .lens) ((c .before .before .before .before .before .before .before .before .before .before .before .before .before .before .before .before .before .before .before .before .before .before .before .before .before .before .before .before .before .caps) .result) ((c .before .before .before .before .before .before .before .before .before .before .before .before .before .before .before .before .before .before .before .loop) .items) ((c .before .before .before .before .before .before .before .before .before .before .before .before .before .before .before .before .before .before .before .before .before .before .before .before .before .before .before .before .before .before .before .before .before .args) .values .now) ((c .before .before .before .before .before .before .before .before .before .before .before .before .before .before .before .before .before .before .before .loop) .used)
+tries c = (c .act) .ensures ∙ ap (λ (l : List ℤ). triedOf (getD ((c .before .before .before .before .before .before .before .before .before .before .before .before .before .before .before .before .before .before .before .before .before .before .before .before .before .before .before .before .before .before .row) .result) ((c .before .before .before .before .before .before .before .before .before .before .before .place) .result) noSlot .node) ((c .before .before .before .before .before .before .before .if6) .to) l (getD ((c .before .before .before .before .before .before .before .before .before .before .before .before .before .before .before .before .before .before .before .loop) .depth) (getD ((c .before .before .before .before .before .before .before .before .before .before .before .before .before .before .before .before .before .before .before .loop) .rest .now) 0 0) 0) ((c .before .before .before .before .before .before .before .before .before .before .before .before .before .before .before .before .before .before .before .loop) .sems) ((c .before .before .before .before .before .before .before .before .before .before .before .before .before .before .before .before .before .before .before .loop) .lens) ((c .before .before .before .before .before .before .before .before .before .before .before .before .before .before .before .before .before .before .before .before .before .before .before .before .before .before .before .before .before .caps) .result) ((c .before .before .before .before .before .before .before .before .before .before .before .before .before .before .before .before .before .before .before .loop) .items) ((c .before .before .before .before .before .before .before .before .before .before .before .before .before .before .before .before .before .before .before .before .before .before .before .before .before .before .before .before .before .before .before .before .before .args) .values .now) ((c .before .before .before .before .before .before .before .before .before .before .before .before .before .before .before .before .before .before .before .loop) .used)) (vars-in ((c .before .before .before .before .before .before .before .before .before .before .before .before .before .before .before .before .before .before .before .loop) .inv .1 .1 .0) ((c .before .before .before .before .before .before .before .if6) .g))
 
-back-lt : (c : tie.Else7 Inv-loop2 μ-loop2 Inv-loop μ-loop) → (c .before .before .before .before .before .before .before .before .before .beside) .result .back ≤ (getD ((c .before .before .before .before .before .before .before .before .before .before .before .before .before .before .before .before .before .before .before .before .before .before .loop) .u .depth) (getD ((c .before .before .before .before .before .before .before .before .before .before .before .before .before .before .before .before .before .before .before .before .before .before .loop) .rest .now) 0 0) 0) - 1
-back-lt c = let s = (c .before .before .before .before .before .before .before .before .before .beside) .ensures in rw s (back-below (getD ((c .before .before .before .before .before .before .before .before .before .before .before .before .before .before .before .before .before .before .before .before .before .before .before .row) .result) ((c .before .before .before .before .before .before .before .before .before .before .before .before .place) .result) noSlot .node) (getD ((c .before .before .before .before .before .before .before .before .before .before .before .before .before .before .before .before .before .before .before .before .before .before .loop) .u .depth) (getD ((c .before .before .before .before .before .before .before .before .before .before .before .before .before .before .before .before .before .before .before .before .before .before .loop) .rest .now) 0 0) 0) _ _ _ (rw s at (free c)))
+free : (c : tie.Else7 Inv-loop2 μ-loop2 Inv-loop μ-loop) → blocks ((c .before .before .before .before .before .before .before .before .before .before .before .before .before .before .before .before .before .before .before .before .before .before .before .before .before .before .before .before .before .before .before .before .before .before .before .args) .t) ((c .before .before .before .before .before .before .before .before .before .before .before .before .before .before .before .before .before .before .before .before .before .before .before .before .before .before .before .before .before .before .before .before .before .before .before .args) .t2) ((c .before .before .before .before .before .before .before .before .before .before .before .before .before .before .before .before .before .before .before .before .before .before .before .before .before .before .before .before .before .before .before .before .before .before .before .pre) .0) ((c .before .before .before .before .before .before .before .before .before .before .before .before .before .before .before .before .before .before .before .before .before .before .before .before .before .before .before .before .before .before .before .before .before .before .before .args) .most) ((c .before .before .before .before .before .before .before .before .before .before .before .before .before .before .before .before .before .before .before .before .before .before .before .before .before .before .before .before .before .before .before .before .before .before .before .args) .values .now) ((c .before .before .before .before .before .before .before .before .before .before .before .before .before .before .before .before .before .before .before .before .before .loop) .rest .now) ((c .before .before .before .before .before .before .before .before .before .before .before .before .before .before .before .before .before .before .before .before .before .loop) .n) (stateOf ((c .before .before .before .before .before .before .before .before .before .before .before .before .before .before .before .before .before .before .before .before .before .loop) .depth) ((c .before .before .before .before .before .before .before .before .before .before .before .before .before .before .before .before .before .before .before .before .before .loop) .lost) ((c .before .before .before .before .before .before .before .before .before .before .before .before .before .before .before .before .before .before .before .before .before .loop) .procs) ((c .before .before .before .before .before .before .before .before .before .before .before .before .before .before .before .before .before .before .before .before .before .loop) .nodes) ((c .before .before .before .before .before .before .before .before .before .before .before .before .before .before .before .before .before .before .before .before .before .loop) .vars) ((c .before .before .before .before .before .before .before .before .before .before .before .before .before .before .before .before .before .before .before .before .before .loop) .sems) ((c .before .before .before .before .before .before .before .before .before .before .before .before .before .before .before .before .before .before .before .before .before .loop) .lens) ((c .before .before .before .before .before .before .before .before .before .before .before .before .before .before .before .before .before .before .before .before .before .loop) .items)) ((c .before .before .before .before .before .before .before .before .before .before .before .before .before .before .before .before .before .before .before .before .before .loop) .used) ((c .before .before .before .before .before .before .before .before .before .before .before .before .before .before .before .before .before .before .before .before .before .loop) .log) ((c .before .before .before .before .before .before .before .before .before .before .before .before .before .before .top-of) .result) (getD ((c .before .before .before .before .before .before .before .before .before .before .before .before .before .before .before .before .before .before .before .before .before .before .before .before .before .before .before .before .before .before .before .before .row) .result) ((c .before .before .before .before .before .before .before .before .before .before .before .before .before .place) .result) noSlot .node) ((c .before .before .before .before .before .before .before .before .before .before .before .before .before .before .before .before .before .before .before .before .before .loop) .lens) ((c .before .before .before .before .before .before .before .before .before .before .before .before .before .before .before .before .before .before .before .before .before .loop) .items) ((c .before .before .before .before .before .before .before .before .before .before .before .before .before .before .before .before .before .before .before .before .before .before .before .before .before .before .before .before .before .before .before .caps) .result) (standing (c .before .before .before .before .before .before .before .before .before .before .before .before)) ≡ false
+free c = freed ((c .before .before .before .before .before .before .before .before .before .before .before .before .before .before .before .before .before .before .before .before .before .before .before .before .before .before .before .before .before .before .before .before .before .before .before .args) .t) ((c .before .before .before .before .before .before .before .before .before .before .before .before .before .before .before .before .before .before .before .before .before .before .before .before .before .before .before .before .before .before .before .before .before .before .before .args) .t2) ((c .before .before .before .before .before .before .before .before .before .before .before .before .before .before .before .before .before .before .before .before .before .before .before .before .before .before .before .before .before .before .before .before .before .before .before .pre) .0) ((c .before .before .before .before .before .before .before .before .before .before .before .before .before .before .before .before .before .before .before .before .before .before .before .before .before .before .before .before .before .before .before .before .before .before .before .args) .most) ((c .before .before .before .before .before .before .before .before .before .before .before .before .before .before .before .before .before .before .before .before .before .before .before .before .before .before .before .before .before .before .before .before .before .before .before .args) .values .now) ((c .before .before .before .before .before .before .before .before .before .before .before .before .before .before .before .before .before .before .before .before .before .loop) .rest .now) ((c .before .before .before .before .before .before .before .before .before .before .before .before .before .before .before .before .before .before .before .before .before .loop) .n) (stateOf ((c .before .before .before .before .before .before .before .before .before .before .before .before .before .before .before .before .before .before .before .before .before .loop) .depth) ((c .before .before .before .before .before .before .before .before .before .before .before .before .before .before .before .before .before .before .before .before .before .loop) .lost) ((c .before .before .before .before .before .before .before .before .before .before .before .before .before .before .before .before .before .before .before .before .before .loop) .procs) ((c .before .before .before .before .before .before .before .before .before .before .before .before .before .before .before .before .before .before .before .before .before .loop) .nodes) ((c .before .before .before .before .before .before .before .before .before .before .before .before .before .before .before .before .before .before .before .before .before .loop) .vars) ((c .before .before .before .before .before .before .before .before .before .before .before .before .before .before .before .before .before .before .before .before .before .loop) .sems) ((c .before .before .before .before .before .before .before .before .before .before .before .before .before .before .before .before .before .before .before .before .before .loop) .lens) ((c .before .before .before .before .before .before .before .before .before .before .before .before .before .before .before .before .before .before .before .before .before .loop) .items)) ((c .before .before .before .before .before .before .before .before .before .before .before .before .before .before .before .before .before .before .before .before .before .loop) .used) ((c .before .before .before .before .before .before .before .before .before .before .before .before .before .before .before .before .before .before .before .before .before .loop) .log) ((c .before .before .before .before .before .before .before .before .before .before .before .before .before .before .top-of) .result) (getD ((c .before .before .before .before .before .before .before .before .before .before .before .before .before .before .before .before .before .before .before .before .before .before .before .before .before .before .before .before .before .before .before .before .row) .result) ((c .before .before .before .before .before .before .before .before .before .before .before .before .before .place) .result) noSlot .node) ((c .before .before .before .before .before .before .before .before .before .before .before .before .before .before .before .before .before .before .before .before .before .loop) .lens) ((c .before .before .before .before .before .before .before .before .before .before .before .before .before .before .before .before .before .before .before .before .before .loop) .items) ((c .before .before .before .before .before .before .before .before .before .before .before .before .before .before .before .before .before .before .before .before .before .before .before .before .before .before .before .before .before .before .before .caps) .result) (standing (c .before .before .before .before .before .before .before .before .before .before .before .before)) ((c .before .before .before .before .before .before .before .before .before .if6) .g) ((c .before .before .before .before .before .before .before .before .before .if6) .to) ((c .before .before .act) .result) (backs (c .before .before .before .before .before .before .before .before .before)) (tries (c .before .before)) ((c .if7) .left)
 
-used-within : (c : tie.After-act Inv-loop2 μ-loop2 Inv-loop μ-loop) → (c .act) .result .used ≤ length ((c .before .before .before .before .before .before .before .before .before .before .before .before .before .before .before .before .before .before .before .before .before .before .before .before .args) .values .now)
-used-within c = rw (tries c) (tried-within (getD ((c .before .before .before .before .before .before .before .before .before .before .before .before .before .before .before .before .before .before .before .before .before .row) .result) ((c .before .before .before .before .before .before .before .before .before .before .place) .result) noSlot .node) _ _ (getD ((c .before .before .before .before .before .before .before .before .before .before .before .before .before .before .before .before .before .before .before .before .loop) .u .depth) (getD ((c .before .before .before .before .before .before .before .before .before .before .before .before .before .before .before .before .before .before .before .before .loop) .rest .now) 0 0) 0) (getD ((c .before .before .before .before .before .before .before .before .before .before .before .before .before .before .before .before .before .before .before .before .loop) .u .sems) ((c .before .before .before .before .before .before .before .beside) .result .sem) 0) _ _ _ ((c .before .before .before .before .before .before .before .before .before .before .before .before .before .before .before .before .before .before .before .before .before .before .before .before .args) .values .now) ((c .before .before .before .before .before .before .before .before .before .before .before .before .before .before .before .before .before .before .before .before .loop) .used) ((c .before .before .before .before .before .before .before .before .before .before .before .before .before .before .before .before .before .before .before .before .loop) .inv .1 .1 .0))
+did : (c : tie.Else7 Inv-loop2 μ-loop2 Inv-loop μ-loop) → (c .before .before .act) .result ≡ actOf (getD ((c .before .before .before .before .before .before .before .before .before .before .before .before .before .before .before .before .before .before .before .before .before .before .before .before .before .before .before .before .before .before .before .before .row) .result) ((c .before .before .before .before .before .before .before .before .before .before .before .before .before .place) .result) noSlot .node) (arcTo (nodeAt ((c .before .before .before .before .before .before .before .before .before .before .before .before .before .before .before .before .before .before .before .before .before .before .before .before .before .before .before .before .before .before .before .before .before .before .before .args) .t) (frameIn (framesOf ((c .before .before .before .before .before .before .before .before .before .before .before .before .before .before .before .before .before .before .before .before .before .loop) .procs) ((c .before .before .before .before .before .before .before .before .before .before .before .before .before .before .before .before .before .before .before .before .before .loop) .nodes) ((c .before .before .before .before .before .before .before .before .before .before .before .before .before .before .before .before .before .before .before .before .before .loop) .vars)) ((c .before .before .before .before .before .before .before .before .before .if6) .g) .proc) (frameIn (framesOf ((c .before .before .before .before .before .before .before .before .before .before .before .before .before .before .before .before .before .before .before .before .before .loop) .procs) ((c .before .before .before .before .before .before .before .before .before .before .before .before .before .before .before .before .before .before .before .before .before .loop) .nodes) ((c .before .before .before .before .before .before .before .before .before .before .before .before .before .before .before .before .before .before .before .before .before .loop) .vars)) ((c .before .before .before .before .before .before .before .before .before .if6) .g) .node))) (frameIn (framesOf ((c .before .before .before .before .before .before .before .before .before .before .before .before .before .before .before .before .before .before .before .before .before .loop) .procs) ((c .before .before .before .before .before .before .before .before .before .before .before .before .before .before .before .before .before .before .before .before .before .loop) .nodes) ((c .before .before .before .before .before .before .before .before .before .before .before .before .before .before .before .before .before .before .before .before .before .loop) .vars)) ((c .before .before .before .before .before .before .before .before .before .if6) .g) .vars) ((c .before .before .before .before .before .before .before .before .before .before .before .before .before .before .before .before .before .before .before .before .before .loop) .sems) ((c .before .before .before .before .before .before .before .before .before .before .before .before .before .before .before .before .before .before .before .before .before .loop) .lens) ((c .before .before .before .before .before .before .before .before .before .before .before .before .before .before .before .before .before .before .before .before .before .loop) .items) ((c .before .before .before .before .before .before .before .before .before .before .before .before .before .before .before .before .before .before .before .before .before .before .before .before .before .before .before .before .before .before .before .before .before .before .before .args) .values .now) ((c .before .before .before .before .before .before .before .before .before .before .before .before .before .before .before .before .before .before .before .before .before .loop) .used)
+did c = acted ((c .before .before .before .before .before .before .before .before .before .before .before .before .before .before .before .before .before .before .before .before .before .before .before .before .before .before .before .before .before .before .before .before .before .before .before .args) .t) ((c .before .before .before .before .before .before .before .before .before .before .before .before .before .before .before .before .before .before .before .before .before .before .before .before .before .before .before .before .before .before .before .before .before .before .before .args) .t2) ((c .before .before .before .before .before .before .before .before .before .before .before .before .before .before .before .before .before .before .before .before .before .before .before .before .before .before .before .before .before .before .before .before .before .before .before .pre) .0) ((c .before .before .before .before .before .before .before .before .before .before .before .before .before .before .before .before .before .before .before .before .before .before .before .before .before .before .before .before .before .before .before .before .before .before .before .args) .most) ((c .before .before .before .before .before .before .before .before .before .before .before .before .before .before .before .before .before .before .before .before .before .before .before .before .before .before .before .before .before .before .before .before .before .before .before .args) .values .now) ((c .before .before .before .before .before .before .before .before .before .before .before .before .before .before .before .before .before .before .before .before .before .loop) .rest .now) ((c .before .before .before .before .before .before .before .before .before .before .before .before .before .before .before .before .before .before .before .before .before .loop) .n) (stateOf ((c .before .before .before .before .before .before .before .before .before .before .before .before .before .before .before .before .before .before .before .before .before .loop) .depth) ((c .before .before .before .before .before .before .before .before .before .before .before .before .before .before .before .before .before .before .before .before .before .loop) .lost) ((c .before .before .before .before .before .before .before .before .before .before .before .before .before .before .before .before .before .before .before .before .before .loop) .procs) ((c .before .before .before .before .before .before .before .before .before .before .before .before .before .before .before .before .before .before .before .before .before .loop) .nodes) ((c .before .before .before .before .before .before .before .before .before .before .before .before .before .before .before .before .before .before .before .before .before .loop) .vars) ((c .before .before .before .before .before .before .before .before .before .before .before .before .before .before .before .before .before .before .before .before .before .loop) .sems) ((c .before .before .before .before .before .before .before .before .before .before .before .before .before .before .before .before .before .before .before .before .before .loop) .lens) ((c .before .before .before .before .before .before .before .before .before .before .before .before .before .before .before .before .before .before .before .before .before .loop) .items)) ((c .before .before .before .before .before .before .before .before .before .before .before .before .before .before .before .before .before .before .before .before .before .loop) .used) ((c .before .before .before .before .before .before .before .before .before .before .before .before .before .before .before .before .before .before .before .before .before .loop) .log) ((c .before .before .before .before .before .before .before .before .before .before .before .before .before .before .top-of) .result) (getD ((c .before .before .before .before .before .before .before .before .before .before .before .before .before .before .before .before .before .before .before .before .before .before .before .before .before .before .before .before .before .before .before .before .row) .result) ((c .before .before .before .before .before .before .before .before .before .before .before .before .before .place) .result) noSlot .node) ((c .before .before .before .before .before .before .before .before .before .before .before .before .before .before .before .before .before .before .before .before .before .loop) .lens) ((c .before .before .before .before .before .before .before .before .before .before .before .before .before .before .before .before .before .before .before .before .before .loop) .items) ((c .before .before .before .before .before .before .before .before .before .before .before .before .before .before .before .before .before .before .before .before .before .before .before .before .before .before .before .before .before .before .before .caps) .result) (standing (c .before .before .before .before .before .before .before .before .before .before .before .before)) ((c .before .before .before .before .before .before .before .before .before .if6) .g) ((c .before .before .before .before .before .before .before .before .before .if6) .to) ((c .before .before .act) .result) (backs (c .before .before .before .before .before .before .before .before .before)) (tries (c .before .before)) (free c)
 
-long : (c : tie.After-set-var Inv-loop2 μ-loop2 Inv-loop μ-loop) → length ((c .set-var) .last .0) ≡ 16
-long c = ap length ((c .set-var) .ensures) ∙ simp length-set ((c .before .before .before .before .before .before .before .before .before .before .before .before .before .before .before .before .before .before .before .before .before .before .before .before .before .loop) .inv .1 .0 .vars ((c .before .before .before .before .before .before .before .before .before .before .if6) .g) (g-below (c .before .before .before .before .before .before .before .before .before .before)))
+logged : (c : tie.Else7 Inv-loop2 μ-loop2 Inv-loop μ-loop) → flagged (shown (frameIn (framesOf ((c .before .before .before .before .before .before .before .before .before .before .before .before .before .before .before .before .before .before .before .before .before .loop) .procs) ((c .before .before .before .before .before .before .before .before .before .before .before .before .before .before .before .before .before .before .before .before .before .loop) .nodes) ((c .before .before .before .before .before .before .before .before .before .before .before .before .before .before .before .before .before .before .before .before .before .loop) .vars)) ((c .before .before .before .before .before .before .before .before .before .before .before .before .before .before .top-of) .result) .vars) (getD ((c .before .before .before .before .before .before .before .before .before .before .before .before .before .before .before .before .before .before .before .before .before .before .before .before .before .before .before .before .before .before .before .before .row) .result) ((c .before .before .before .before .before .before .before .before .before .before .before .before .before .place) .result) noSlot .node)) ≡ (flagOf ((c .before .before .act) .result .how) ∷ word (bitsOf ((c .before .before .act) .result .how) ((c .before .before .act) .result .value)))
+logged c = logs ((c .before .before .before .before .before .before .before .before .before .before .before .before .before .before .before .before .before .before .before .before .before .before .before .before .before .before .before .before .before .before .before .before .before .before .before .args) .t) ((c .before .before .before .before .before .before .before .before .before .before .before .before .before .before .before .before .before .before .before .before .before .before .before .before .before .before .before .before .before .before .before .before .before .before .before .args) .t2) ((c .before .before .before .before .before .before .before .before .before .before .before .before .before .before .before .before .before .before .before .before .before .before .before .before .before .before .before .before .before .before .before .before .before .before .before .pre) .0) ((c .before .before .before .before .before .before .before .before .before .before .before .before .before .before .before .before .before .before .before .before .before .before .before .before .before .before .before .before .before .before .before .before .before .before .before .args) .most) ((c .before .before .before .before .before .before .before .before .before .before .before .before .before .before .before .before .before .before .before .before .before .before .before .before .before .before .before .before .before .before .before .before .before .before .before .args) .values .now) ((c .before .before .before .before .before .before .before .before .before .before .before .before .before .before .before .before .before .before .before .before .before .loop) .rest .now) ((c .before .before .before .before .before .before .before .before .before .before .before .before .before .before .before .before .before .before .before .before .before .loop) .n) (stateOf ((c .before .before .before .before .before .before .before .before .before .before .before .before .before .before .before .before .before .before .before .before .before .loop) .depth) ((c .before .before .before .before .before .before .before .before .before .before .before .before .before .before .before .before .before .before .before .before .before .loop) .lost) ((c .before .before .before .before .before .before .before .before .before .before .before .before .before .before .before .before .before .before .before .before .before .loop) .procs) ((c .before .before .before .before .before .before .before .before .before .before .before .before .before .before .before .before .before .before .before .before .before .loop) .nodes) ((c .before .before .before .before .before .before .before .before .before .before .before .before .before .before .before .before .before .before .before .before .before .loop) .vars) ((c .before .before .before .before .before .before .before .before .before .before .before .before .before .before .before .before .before .before .before .before .before .loop) .sems) ((c .before .before .before .before .before .before .before .before .before .before .before .before .before .before .before .before .before .before .before .before .before .loop) .lens) ((c .before .before .before .before .before .before .before .before .before .before .before .before .before .before .before .before .before .before .before .before .before .loop) .items)) ((c .before .before .before .before .before .before .before .before .before .before .before .before .before .before .before .before .before .before .before .before .before .loop) .used) ((c .before .before .before .before .before .before .before .before .before .before .before .before .before .before .before .before .before .before .before .before .before .loop) .log) ((c .before .before .before .before .before .before .before .before .before .before .before .before .before .before .top-of) .result) (getD ((c .before .before .before .before .before .before .before .before .before .before .before .before .before .before .before .before .before .before .before .before .before .before .before .before .before .before .before .before .before .before .before .before .row) .result) ((c .before .before .before .before .before .before .before .before .before .before .before .before .before .place) .result) noSlot .node) ((c .before .before .before .before .before .before .before .before .before .before .before .before .before .before .before .before .before .before .before .before .before .loop) .lens) ((c .before .before .before .before .before .before .before .before .before .before .before .before .before .before .before .before .before .before .before .before .before .loop) .items) ((c .before .before .before .before .before .before .before .before .before .before .before .before .before .before .before .before .before .before .before .before .before .before .before .before .before .before .before .before .before .before .before .caps) .result) (standing (c .before .before .before .before .before .before .before .before .before .before .before .before)) ((c .before .before .before .before .before .before .before .before .before .if6) .g) ((c .before .before .before .before .before .before .before .before .before .if6) .to) ((c .before .before .act) .result) (backs (c .before .before .before .before .before .before .before .before .before)) (tries (c .before .before)) (free c) (nexts (c .before .before .before .before .before .before .before .before .before))
+
+back-lt : (c : tie.Else7 Inv-loop2 μ-loop2 Inv-loop μ-loop) → (c .before .before .before .before .before .before .before .before .before .before .closes) .result ≤ (getD ((c .before .before .before .before .before .before .before .before .before .before .before .before .before .before .before .before .before .before .before .before .before .loop) .depth) (getD ((c .before .before .before .before .before .before .before .before .before .before .before .before .before .before .before .before .before .before .before .before .before .loop) .rest .now) 0 0) 0) - 1
+back-lt c = rw ((c .before .before .before .before .before .before .before .before .before .before .closes) .ensures) (back-below (getD ((c .before .before .before .before .before .before .before .before .before .before .before .before .before .before .before .before .before .before .before .before .before .before .before .before .before .before .before .before .before .before .before .before .row) .result) ((c .before .before .before .before .before .before .before .before .before .before .before .before .before .place) .result) noSlot .node) (getD ((c .before .before .before .before .before .before .before .before .before .before .before .before .before .before .before .before .before .before .before .before .before .loop) .depth) (getD ((c .before .before .before .before .before .before .before .before .before .before .before .before .before .before .before .before .before .before .before .before .before .loop) .rest .now) 0 0) 0) ((c .before .before .before .before .before .before .before .before .before .before .before .before .before .before .before .before .before .before .before .before .before .loop) .sems) ((c .before .before .before .before .before .before .before .before .before .before .before .before .before .before .before .before .before .before .before .before .before .loop) .lens) ((c .before .before .before .before .before .before .before .before .before .before .before .before .before .before .before .before .before .before .before .before .before .before .before .before .before .before .before .before .before .before .before .caps) .result) (free c))
+
+used-within : (c : tie.After-act Inv-loop2 μ-loop2 Inv-loop μ-loop) → (c .act) .result .used ≤ length ((c .before .before .before .before .before .before .before .before .before .before .before .before .before .before .before .before .before .before .before .before .before .before .before .before .before .before .before .before .before .before .before .before .before .args) .values .now)
+used-within c = rw (tries c) (tried-within (getD ((c .before .before .before .before .before .before .before .before .before .before .before .before .before .before .before .before .before .before .before .before .before .before .before .before .before .before .before .before .before .before .row) .result) ((c .before .before .before .before .before .before .before .before .before .before .before .place) .result) noSlot .node) _ _ (getD ((c .before .before .before .before .before .before .before .before .before .before .before .before .before .before .before .before .before .before .before .loop) .depth) (getD ((c .before .before .before .before .before .before .before .before .before .before .before .before .before .before .before .before .before .before .before .loop) .rest .now) 0 0) 0) ((c .before .before .before .before .before .before .before .before .before .before .before .before .before .before .before .before .before .before .before .loop) .sems) ((c .before .before .before .before .before .before .before .before .before .before .before .before .before .before .before .before .before .before .before .loop) .lens) ((c .before .before .before .before .before .before .before .before .before .before .before .before .before .before .before .before .before .before .before .before .before .before .before .before .before .before .before .before .before .caps) .result) ((c .before .before .before .before .before .before .before .before .before .before .before .before .before .before .before .before .before .before .before .loop) .items) ((c .before .before .before .before .before .before .before .before .before .before .before .before .before .before .before .before .before .before .before .before .before .before .before .before .before .before .before .before .before .before .before .before .before .args) .values .now) ((c .before .before .before .before .before .before .before .before .before .before .before .before .before .before .before .before .before .before .before .loop) .used) (((c .before .before .before .before .before .before .before .before .before .before .before .before .before .before .before .before .before .before .before .loop) .inv .1 .1 .1) .0))
+
+log-fits : (c : tie.After-slice-known Inv-loop2 μ-loop2 Inv-loop μ-loop) → length ((c .before .before .args) .log .now) < 18446744073709551616
+log-fits c = omega arith
+
+next-below : (c : tie.Else5 Inv-loop2 μ-loop2 Inv-loop μ-loop) → (c .before .before .before .before .before .before .top-of) .result + 1 < 32
+next-below c = omega (arith, (c .before .before .before .before .before .before .top-of) .ensures, (c .before .before .before .before .before .before .before .before .before .if2) .left, (c .before .before .before .before .before .before .before .before .before .before .before .before .before .before .before .before .before .before .before .before .before .before .before .before .before .before .before .pre) .0 .tasks, (c .if5) .left, ((c .before .before .before .before .before .before .before .before .before .before .before .before .before .loop) .inv .1 .0) .opened (getD ((c .before .before .before .before .before .before .before .before .before .before .before .before .before .loop) .rest .now) 0 0) ((c .before .before .before .before .before .before .before .before .before .if2) .left))
+
+ahead-is : (c : tie.After-ahead Inv-loop2 μ-loop2 Inv-loop μ-loop) → (c .ahead) .last .0 ≡ (pick ((c .before .before .before .before .before .before .before .before .loop2) .far) ((c .before .before .before .before .before .before .before .before .loop2) .w) (set (getD ((c .before .before .before .before .before .before .before .before .before .before .before .before .before .before .before .before .before .before .before .before .before .before .before .before .before .before .before .before .before .before .loop) .vars) ((c .before .before .before .before .before .before .before .before .before .before .before .before .before .before .before .before .before .before .if6) .g) []) ((c .before .before .before .before .before .before .before .before .before .before .before .act) .result .var) ((c .before .before .before .before .before .before .before .before .before .before .before .act) .result .value)))
+ahead-is c = (c .ahead) .ensures ∙ ap (λ (x : ℤ). pick ((c .before .before .before .before .before .before .before .before .loop2) .far) ((c .before .before .before .before .before .before .before .before .loop2) .w) (set (getD ((c .before .before .before .before .before .before .before .before .before .before .before .before .before .before .before .before .before .before .before .before .before .before .before .before .before .before .before .before .before .before .loop) .vars) ((c .before .before .before .before .before .before .before .before .before .before .before .before .before .before .before .before .before .before .if6) .g) []) ((c .before .before .before .before .before .before .before .before .before .before .before .act) .result .var) x)) (toZ-ofZ {w = w32} (record { sfits = (c .before .struct-told) .given .1 .1 .0 .1 }))
+
+ahead-long : (c : tie.After-ahead Inv-loop2 μ-loop2 Inv-loop μ-loop) → length ((c .ahead) .last .0) ≡ 16
+ahead-long c = ap length (ahead-is c) ∙ (c .before .before .before .before .before .before .before .before .loop2) .inv .1 .1
 
 d-below : (c : tie.After-place3 Inv-loop2 μ-loop2 Inv-loop μ-loop) → (c .place3) .result < 256
-d-below c = omega (arith, (c .place3) .ensures, (c .before .before .before .before .before .before .before .before .before .before .before .before .before .before .before .before .before .before .before .before .before .before .before .before .before .before .before .before .before .before .loop) .inv .1 .0 .procs ((c .before .before .before .before .before .before .before .before .before .before .before .before .before .before .before .if6) .g), (c .before .before .before .arrive) .ensures .sound .place)
+d-below c = omega (arith, (c .place3) .ensures, proc-lt (c .before .before .before .before .before .before .before .before .before .before .before .before .before .before .before .before .before .before .before .before .before .before .before .before .before .before .before .before .before .before .before) ((c .before .before .before .before .before .before .before .before .before .before .before .before .before .before .before .before .before .before .before .if6) .g), (c .before .before .before .before .before .before .before .before .arrive) .ensures .sound .place)
 
-passes : (c : tie.After-pass Inv-loop2 μ-loop2 Inv-loop μ-loop) → (c .pass) .result ≡ passOf (nodeAt ((c .before .before .before .before .before .before .before .before .before .before .before .before .before .before .before .before .before .before .before .before .before .before .before .before .before .before .before .before .before .before .before .before .before .before .before .before .before .args) .t1) ((frameIn ((c .before .before .before .before .before .before .before .before .before .before .before .before .before .before .before .before .before .before .before .before .before .before .before .before .before .before .before .before .before .before .before .before .before .loop) .u .frames) ((c .before .before .before .before .before .before .before .before .before .before .before .before .before .before .before .before .before .before .if6) .g)) .proc) ((c .before .before .before .before .before .before .arrive) .result .node)) ((c .before .before .before .before .before .before .before .loop2) .fv) ((c .before .before .before .before .before .before .before .before .before .before .before .before .before .before .before .before .before .before .before .before .before .before .before .before .before .before .before .before .before .before .before .before .before .before .before .before .before .args) .values .now) ((c .before .before .before .before .before .before .arrive) .result .used)
-passes c = (c .pass) .ensures ∙ ap (λ (x : Node). passOf x ((c .before .before .before .before .before .before .before .loop2) .fv) ((c .before .before .before .before .before .before .before .before .before .before .before .before .before .before .before .before .before .before .before .before .before .before .before .before .before .before .before .before .before .before .before .before .before .before .before .before .before .args) .values .now) ((c .before .before .before .before .before .before .arrive) .result .used)) (ap (λ (i : ℕ). getD ((c .before .before .before .before .before .before .before .before .before .before .before .before .before .before .before .before .before .before .before .before .before .before .before .before .before .before .before .before .before .before .before .before .before .before .row) .result) i noSlot .node) ((c .before .before .before .place3) .ensures) ∙ (c .before .before .before .before .before .before .before .before .before .before .before .before .before .before .before .before .before .before .before .before .before .before .before .before .before .before .before .before .before .before .before .before .before .before .row) .ensures .nodes ((frameIn ((c .before .before .before .before .before .before .before .before .before .before .before .before .before .before .before .before .before .before .before .before .before .before .before .before .before .before .before .before .before .before .before .before .before .loop) .u .frames) ((c .before .before .before .before .before .before .before .before .before .before .before .before .before .before .before .before .before .before .if6) .g)) .proc) ((c .before .before .before .before .before .before .arrive) .result .node) ((c .before .before .before .before .before .before .before .before .before .before .before .before .before .before .before .before .before .before .before .before .before .before .before .before .before .before .before .before .before .before .before .before .before .loop) .inv .1 .0 .procs ((c .before .before .before .before .before .before .before .before .before .before .before .before .before .before .before .before .before .before .if6) .g)) ((c .before .before .before .before .before .before .arrive) .ensures .sound .place))
+passes : (c : tie.After-pass Inv-loop2 μ-loop2 Inv-loop μ-loop) → (c .pass) .result ≡ passOf (nodeAt ((c .before .before .before .before .before .before .before .before .before .before .before .before .before .before .before .before .before .before .before .before .before .before .before .before .before .before .before .before .before .before .before .before .before .before .before .before .before .before .before .before .before .before .before .before .before .before .before .before .args) .t) (getD ((c .before .before .before .before .before .before .before .before .before .before .before .before .before .before .before .before .before .before .before .before .before .before .before .before .before .before .before .before .before .before .before .before .before .before .loop) .procs) ((c .before .before .before .before .before .before .before .before .before .before .before .before .before .before .before .before .before .before .before .before .before .before .if6) .g) 0) ((c .before .before .before .before .before .before .before .before .before .before .before .arrive) .result .node)) (pick ((c .before .before .before .before .before .before .before .before .before .before .before .before .loop2) .far) ((c .before .before .before .before .before .before .before .before .before .before .before .before .loop2) .w) (set (getD ((c .before .before .before .before .before .before .before .before .before .before .before .before .before .before .before .before .before .before .before .before .before .before .before .before .before .before .before .before .before .before .before .before .before .before .loop) .vars) ((c .before .before .before .before .before .before .before .before .before .before .before .before .before .before .before .before .before .before .before .before .before .before .if6) .g) []) ((c .before .before .before .before .before .before .before .before .before .before .before .before .before .before .before .act) .result .var) ((c .before .before .before .before .before .before .before .before .before .before .before .before .before .before .before .act) .result .value))) ((c .before .before .before .before .before .before .before .before .before .before .before .before .before .before .before .before .before .before .before .before .before .before .before .before .before .before .before .before .before .before .before .before .before .before .before .before .before .before .before .before .before .before .before .before .before .before .before .before .args) .values .now) ((c .before .before .before .before .before .before .before .before .before .before .before .arrive) .result .used)
+passes c = let e = ahead-is (c .before .before .before .before) in let x = (ap (λ (i : ℕ). getD ((c .before .before .before .before .before .before .before .before .before .before .before .before .before .before .before .before .before .before .before .before .before .before .before .before .before .before .before .before .before .before .before .before .before .before .before .before .before .before .before .before .before .before .before .before .before .row) .result) i noSlot .node) ((c .before .before .before .place3) .ensures) ∙ (c .before .before .before .before .before .before .before .before .before .before .before .before .before .before .before .before .before .before .before .before .before .before .before .before .before .before .before .before .before .before .before .before .before .before .before .before .before .before .before .before .before .before .before .before .before .row) .ensures .nodes (getD ((c .before .before .before .before .before .before .before .before .before .before .before .before .before .before .before .before .before .before .before .before .before .before .before .before .before .before .before .before .before .before .before .before .before .before .loop) .procs) ((c .before .before .before .before .before .before .before .before .before .before .before .before .before .before .before .before .before .before .before .before .before .before .if6) .g) 0) ((c .before .before .before .before .before .before .before .before .before .before .before .arrive) .result .node) (proc-lt (c .before .before .before .before .before .before .before .before .before .before .before .before .before .before .before .before .before .before .before .before .before .before .before .before .before .before .before .before .before .before .before .before .before .before) ((c .before .before .before .before .before .before .before .before .before .before .before .before .before .before .before .before .before .before .before .before .before .before .if6) .g)) ((c .before .before .before .before .before .before .before .before .before .before .before .arrive) .ensures .sound .place)) in (c .pass) .ensures ∙ (λ i. passOf (x i) (e i) ((c .before .before .before .before .before .before .before .before .before .before .before .before .before .before .before .before .before .before .before .before .before .before .before .before .before .before .before .before .before .before .before .before .before .before .before .before .before .before .before .before .before .before .before .before .before .before .before .before .args) .values .now) ((c .before .before .before .before .before .before .before .before .before .before .before .arrive) .result .used))
 
-used-within2 : (c : tie.After-pass Inv-loop2 μ-loop2 Inv-loop μ-loop) → (c .pass) .result .used ≤ length ((c .before .before .before .before .before .before .before .before .before .before .before .before .before .before .before .before .before .before .before .before .before .before .before .before .before .before .before .before .before .before .before .before .before .before .before .before .before .args) .values .now)
-used-within2 c = rw (passes c) (pass-within (nodeAt ((c .before .before .before .before .before .before .before .before .before .before .before .before .before .before .before .before .before .before .before .before .before .before .before .before .before .before .before .before .before .before .before .before .before .before .before .before .before .args) .t1) ((frameIn ((c .before .before .before .before .before .before .before .before .before .before .before .before .before .before .before .before .before .before .before .before .before .before .before .before .before .before .before .before .before .before .before .before .before .loop) .u .frames) ((c .before .before .before .before .before .before .before .before .before .before .before .before .before .before .before .before .before .before .if6) .g)) .proc) ((c .before .before .before .before .before .before .arrive) .result .node)) _ ((c .before .before .before .before .before .before .before .before .before .before .before .before .before .before .before .before .before .before .before .before .before .before .before .before .before .before .before .before .before .before .before .before .before .before .before .before .before .args) .values .now) ((c .before .before .before .before .before .before .arrive) .result .used) ((c .before .before .before .before .before .before .arrive) .ensures .sound .within))
+used-within2 : (c : tie.After-pass Inv-loop2 μ-loop2 Inv-loop μ-loop) → (c .pass) .result .used ≤ length ((c .before .before .before .before .before .before .before .before .before .before .before .before .before .before .before .before .before .before .before .before .before .before .before .before .before .before .before .before .before .before .before .before .before .before .before .before .before .before .before .before .before .before .before .before .before .before .before .before .args) .values .now)
+used-within2 c = rw (passes c) (pass-within (nodeAt ((c .before .before .before .before .before .before .before .before .before .before .before .before .before .before .before .before .before .before .before .before .before .before .before .before .before .before .before .before .before .before .before .before .before .before .before .before .before .before .before .before .before .before .before .before .before .before .before .before .args) .t) (getD ((c .before .before .before .before .before .before .before .before .before .before .before .before .before .before .before .before .before .before .before .before .before .before .before .before .before .before .before .before .before .before .before .before .before .before .loop) .procs) ((c .before .before .before .before .before .before .before .before .before .before .before .before .before .before .before .before .before .before .before .before .before .before .if6) .g) 0) ((c .before .before .before .before .before .before .before .before .before .before .before .arrive) .result .node)) _ ((c .before .before .before .before .before .before .before .before .before .before .before .before .before .before .before .before .before .before .before .before .before .before .before .before .before .before .before .before .before .before .before .before .before .before .before .before .before .before .before .before .before .before .before .before .before .before .before .before .args) .values .now) ((c .before .before .before .before .before .before .before .before .before .before .before .arrive) .result .used) ((c .before .before .before .before .before .before .before .before .before .before .before .arrive) .ensures .sound .within))
 
-ends : (c : tie.Joined8 Inv-loop2 μ-loop2 Inv-loop μ-loop) → Ends ((c .before .before .before .before .before .before .before .before .before .before .before .before .before .before .before .before .before .before .before .before .before .before .before .before .before .before .before .before .before .before .before .before .args) .t1) ((c .before .before .before .before .before .before .before .before .before .before .before .before .before .before .before .before .before .before .before .before .before .before .before .before .before .before .before .before .before .before .before .before .args) .t2) ((c .before .before .before .before .before .before .before .before .before .before .before .before .before .before .before .before .before .before .before .before .before .before .before .before .before .before .before .before .before .before .before .before .pre) .0) ((c .before .before .before .before .before .before .before .before .before .before .before .before .before .before .before .before .before .before .before .before .before .before .before .before .before .before .before .before .before .before .before .before .args) .most) ((c .before .before .before .before .before .before .before .before .before .before .before .before .before .before .before .before .before .before .before .before .before .before .before .before .before .before .before .before .before .before .before .before .args) .values .now) ((frameIn ((c .before .before .before .before .before .before .before .before .before .before .before .before .before .before .before .before .before .before .before .before .before .before .before .before .before .before .before .before .loop) .u .frames) ((c .before .before .before .before .before .before .before .before .before .before .before .before .before .if6) .g)) .proc) ((c .before .before .loop2) .m) ((c .before .before .loop2) .fv) ((c .before .before .loop2) .arc) ((c .before .before .loop2) .us) ((c .if8) .z)
+ends : (c : tie.Joined8 Inv-loop2 μ-loop2 Inv-loop μ-loop) → Ends ((c .before .before .before .before .before .before .before .before .before .before .before .before .before .before .before .before .before .before .before .before .before .before .before .before .before .before .before .before .before .before .before .before .before .before .before .before .before .before .args) .t) ((c .before .before .before .before .before .before .before .before .before .before .before .before .before .before .before .before .before .before .before .before .before .before .before .before .before .before .before .before .before .before .before .before .before .before .before .before .before .before .args) .t2) ((c .before .before .before .before .before .before .before .before .before .before .before .before .before .before .before .before .before .before .before .before .before .before .before .before .before .before .before .before .before .before .before .before .before .before .before .before .before .before .pre) .0) ((c .before .before .before .before .before .before .before .before .before .before .before .before .before .before .before .before .before .before .before .before .before .before .before .before .before .before .before .before .before .before .before .before .before .before .before .before .before .before .args) .most) ((c .before .before .before .before .before .before .before .before .before .before .before .before .before .before .before .before .before .before .before .before .before .before .before .before .before .before .before .before .before .before .before .before .before .before .before .before .before .before .args) .values .now) (getD ((c .before .before .before .before .before .before .before .before .before .before .before .before .before .before .before .before .before .before .before .before .before .before .before .before .loop) .procs) ((c .before .before .before .before .before .before .before .before .before .before .before .before .if6) .g) 0) ((c .before .before .loop2) .m) (pick ((c .before .before .loop2) .far) ((c .before .before .loop2) .w) (set (getD ((c .before .before .before .before .before .before .before .before .before .before .before .before .before .before .before .before .before .before .before .before .before .before .before .before .loop) .vars) ((c .before .before .before .before .before .before .before .before .before .before .before .before .if6) .g) []) ((c .before .before .before .before .before .act) .result .var) ((c .before .before .before .before .before .act) .result .value))) ((c .before .before .loop2) .arc) ((c .before .before .loop2) .us) ((c .if8) .z)
 ends c =
-    ⊎-elim (λ w. ends-over ((c .before .before .before .before .before .before .before .before .before .before .before .before .before .before .before .before .before .before .before .before .before .before .before .before .before .before .before .before .before .before .before .before .args) .t1) ((c .before .before .before .before .before .before .before .before .before .before .before .before .before .before .before .before .before .before .before .before .before .before .before .before .before .before .before .before .before .before .before .before .args) .t2) ((c .before .before .before .before .before .before .before .before .before .before .before .before .before .before .before .before .before .before .before .before .before .before .before .before .before .before .before .before .before .before .before .before .pre) .0) ((c .before .before .before .before .before .before .before .before .before .before .before .before .before .before .before .before .before .before .before .before .before .before .before .before .before .before .before .before .before .before .before .before .args) .most) ((c .before .before .before .before .before .before .before .before .before .before .before .before .before .before .before .before .before .before .before .before .before .before .before .before .before .before .before .before .before .before .before .before .args) .values .now) ((frameIn ((c .before .before .before .before .before .before .before .before .before .before .before .before .before .before .before .before .before .before .before .before .before .before .before .before .before .before .before .before .loop) .u .frames) ((c .before .before .before .before .before .before .before .before .before .before .before .before .before .if6) .g)) .proc) ((c .before .before .loop2) .m) ((c .before .before .before .before .before .before .before .before .before .before .before .before .before .before .before .before .before .before .before .before .before .before .before .before .before .before .before .before .loop) .inv .1 .0 .procs ((c .before .before .before .before .before .before .before .before .before .before .before .before .before .if6) .g)) ((c .before .before .loop2) .fv) ((c .before .before .loop2) .inv .1 .1) ((c .before .before .loop2) .arc) ((c .before .before .loop2) .us) ((c .before .arrive) .result) ((c .before .arrive) .ensures) ((c .if8) .z) (w .0 .taken) (w .1))
-    (⊎-elim (λ w. ends-spent ((c .before .before .before .before .before .before .before .before .before .before .before .before .before .before .before .before .before .before .before .before .before .before .before .before .before .before .before .before .before .before .before .before .args) .t1) ((c .before .before .before .before .before .before .before .before .before .before .before .before .before .before .before .before .before .before .before .before .before .before .before .before .before .before .before .before .before .before .before .before .args) .t2) ((c .before .before .before .before .before .before .before .before .before .before .before .before .before .before .before .before .before .before .before .before .before .before .before .before .before .before .before .before .before .before .before .before .pre) .0) ((c .before .before .before .before .before .before .before .before .before .before .before .before .before .before .before .before .before .before .before .before .before .before .before .before .before .before .before .before .before .before .before .before .args) .most) ((c .before .before .before .before .before .before .before .before .before .before .before .before .before .before .before .before .before .before .before .before .before .before .before .before .before .before .before .before .before .before .before .before .args) .values .now) ((frameIn ((c .before .before .before .before .before .before .before .before .before .before .before .before .before .before .before .before .before .before .before .before .before .before .before .before .before .before .before .before .loop) .u .frames) ((c .before .before .before .before .before .before .before .before .before .before .before .before .before .if6) .g)) .proc) ((c .before .before .loop2) .m) ((c .before .before .before .before .before .before .before .before .before .before .before .before .before .before .before .before .before .before .before .before .before .before .before .before .before .before .before .before .loop) .inv .1 .0 .procs ((c .before .before .before .before .before .before .before .before .before .before .before .before .before .if6) .g)) ((c .before .before .loop2) .fv) ((c .before .before .loop2) .inv .1 .1) ((c .before .before .loop2) .arc) ((c .before .before .loop2) .us) ((c .before .arrive) .result) ((c .before .arrive) .ensures) ((c .if8) .z) (w .2 .result) (w .0 .left) (w .1 .taken) (w .2 .ensures) (w .3))
-    (λ w. ends-halts ((c .before .before .before .before .before .before .before .before .before .before .before .before .before .before .before .before .before .before .before .before .before .before .before .before .before .before .before .before .before .before .before .before .args) .t1) ((c .before .before .before .before .before .before .before .before .before .before .before .before .before .before .before .before .before .before .before .before .before .before .before .before .before .before .before .before .before .before .before .before .args) .t2) ((c .before .before .before .before .before .before .before .before .before .before .before .before .before .before .before .before .before .before .before .before .before .before .before .before .before .before .before .before .before .before .before .before .pre) .0) ((c .before .before .before .before .before .before .before .before .before .before .before .before .before .before .before .before .before .before .before .before .before .before .before .before .before .before .before .before .before .before .before .before .args) .most) ((c .before .before .before .before .before .before .before .before .before .before .before .before .before .before .before .before .before .before .before .before .before .before .before .before .before .before .before .before .before .before .before .before .args) .values .now) ((frameIn ((c .before .before .before .before .before .before .before .before .before .before .before .before .before .before .before .before .before .before .before .before .before .before .before .before .before .before .before .before .loop) .u .frames) ((c .before .before .before .before .before .before .before .before .before .before .before .before .before .if6) .g)) .proc) ((c .before .before .loop2) .m) ((c .before .before .before .before .before .before .before .before .before .before .before .before .before .before .before .before .before .before .before .before .before .before .before .before .before .before .before .before .loop) .inv .1 .0 .procs ((c .before .before .before .before .before .before .before .before .before .before .before .before .before .if6) .g)) ((c .before .before .loop2) .fv) ((c .before .before .loop2) .inv .1 .1) ((c .before .before .loop2) .arc) ((c .before .before .loop2) .us) ((c .before .arrive) .result) ((c .before .arrive) .ensures) ((c .if8) .z) (w .8 .result) (w .5 .result) (w .0 .left) (w .1 .left)
-    (w .5 .ensures ∙ ap (λ (x : Node). passOf x ((c .before .before .loop2) .fv) ((c .before .before .before .before .before .before .before .before .before .before .before .before .before .before .before .before .before .before .before .before .before .before .before .before .before .before .before .before .before .before .before .before .args) .values .now) ((c .before .arrive) .result .used)) (ap (λ (i : ℕ). getD ((c .before .before .before .before .before .before .before .before .before .before .before .before .before .before .before .before .before .before .before .before .before .before .before .before .before .before .before .before .before .row) .result) i noSlot .node) (w .2 .ensures) ∙ (c .before .before .before .before .before .before .before .before .before .before .before .before .before .before .before .before .before .before .before .before .before .before .before .before .before .before .before .before .before .row) .ensures .nodes ((frameIn ((c .before .before .before .before .before .before .before .before .before .before .before .before .before .before .before .before .before .before .before .before .before .before .before .before .before .before .before .before .loop) .u .frames) ((c .before .before .before .before .before .before .before .before .before .before .before .before .before .if6) .g)) .proc) ((c .before .arrive) .result .node) ((c .before .before .before .before .before .before .before .before .before .before .before .before .before .before .before .before .before .before .before .before .before .before .before .before .before .before .before .before .loop) .inv .1 .0 .procs ((c .before .before .before .before .before .before .before .before .before .before .before .before .before .if6) .g)) ((c .before .arrive) .ensures .sound .place)))
-    (w .7 .taken) (w .8 .ensures) (w .9)))
+    ⊎-elim (λ w. ends-over ((c .before .before .before .before .before .before .before .before .before .before .before .before .before .before .before .before .before .before .before .before .before .before .before .before .before .before .before .before .before .before .before .before .before .before .before .before .before .before .args) .t) ((c .before .before .before .before .before .before .before .before .before .before .before .before .before .before .before .before .before .before .before .before .before .before .before .before .before .before .before .before .before .before .before .before .before .before .before .before .before .before .args) .t2) ((c .before .before .before .before .before .before .before .before .before .before .before .before .before .before .before .before .before .before .before .before .before .before .before .before .before .before .before .before .before .before .before .before .before .before .before .before .before .before .pre) .0) ((c .before .before .before .before .before .before .before .before .before .before .before .before .before .before .before .before .before .before .before .before .before .before .before .before .before .before .before .before .before .before .before .before .before .before .before .before .before .before .args) .most) ((c .before .before .before .before .before .before .before .before .before .before .before .before .before .before .before .before .before .before .before .before .before .before .before .before .before .before .before .before .before .before .before .before .before .before .before .before .before .before .args) .values .now) (getD ((c .before .before .before .before .before .before .before .before .before .before .before .before .before .before .before .before .before .before .before .before .before .before .before .before .loop) .procs) ((c .before .before .before .before .before .before .before .before .before .before .before .before .if6) .g) 0) ((c .before .before .loop2) .m) (proc-lt (c .before .before .before .before .before .before .before .before .before .before .before .before .before .before .before .before .before .before .before .before .before .before .before .before) ((c .before .before .before .before .before .before .before .before .before .before .before .before .if6) .g)) (pick ((c .before .before .loop2) .far) ((c .before .before .loop2) .w) (set (getD ((c .before .before .before .before .before .before .before .before .before .before .before .before .before .before .before .before .before .before .before .before .before .before .before .before .loop) .vars) ((c .before .before .before .before .before .before .before .before .before .before .before .before .if6) .g) []) ((c .before .before .before .before .before .act) .result .var) ((c .before .before .before .before .before .act) .result .value))) ((c .before .before .loop2) .inv .1 .1) ((c .before .before .loop2) .arc) ((c .before .before .loop2) .us) ((c .before .arrive) .result) ((c .before .arrive) .ensures) ((c .if8) .z) (w .0 .taken) (w .3))
+    (⊎-elim (λ w. ends-spent ((c .before .before .before .before .before .before .before .before .before .before .before .before .before .before .before .before .before .before .before .before .before .before .before .before .before .before .before .before .before .before .before .before .before .before .before .before .before .before .args) .t) ((c .before .before .before .before .before .before .before .before .before .before .before .before .before .before .before .before .before .before .before .before .before .before .before .before .before .before .before .before .before .before .before .before .before .before .before .before .before .before .args) .t2) ((c .before .before .before .before .before .before .before .before .before .before .before .before .before .before .before .before .before .before .before .before .before .before .before .before .before .before .before .before .before .before .before .before .before .before .before .before .before .before .pre) .0) ((c .before .before .before .before .before .before .before .before .before .before .before .before .before .before .before .before .before .before .before .before .before .before .before .before .before .before .before .before .before .before .before .before .before .before .before .before .before .before .args) .most) ((c .before .before .before .before .before .before .before .before .before .before .before .before .before .before .before .before .before .before .before .before .before .before .before .before .before .before .before .before .before .before .before .before .before .before .before .before .before .before .args) .values .now) (getD ((c .before .before .before .before .before .before .before .before .before .before .before .before .before .before .before .before .before .before .before .before .before .before .before .before .loop) .procs) ((c .before .before .before .before .before .before .before .before .before .before .before .before .if6) .g) 0) ((c .before .before .loop2) .m) (proc-lt (c .before .before .before .before .before .before .before .before .before .before .before .before .before .before .before .before .before .before .before .before .before .before .before .before) ((c .before .before .before .before .before .before .before .before .before .before .before .before .if6) .g)) (pick ((c .before .before .loop2) .far) ((c .before .before .loop2) .w) (set (getD ((c .before .before .before .before .before .before .before .before .before .before .before .before .before .before .before .before .before .before .before .before .before .before .before .before .loop) .vars) ((c .before .before .before .before .before .before .before .before .before .before .before .before .if6) .g) []) ((c .before .before .before .before .before .act) .result .var) ((c .before .before .before .before .before .act) .result .value))) ((c .before .before .loop2) .inv .1 .1) ((c .before .before .loop2) .arc) ((c .before .before .loop2) .us) ((c .before .arrive) .result) ((c .before .arrive) .ensures) ((c .if8) .z) (w .2 .result) (w .0 .left) (w .1 .taken) (w .2 .ensures) (w .5))
+    (λ w. ends-halts ((c .before .before .before .before .before .before .before .before .before .before .before .before .before .before .before .before .before .before .before .before .before .before .before .before .before .before .before .before .before .before .before .before .before .before .before .before .before .before .args) .t) ((c .before .before .before .before .before .before .before .before .before .before .before .before .before .before .before .before .before .before .before .before .before .before .before .before .before .before .before .before .before .before .before .before .before .before .before .before .before .before .args) .t2) ((c .before .before .before .before .before .before .before .before .before .before .before .before .before .before .before .before .before .before .before .before .before .before .before .before .before .before .before .before .before .before .before .before .before .before .before .before .before .before .pre) .0) ((c .before .before .before .before .before .before .before .before .before .before .before .before .before .before .before .before .before .before .before .before .before .before .before .before .before .before .before .before .before .before .before .before .before .before .before .before .before .before .args) .most) ((c .before .before .before .before .before .before .before .before .before .before .before .before .before .before .before .before .before .before .before .before .before .before .before .before .before .before .before .before .before .before .before .before .before .before .before .before .before .before .args) .values .now) (getD ((c .before .before .before .before .before .before .before .before .before .before .before .before .before .before .before .before .before .before .before .before .before .before .before .before .loop) .procs) ((c .before .before .before .before .before .before .before .before .before .before .before .before .if6) .g) 0) ((c .before .before .loop2) .m) (proc-lt (c .before .before .before .before .before .before .before .before .before .before .before .before .before .before .before .before .before .before .before .before .before .before .before .before) ((c .before .before .before .before .before .before .before .before .before .before .before .before .if6) .g)) (pick ((c .before .before .loop2) .far) ((c .before .before .loop2) .w) (set (getD ((c .before .before .before .before .before .before .before .before .before .before .before .before .before .before .before .before .before .before .before .before .before .before .before .before .loop) .vars) ((c .before .before .before .before .before .before .before .before .before .before .before .before .if6) .g) []) ((c .before .before .before .before .before .act) .result .var) ((c .before .before .before .before .before .act) .result .value))) ((c .before .before .loop2) .inv .1 .1) ((c .before .before .loop2) .arc) ((c .before .before .loop2) .us) ((c .before .arrive) .result) ((c .before .arrive) .ensures) ((c .if8) .z) (w .13 .result) (w .10 .result) (w .0 .left) (w .1 .left)
+    (let e = w .6 .ensures ∙ ap (λ (x : ℤ). pick ((c .before .before .loop2) .far) ((c .before .before .loop2) .w) (set (getD ((c .before .before .before .before .before .before .before .before .before .before .before .before .before .before .before .before .before .before .before .before .before .before .before .before .loop) .vars) ((c .before .before .before .before .before .before .before .before .before .before .before .before .if6) .g) []) ((c .before .before .before .before .before .act) .result .var) x)) (toZ-ofZ {w = w32} (record { sfits = w .5 .given .1 .1 .0 .1 })) in
+    let x = ap (λ (i : ℕ). getD ((c .before .before .before .before .before .before .before .before .before .before .before .before .before .before .before .before .before .before .before .before .before .before .before .before .before .before .before .before .before .before .before .before .before .before .before .row) .result) i noSlot .node) (w .7 .ensures) ∙ (c .before .before .before .before .before .before .before .before .before .before .before .before .before .before .before .before .before .before .before .before .before .before .before .before .before .before .before .before .before .before .before .before .before .before .before .row) .ensures .nodes (getD ((c .before .before .before .before .before .before .before .before .before .before .before .before .before .before .before .before .before .before .before .before .before .before .before .before .loop) .procs) ((c .before .before .before .before .before .before .before .before .before .before .before .before .if6) .g) 0) ((c .before .arrive) .result .node) (proc-lt (c .before .before .before .before .before .before .before .before .before .before .before .before .before .before .before .before .before .before .before .before .before .before .before .before) ((c .before .before .before .before .before .before .before .before .before .before .before .before .if6) .g)) ((c .before .arrive) .ensures .sound .place) in
+    w .10 .ensures ∙ (λ i. passOf (x i) (e i) ((c .before .before .before .before .before .before .before .before .before .before .before .before .before .before .before .before .before .before .before .before .before .before .before .before .before .before .before .before .before .before .before .before .before .before .before .before .before .before .args) .values .now) ((c .before .arrive) .result .used)))
+    (w .12 .taken) (w .13 .ensures) (w .16)))
     ((c .if8) .came)
+
+kept-w : (c : tie.Joined8 Inv-loop2 μ-loop2 Inv-loop μ-loop) → pick ((c .if8) .far) ((c .if8) .w) (set (getD ((c .before .before .before .before .before .before .before .before .before .before .before .before .before .before .before .before .before .before .before .before .before .before .before .before .loop) .vars) ((c .before .before .before .before .before .before .before .before .before .before .before .before .if6) .g) []) ((c .before .before .before .before .before .act) .result .var) ((c .before .before .before .before .before .act) .result .value)) ≡ (pick ((c .before .before .loop2) .far) ((c .before .before .loop2) .w) (set (getD ((c .before .before .before .before .before .before .before .before .before .before .before .before .before .before .before .before .before .before .before .before .before .before .before .before .loop) .vars) ((c .before .before .before .before .before .before .before .before .before .before .before .before .if6) .g) []) ((c .before .before .before .before .before .act) .result .var) ((c .before .before .before .before .before .act) .result .value)))
+kept-w c =
+    ⊎-elim (λ w. λ i. pick (w .2 i) (w .1 i) (set (getD ((c .before .before .before .before .before .before .before .before .before .before .before .before .before .before .before .before .before .before .before .before .before .before .before .before .loop) .vars) ((c .before .before .before .before .before .before .before .before .before .before .before .before .if6) .g) []) ((c .before .before .before .before .before .act) .result .var) ((c .before .before .before .before .before .act) .result .value)))
+    (⊎-elim (λ w. λ i. pick (w .4 i) (w .3 i) (set (getD ((c .before .before .before .before .before .before .before .before .before .before .before .before .before .before .before .before .before .before .before .before .before .before .before .before .loop) .vars) ((c .before .before .before .before .before .before .before .before .before .before .before .before .if6) .g) []) ((c .before .before .before .before .before .act) .result .var) ((c .before .before .before .before .before .act) .result .value)))
+    (λ w. (λ i. pick (w .15 i) (w .14 i) (set (getD ((c .before .before .before .before .before .before .before .before .before .before .before .before .before .before .before .before .before .before .before .before .before .before .before .before .loop) .vars) ((c .before .before .before .before .before .before .before .before .before .before .before .before .if6) .g) []) ((c .before .before .before .before .before .act) .result .var) ((c .before .before .before .before .before .act) .result .value))) ∙ w .6 .ensures ∙ ap (λ (x : ℤ). pick ((c .before .before .loop2) .far) ((c .before .before .loop2) .w) (set (getD ((c .before .before .before .before .before .before .before .before .before .before .before .before .before .before .before .before .before .before .before .before .before .before .before .before .loop) .vars) ((c .before .before .before .before .before .before .before .before .before .before .before .before .if6) .g) []) ((c .before .before .before .before .before .act) .result .var) x)) (toZ-ofZ {w = w32} (record { sfits = w .5 .given .1 .1 .0 .1 }))))
+    ((c .if8) .came)
+
+walked : (c : tie.Joined8 Inv-loop2 μ-loop2 Inv-loop μ-loop) → (mm : Memory) → met (heading ((c .before .before .before .before .before .before .before .before .before .before .before .before .before .before .before .before .before .before .before .before .before .before .before .before .before .before .before .before .before .before .before .before .before .before .before .before .before .before .args) .t) ((c .before .before .before .before .before .before .before .before .before .before .before .before .before .before .before .before .before .before .before .before .before .before .before .before .before .before .before .before .before .before .before .before .before .before .before .before .before .before .args) .values .now) (frameIn (framesOf ((c .before .before .before .before .before .before .before .before .before .before .before .before .before .before .before .before .before .before .before .before .before .before .before .before .loop) .procs) ((c .before .before .before .before .before .before .before .before .before .before .before .before .before .before .before .before .before .before .before .before .before .before .before .before .loop) .nodes) ((c .before .before .before .before .before .before .before .before .before .before .before .before .before .before .before .before .before .before .before .before .before .before .before .before .loop) .vars)) ((c .before .before .before .before .before .before .before .before .before .before .before .before .if6) .g) .proc) ((c .before .before .before .before .before .before .before .before .before .before .before .before .before .before .before .before .before .before .before .before .before .before .before .before .before .before .before .before .before .before .before .before .before .before .before .before .before .before .args) .most) (withVars mm (set (frameIn (framesOf ((c .before .before .before .before .before .before .before .before .before .before .before .before .before .before .before .before .before .before .before .before .before .before .before .before .loop) .procs) ((c .before .before .before .before .before .before .before .before .before .before .before .before .before .before .before .before .before .before .before .before .before .before .before .before .loop) .nodes) ((c .before .before .before .before .before .before .before .before .before .before .before .before .before .before .before .before .before .before .before .before .before .before .before .before .loop) .vars)) ((c .before .before .before .before .before .before .before .before .before .before .before .before .if6) .g) .vars) ((c .before .before .before .before .before .act) .result .var) ((c .before .before .before .before .before .act) .result .value))) ((c .before .before .before .before .before .act) .result .arc) ((c .before .before .before .before .before .act) .result .used)) ≡ metOf ((c .before .before .before .before .before .before .before .before .before .before .before .before .before .before .before .before .before .before .before .before .before .before .before .before .before .before .before .before .before .before .before .before .before .before .before .before .before .before .args) .values .now) (withVars mm (pick ((c .before .before .loop2) .far) ((c .before .before .loop2) .w) (set (getD ((c .before .before .before .before .before .before .before .before .before .before .before .before .before .before .before .before .before .before .before .before .before .before .before .before .loop) .vars) ((c .before .before .before .before .before .before .before .before .before .before .before .before .if6) .g) []) ((c .before .before .before .before .before .act) .result .var) ((c .before .before .before .before .before .act) .result .value)))) ((c .if8) .z)
+walked c mm =
+    let p = sym (proc-in ((c .before .before .before .before .before .before .before .before .before .before .before .before .before .before .before .before .before .before .before .before .before .before .before .before .loop) .inv .1 .1 .0) ((c .before .before .before .before .before .before .before .before .before .before .before .before .if6) .g)) in
+    let l = sym (vars-in ((c .before .before .before .before .before .before .before .before .before .before .before .before .before .before .before .before .before .before .before .before .before .before .before .before .loop) .inv .1 .1 .0) ((c .before .before .before .before .before .before .before .before .before .before .before .before .if6) .g)) in
+    (λ i. met (heading ((c .before .before .before .before .before .before .before .before .before .before .before .before .before .before .before .before .before .before .before .before .before .before .before .before .before .before .before .before .before .before .before .before .before .before .before .before .before .before .args) .t) ((c .before .before .before .before .before .before .before .before .before .before .before .before .before .before .before .before .before .before .before .before .before .before .before .before .before .before .before .before .before .before .before .before .before .before .before .before .before .before .args) .values .now) (p i) ((c .before .before .before .before .before .before .before .before .before .before .before .before .before .before .before .before .before .before .before .before .before .before .before .before .before .before .before .before .before .before .before .before .before .before .before .before .before .before .args) .most) (withVars mm (set (l i) ((c .before .before .before .before .before .act) .result .var) ((c .before .before .before .before .before .act) .result .value))) ((c .before .before .before .before .before .act) .result .arc) ((c .before .before .before .before .before .act) .result .used))) ∙ (c .before .before .loop2) .inv .0 mm ∙ ends c .is mm
+
+apart : (c : tie.Else7 Inv-loop2 μ-loop2 Inv-loop μ-loop) → ((c .before .before .before .before .before .before .before .before .before .before .closes) .result ≡ 0 → ⊥) → ((c .before .before .before .before .before .before .before .before .before .if6) .g) ≡ (c .before .before .before .before .before .before .before .before .before .before .before .before .before .before .top-of) .result → ⊥
+apart c h e = omega (arith, h, e, nexts (c .before .before .before .before .before .before .before .before .before), (c .before .before .before .before .before .before .before .before .before .before .closes) .ensures, (c .before .before .before .before .before .before .before .before .before .before .before .before .before .before .top-of) .ensures, back-lt c, under-less ((c .before .before .before .before .before .before .before .before .before .before .before .before .before .before .top-of) .result) (backOf (getD ((c .before .before .before .before .before .before .before .before .before .before .before .before .before .before .before .before .before .before .before .before .before .before .before .before .before .before .before .before .before .before .before .before .row) .result) ((c .before .before .before .before .before .before .before .before .before .before .before .before .before .place) .result) noSlot .node)) (getD ((c .before .before .before .before .before .before .before .before .before .before .before .before .before .before .before .before .before .before .before .before .before .loop) .depth) (getD ((c .before .before .before .before .before .before .before .before .before .before .before .before .before .before .before .before .before .before .before .before .before .loop) .rest .now) 0 0) 0) (omega (arith, back-lt c, (c .before .before .before .before .before .before .before .before .before .before .closes) .ensures, ((c .before .before .before .before .before .before .before .before .before .before .before .before .before .before .before .before .before .before .before .before .before .loop) .inv .1 .0) .opened (getD ((c .before .before .before .before .before .before .before .before .before .before .before .before .before .before .before .before .before .before .before .before .before .loop) .rest .now) 0 0) ((c .before .before .before .before .before .before .before .before .before .before .before .before .before .before .before .before .before .if2) .left))) (omega (arith, (c .before .before .before .before .before .before .before .before .before .before .before .before .before .before .top-of) .ensures)))
+
+left-is : (c : tie.After-settle Inv-loop2 μ-loop2 Inv-loop μ-loop) → ((c .settle) .last .0) ≡ (pick ((c .before .before .before .before .before .before .before .before .before .before .loop2) .far) ((c .before .before .before .before .before .before .before .before .before .before .loop2) .w) (set (getD ((c .before .before .before .before .before .before .before .before .before .before .before .before .before .before .before .before .before .before .before .before .before .before .before .before .before .before .before .before .before .before .before .before .loop) .vars) ((c .before .before .before .before .before .before .before .before .before .before .before .before .before .before .before .before .before .before .before .before .if6) .g) []) ((c .before .before .before .before .before .before .before .before .before .before .before .before .before .act) .result .var) ((c .before .before .before .before .before .before .before .before .before .before .before .before .before .act) .result .value)))
+left-is c =
+    (c .settle) .ensures ∙
+    ap (λ (x : ℤ). pick ((c .before .before .before .before .before .before .before .before .if8) .far) ((c .before .before .before .before .before .before .before .before .if8) .w) (set (getD (set ((c .before .before .before .before .before .before .before .before .before .before .before .before .before .before .before .before .before .before .before .before .before .before .before .before .before .before .before .before .before .before .before .before .loop) .vars) ((c .before .before .before .before .before .before .before .before .before .before .before .before .before .before .before .before .before .before .before .before .before .before .before .before .before .top-of) .result) ((c .before .before .before .before .clear) .last .0)) ((c .before .before .before .before .before .before .before .before .before .before .before .before .before .before .before .before .before .before .before .before .if6) .g) []) ((c .before .before .before .before .before .before .before .before .before .before .before .before .before .act) .result .var) x)) (toZ-ofZ {w = w32} (record { sfits = (c .before .struct-told3) .given .1 .1 .0 .1 })) ∙
+    ap (λ (l : List ℤ). pick ((c .before .before .before .before .before .before .before .before .if8) .far) ((c .before .before .before .before .before .before .before .before .if8) .w) (set l ((c .before .before .before .before .before .before .before .before .before .before .before .before .before .act) .result .var) ((c .before .before .before .before .before .before .before .before .before .before .before .before .before .act) .result .value))) (ap (λ (u : List ℤ). getD (set ((c .before .before .before .before .before .before .before .before .before .before .before .before .before .before .before .before .before .before .before .before .before .before .before .before .before .before .before .before .before .before .before .before .loop) .vars) ((c .before .before .before .before .before .before .before .before .before .before .before .before .before .before .before .before .before .before .before .before .before .before .before .before .before .top-of) .result) u) ((c .before .before .before .before .before .before .before .before .before .before .before .before .before .before .before .before .before .before .before .before .if6) .g) []) ((c .before .before .before .before .clear) .ensures) ∙ vars-still ((c .before .before .before .before .before .before .before .before .before .before .before .before .before .before .before .before .before .before .before .before .before .before .before .before .before .before .before .before .before .before .before .before .loop) .vars) ((c .before .before .before .before .before .before .before .before .before .before .before .before .before .before .before .before .before .before .before .before .before .before .before .before .before .top-of) .result) ((c .before .before .before .before .before .before .before .before .before .before .before .before .before .before .before .before .before .before .before .before .if6) .g) ((c .before .before .before .before .before .before .before .before .before .before .before .before .before .before .before .before .before .before .before .before .before .closes) .result) (apart (c .before .before .before .before .before .before .before .before .before .before .before))) ∙
+    kept-w (c .before .before .before .before .before .before .before .before)
+
+at-lt : (c : tie.Else7 Inv-loop2 μ-loop2 Inv-loop μ-loop) → ((c .before .before .act) .result .at) < 8
+at-lt c = rw (did c) (at-below (getD ((c .before .before .before .before .before .before .before .before .before .before .before .before .before .before .before .before .before .before .before .before .before .before .before .before .before .before .before .before .before .before .before .before .row) .result) ((c .before .before .before .before .before .before .before .before .before .before .before .before .before .place) .result) noSlot .node) _ _ ((c .before .before .before .before .before .before .before .before .before .before .before .before .before .before .before .before .before .before .before .before .before .loop) .sems) ((c .before .before .before .before .before .before .before .before .before .before .before .before .before .before .before .before .before .before .before .before .before .loop) .lens) ((c .before .before .before .before .before .before .before .before .before .before .before .before .before .before .before .before .before .before .before .before .before .loop) .items) ((c .before .before .before .before .before .before .before .before .before .before .before .before .before .before .before .before .before .before .before .before .before .before .before .before .before .before .before .before .before .before .before .before .before .before .before .args) .values .now) ((c .before .before .before .before .before .before .before .before .before .before .before .before .before .before .before .before .before .before .before .before .before .loop) .used) (placed ((c .before .before .before .before .before .before .before .before .before .before .before .before .before .before .before .before .before .before .before .before .before .before .before .before .before .before .before .before .before .before .before .before .before .before .before .args) .t) ((c .before .before .before .before .before .before .before .before .before .before .before .before .before .before .before .before .before .before .before .before .before .before .before .before .before .before .before .before .before .before .before .before .before .before .before .args) .t2) ((c .before .before .before .before .before .before .before .before .before .before .before .before .before .before .before .before .before .before .before .before .before .before .before .before .before .before .before .before .before .before .before .before .before .before .before .pre) .0) ((c .before .before .before .before .before .before .before .before .before .before .before .before .before .before .before .before .before .before .before .before .before .before .before .before .before .before .before .before .before .before .before .before .before .before .before .args) .most) ((c .before .before .before .before .before .before .before .before .before .before .before .before .before .before .before .before .before .before .before .before .before .before .before .before .before .before .before .before .before .before .before .before .before .before .before .args) .values .now) ((c .before .before .before .before .before .before .before .before .before .before .before .before .before .before .before .before .before .before .before .before .before .loop) .rest .now) ((c .before .before .before .before .before .before .before .before .before .before .before .before .before .before .before .before .before .before .before .before .before .loop) .n) (stateOf ((c .before .before .before .before .before .before .before .before .before .before .before .before .before .before .before .before .before .before .before .before .before .loop) .depth) ((c .before .before .before .before .before .before .before .before .before .before .before .before .before .before .before .before .before .before .before .before .before .loop) .lost) ((c .before .before .before .before .before .before .before .before .before .before .before .before .before .before .before .before .before .before .before .before .before .loop) .procs) ((c .before .before .before .before .before .before .before .before .before .before .before .before .before .before .before .before .before .before .before .before .before .loop) .nodes) ((c .before .before .before .before .before .before .before .before .before .before .before .before .before .before .before .before .before .before .before .before .before .loop) .vars) ((c .before .before .before .before .before .before .before .before .before .before .before .before .before .before .before .before .before .before .before .before .before .loop) .sems) ((c .before .before .before .before .before .before .before .before .before .before .before .before .before .before .before .before .before .before .before .before .before .loop) .lens) ((c .before .before .before .before .before .before .before .before .before .before .before .before .before .before .before .before .before .before .before .before .before .loop) .items)) ((c .before .before .before .before .before .before .before .before .before .before .before .before .before .before .before .before .before .before .before .before .before .loop) .used) ((c .before .before .before .before .before .before .before .before .before .before .before .before .before .before .before .before .before .before .before .before .before .loop) .log) ((c .before .before .before .before .before .before .before .before .before .before .before .before .before .before .top-of) .result) (getD ((c .before .before .before .before .before .before .before .before .before .before .before .before .before .before .before .before .before .before .before .before .before .before .before .before .before .before .before .before .before .before .before .before .row) .result) ((c .before .before .before .before .before .before .before .before .before .before .before .before .before .place) .result) noSlot .node) ((c .before .before .before .before .before .before .before .before .before .before .before .before .before .before .before .before .before .before .before .before .before .loop) .lens) ((c .before .before .before .before .before .before .before .before .before .before .before .before .before .before .before .before .before .before .before .before .before .loop) .items) ((c .before .before .before .before .before .before .before .before .before .before .before .before .before .before .before .before .before .before .before .before .before .before .before .before .before .before .before .before .before .before .before .caps) .result) (standing (c .before .before .before .before .before .before .before .before .before .before .before .before))))
+
+puts : (c : tie.After-put2 Inv-loop2 μ-loop2 Inv-loop μ-loop) → (c .put2) .last .0 ≡ (sets ((c .before .before .before .before .before .before .before .before .before .before .before .before .before .before .before .before .before .before .before .before .before .before .before .before .before .before .before .before .before .before .before .before .before .before .before .before .before .before .before .before .before .before .loop) .log) (8 * (c .before .before .before .before .before .before .before .before .before .before .before .before .before .before .before .before .before .before .before .before .before .before .before .before .before .before .before .before .before .before .before .before .before .before .before .before .before .before .before .before .before .before .loop) .n) ((getD ((c .before .before .before .before .before .before .before .before .before .before .before .before .before .before .before .before .before .before .before .before .before .before .before .before .before .before .before .before .before .before .before .before .before .before .before .before .before .before .before .before .before .before .loop) .rest .now) 0 0) ∷ frameIn (framesOf ((c .before .before .before .before .before .before .before .before .before .before .before .before .before .before .before .before .before .before .before .before .before .before .before .before .before .before .before .before .before .before .before .before .before .before .before .before .before .before .before .before .before .before .loop) .procs) ((c .before .before .before .before .before .before .before .before .before .before .before .before .before .before .before .before .before .before .before .before .before .before .before .before .before .before .before .before .before .before .before .before .before .before .before .before .before .before .before .before .before .before .loop) .nodes) ((c .before .before .before .before .before .before .before .before .before .before .before .before .before .before .before .before .before .before .before .before .before .before .before .before .before .before .before .before .before .before .before .before .before .before .before .before .before .before .before .before .before .before .loop) .vars)) ((c .before .before .before .before .before .before .before .before .before .before .before .before .before .before .before .before .before .before .before .before .before .before .before .before .before .before .before .before .before .before .before .before .before .before .before .top-of) .result) .proc ∷ frameIn (framesOf ((c .before .before .before .before .before .before .before .before .before .before .before .before .before .before .before .before .before .before .before .before .before .before .before .before .before .before .before .before .before .before .before .before .before .before .before .before .before .before .before .before .before .before .loop) .procs) ((c .before .before .before .before .before .before .before .before .before .before .before .before .before .before .before .before .before .before .before .before .before .before .before .before .before .before .before .before .before .before .before .before .before .before .before .before .before .before .before .before .before .before .loop) .nodes) ((c .before .before .before .before .before .before .before .before .before .before .before .before .before .before .before .before .before .before .before .before .before .before .before .before .before .before .before .before .before .before .before .before .before .before .before .before .before .before .before .before .before .before .loop) .vars)) ((c .before .before .before .before .before .before .before .before .before .before .before .before .before .before .before .before .before .before .before .before .before .before .before .before .before .before .before .before .before .before .before .before .before .before .before .top-of) .result) .node ∷ (flagOf ((c .before .before .before .before .before .before .before .before .before .before .before .before .before .before .before .before .before .before .before .before .before .before .before .act) .result .how) ∷ word (bitsOf ((c .before .before .before .before .before .before .before .before .before .before .before .before .before .before .before .before .before .before .before .before .before .before .before .act) .result .how) ((c .before .before .before .before .before .before .before .before .before .before .before .before .before .before .before .before .before .before .before .before .before .before .before .act) .result .value)))))
+puts c =
+    let v : toZ w32 (ofZ w32 ((c .before .before .before .before .before .before .before .before .before .before .before .before .before .before .before .before .before .before .before .before .before .before .before .act) .result .value)) ≡ ((c .before .before .before .before .before .before .before .before .before .before .before .before .before .before .before .before .before .before .before .before .before .before .before .act) .result .value) = toZ-ofZ {w = w32} (record { sfits = (c .before .before .struct-told5) .given .1 .1 .0 .1 }) in
+    let b : (c .before .bits) .result ≡ bitsOf ((c .before .before .before .before .before .before .before .before .before .before .before .before .before .before .before .before .before .before .before .before .before .before .before .act) .result .how) ((c .before .before .before .before .before .before .before .before .before .before .before .before .before .before .before .before .before .before .before .before .before .before .before .act) .result .value) = (c .before .bits) .ensures ∙ ap (λ (x : ℤ). bitsOf ((c .before .before .before .before .before .before .before .before .before .before .before .before .before .before .before .before .before .before .before .before .before .before .before .act) .result .how) x) v in
+    (c .put2) .ensures ∙ (λ i. sets ((c .before .before .before .before .before .before .before .before .before .before .before .before .before .before .before .before .before .before .before .before .before .before .before .before .before .before .before .before .before .before .before .before .before .before .before .before .before .before .before .before .before .before .loop) .log) (8 * (c .before .before .before .before .before .before .before .before .before .before .before .before .before .before .before .before .before .before .before .before .before .before .before .before .before .before .before .before .before .before .before .before .before .before .before .before .before .before .before .before .before .before .loop) .n) ((getD ((c .before .before .before .before .before .before .before .before .before .before .before .before .before .before .before .before .before .before .before .before .before .before .before .before .before .before .before .before .before .before .before .before .before .before .before .before .before .before .before .before .before .before .loop) .rest .now) 0 0) ∷ proc-in ((c .before .before .before .before .before .before .before .before .before .before .before .before .before .before .before .before .before .before .before .before .before .before .before .before .before .before .before .before .before .before .before .before .before .before .before .before .before .before .before .before .before .before .loop) .inv .1 .1 .0) ((c .before .before .before .before .before .before .before .before .before .before .before .before .before .before .before .before .before .before .before .before .before .before .before .before .before .before .before .before .before .before .before .before .before .before .before .top-of) .result) i ∷ node-in ((c .before .before .before .before .before .before .before .before .before .before .before .before .before .before .before .before .before .before .before .before .before .before .before .before .before .before .before .before .before .before .before .before .before .before .before .before .before .before .before .before .before .before .loop) .inv .1 .1 .0) ((c .before .before .before .before .before .before .before .before .before .before .before .before .before .before .before .before .before .before .before .before .before .before .before .before .before .before .before .before .before .before .before .before .before .before .before .top-of) .result) i ∷ (c .before .before .before .flag) .ensures i ∷ word (b i)))
 
 row-requires : tie.Need-row-requires Inv-loop2 μ-loop2 Inv-loop μ-loop
 row-requires c κs = search needs
 
+caps-requires : tie.Need-caps-requires Inv-loop2 μ-loop2 Inv-loop μ-loop
+caps-requires c κs = search needs
+
+procs-requires : tie.Need-procs-requires Inv-loop2 μ-loop2 Inv-loop μ-loop
+procs-requires c κs = (c .before .before .before .before .before .pre) .1 .0 .frames
+
+nodes-requires : tie.Need-nodes-requires Inv-loop2 μ-loop2 Inv-loop μ-loop
+nodes-requires c κs = (c .before .before .before .before .before .before .pre) .1 .0 .frames
+
+vars-requires : tie.Need-vars-requires Inv-loop2 μ-loop2 Inv-loop μ-loop
+vars-requires c κs = (c .before .before .before .before .before .before .before .pre) .1 .0 .frames
+
+lens-requires : tie.Need-lens-requires Inv-loop2 μ-loop2 Inv-loop μ-loop
+lens-requires c κs = search needs
+
+items-requires : tie.Need-items-requires Inv-loop2 μ-loop2 Inv-loop μ-loop
+items-requires c κs = search needs
+
 loop-holds : tie.Need-loop-holds Inv-loop2 μ-loop2 Inv-loop μ-loop
-loop-holds c = (refl, ((c .before .before .before .pre) .1 .0, ((c .before .before .before .pre) .1 .1, (omega arith, (refl, omega arith)))))
+loop-holds c = (refl, (subst (λ (u : State). Good ((c .before .before .before .before .before .before .before .before .before .before .before .before .before .args) .t) u) (sym (begins (c .before .before .before))) ((c .before .before .before .before .before .before .before .before .before .before .before .before .before .pre) .1 .0), (shape-of ((c .before .before .before .before .before .before .before .before .before .before .before .before .before .pre) .1 .0) ((c .before .before .before .before .before .before .before .procs) .ensures) ((c .before .before .before .before .before .before .nodes) .ensures) ((c .before .before .before .before .before .vars) .ensures) ((c .before .before .before .before .lens) .ensures .0) ((c .before .before .before .items) .ensures .0) ((c .before .before .before .before .lens) .ensures .1) ((c .before .before .before .items) .ensures .1 .0) ((c .before .before .before .items) .ensures .1 .1), ((c .before .before .before .before .before .before .before .before .before .before .before .before .before .pre) .1 .1, (omega arith, (refl, log-fits (c .before .before .before .before .before .before .before .before .before .before .before)))))))
+
+running-requires : tie.Need-running-requires Inv-loop2 μ-loop2 Inv-loop μ-loop
+running-requires c κs = ((c .before .loop) .inv .1 .1 .0)
+
+same-length : tie.Need-same-length Inv-loop2 μ-loop2 Inv-loop μ-loop
+same-length c = ((c .before .before .loop) .inv .1 .1 .1) .1 .1 .0
+
+returns : tie.Need-returns Inv-loop2 μ-loop2 Inv-loop μ-loop
+returns c = let a = answered ((c .before .before .before .before .before .before .before .before .before .before .before .before .before .before .before .before .args) .t) ((c .before .before .before .before .before .before .before .before .before .before .before .before .before .before .before .before .args) .most) ((c .before .before .before .before .before .before .before .before .before .before .before .before .before .before .before .before .args) .values .now) ((c .before .before .loop) .n) (stateOf ((c .before .before .loop) .depth) ((c .before .before .loop) .lost) ((c .before .before .loop) .procs) ((c .before .before .loop) .nodes) ((c .before .before .loop) .vars) ((c .before .before .loop) .sems) ((c .before .before .loop) .lens) ((c .before .before .loop) .items)) ((c .before .before .loop) .used) ((c .before .before .loop) .log) (runFrom ((c .before .before .before .before .before .before .before .before .before .before .before .before .before .before .before .before .args) .t) (keptIn ((c .before .before .before .before .before .before .before .before .before .before .before .before .before .before .before .before .args) .t)) ((c .before .before .before .before .before .before .before .before .before .before .before .before .before .before .before .before .args) .most) ((c .before .before .before .before .before .before .before .before .before .before .before .before .before .before .before .before .args) .values .now) ((c .before .before .before .before .before .before .before .before .before .before .before .before .before .before .before .before .args) .schedule .now) 0 ((c .before .before .before .before .before .before .before .before .before .before .before .before .before .before .before .before .args) .s) (drop ((c .before .before .before .before .before .before .before .before .before .before .before .before .before .before .before .before .args) .before) ((c .before .before .before .before .before .before .before .before .before .before .before .before .before .before .before .before .args) .values .now)) ((c .before .before .before .before .before .before .before .before .before .before .before .before .before .before .before .before .args) .log .now)) 0 (((c .before .before .loop) .inv .1 .1 .1) .0) (ap (λ (u : State). runFrom ((c .before .before .before .before .before .before .before .before .before .before .before .before .before .before .before .before .args) .t) (keptIn ((c .before .before .before .before .before .before .before .before .before .before .before .before .before .before .before .before .args) .t)) ((c .before .before .before .before .before .before .before .before .before .before .before .before .before .before .before .before .args) .most) ((c .before .before .before .before .before .before .before .before .before .before .before .before .before .before .before .before .args) .values .now) ((c .before .before .before .before .before .before .before .before .before .before .before .before .before .before .before .before .args) .schedule .now) 0 u (drop ((c .before .before .before .before .before .before .before .before .before .before .before .before .before .before .before .before .args) .before) ((c .before .before .before .before .before .before .before .before .before .before .before .before .before .before .before .before .args) .values .now)) ((c .before .before .before .before .before .before .before .before .before .before .before .before .before .before .before .before .args) .log .now)) (sym (begins (c .before .before .before .before .before .before))) ∙ (c .before .before .loop) .inv .0 ∙ at-end ((c .before .before .before .before .before .before .before .before .before .before .before .before .before .before .before .before .args) .t) ((c .before .before .before .before .before .before .before .before .before .before .before .before .before .before .before .before .args) .most) ((c .before .before .before .before .before .before .before .before .before .before .before .before .before .before .before .before .args) .values .now) ((c .before .before .loop) .n) (stateOf ((c .before .before .loop) .depth) ((c .before .before .loop) .lost) ((c .before .before .loop) .procs) ((c .before .before .loop) .nodes) ((c .before .before .loop) .vars) ((c .before .before .loop) .sems) ((c .before .before .loop) .lens) ((c .before .before .loop) .items)) ((c .before .before .loop) .used) ((c .before .before .loop) .log) ((c .before .before .loop) .rest .now) ((c .before .if1) .taken)) in ((c .running) .ensures ∙ a .0, a .1)
 
 shared-slice-read-k : tie.Need-shared-slice-read-k Inv-loop2 μ-loop2 Inv-loop μ-loop
 shared-slice-read-k c = omega (arith, (c .before .if1) .left)
 
+running-requires-2 : tie.Need-running-requires-2 Inv-loop2 μ-loop2 Inv-loop μ-loop
+running-requires-2 c κs = ((c .before .before .before .before .loop) .inv .1 .1 .0)
+
+same-length-2 : tie.Need-same-length-2 Inv-loop2 μ-loop2 Inv-loop μ-loop
+same-length-2 c = ((c .before .before .before .before .before .loop) .inv .1 .1 .1) .1 .1 .0
+
+returns-2 : tie.Need-returns-2 Inv-loop2 μ-loop2 Inv-loop μ-loop
+returns-2 c = let a = answered ((c .before .before .before .before .before .before .before .before .before .before .before .before .before .before .before .before .before .before .before .args) .t) ((c .before .before .before .before .before .before .before .before .before .before .before .before .before .before .before .before .before .before .before .args) .most) ((c .before .before .before .before .before .before .before .before .before .before .before .before .before .before .before .before .before .before .before .args) .values .now) ((c .before .before .before .before .before .loop) .n) (stateOf ((c .before .before .before .before .before .loop) .depth) ((c .before .before .before .before .before .loop) .lost) ((c .before .before .before .before .before .loop) .procs) ((c .before .before .before .before .before .loop) .nodes) ((c .before .before .before .before .before .loop) .vars) ((c .before .before .before .before .before .loop) .sems) ((c .before .before .before .before .before .loop) .lens) ((c .before .before .before .before .before .loop) .items)) ((c .before .before .before .before .before .loop) .used) ((c .before .before .before .before .before .loop) .log) (runFrom ((c .before .before .before .before .before .before .before .before .before .before .before .before .before .before .before .before .before .before .before .args) .t) (keptIn ((c .before .before .before .before .before .before .before .before .before .before .before .before .before .before .before .before .before .before .before .args) .t)) ((c .before .before .before .before .before .before .before .before .before .before .before .before .before .before .before .before .before .before .before .args) .most) ((c .before .before .before .before .before .before .before .before .before .before .before .before .before .before .before .before .before .before .before .args) .values .now) ((c .before .before .before .before .before .before .before .before .before .before .before .before .before .before .before .before .before .before .before .args) .schedule .now) 0 ((c .before .before .before .before .before .before .before .before .before .before .before .before .before .before .before .before .before .before .before .args) .s) (drop ((c .before .before .before .before .before .before .before .before .before .before .before .before .before .before .before .before .before .before .before .args) .before) ((c .before .before .before .before .before .before .before .before .before .before .before .before .before .before .before .before .before .before .before .args) .values .now)) ((c .before .before .before .before .before .before .before .before .before .before .before .before .before .before .before .before .before .before .before .args) .log .now)) 10 (((c .before .before .before .before .before .loop) .inv .1 .1 .1) .0) (ap (λ (u : State). runFrom ((c .before .before .before .before .before .before .before .before .before .before .before .before .before .before .before .before .before .before .before .args) .t) (keptIn ((c .before .before .before .before .before .before .before .before .before .before .before .before .before .before .before .before .before .before .before .args) .t)) ((c .before .before .before .before .before .before .before .before .before .before .before .before .before .before .before .before .before .before .before .args) .most) ((c .before .before .before .before .before .before .before .before .before .before .before .before .before .before .before .before .before .before .before .args) .values .now) ((c .before .before .before .before .before .before .before .before .before .before .before .before .before .before .before .before .before .before .before .args) .schedule .now) 0 u (drop ((c .before .before .before .before .before .before .before .before .before .before .before .before .before .before .before .before .before .before .before .args) .before) ((c .before .before .before .before .before .before .before .before .before .before .before .before .before .before .before .before .before .before .before .args) .values .now)) ((c .before .before .before .before .before .before .before .before .before .before .before .before .before .before .before .before .before .before .before .args) .log .now)) (sym (begins (c .before .before .before .before .before .before .before .before .before))) ∙ (c .before .before .before .before .before .loop) .inv .0 ∙ stop-none ((c .before .before .before .before .before .before .before .before .before .before .before .before .before .before .before .before .before .before .before .args) .t) ((c .before .before .before .before .before .before .before .before .before .before .before .before .before .before .before .before .before .before .before .args) .t2) ((c .before .before .before .before .before .before .before .before .before .before .before .before .before .before .before .before .before .before .before .pre) .0) ((c .before .before .before .before .before .before .before .before .before .before .before .before .before .before .before .before .before .before .before .args) .most) ((c .before .before .before .before .before .before .before .before .before .before .before .before .before .before .before .before .before .before .before .args) .values .now) ((c .before .before .before .before .before .loop) .rest .now) ((c .before .before .before .before .before .loop) .n) (stateOf ((c .before .before .before .before .before .loop) .depth) ((c .before .before .before .before .before .loop) .lost) ((c .before .before .before .before .before .loop) .procs) ((c .before .before .before .before .before .loop) .nodes) ((c .before .before .before .before .before .loop) .vars) ((c .before .before .before .before .before .loop) .sems) ((c .before .before .before .before .before .loop) .lens) ((c .before .before .before .before .before .loop) .items)) ((c .before .before .before .before .before .loop) .used) ((c .before .before .before .before .before .loop) .log) ((c .before .before .before .before .if1) .left) ((c .before .if2) .taken)) in ((c .running2) .ensures ∙ a .0, a .1)
+
 mul-at : tie.Need-mul-at Inv-loop2 μ-loop2 Inv-loop μ-loop
-mul-at c = record { fits = omega (arith, (c .before .before .before .loop) .inv .1) }
+mul-at c = record { fits = omega (arith, ((c .before .before .before .before .loop) .inv .1 .1 .1)) }
 
 sub-if3 : tie.Need-sub-if3 Inv-loop2 μ-loop2 Inv-loop μ-loop
-sub-if3 c = omega (arith, (c .before .before .before .loop) .inv .1)
+sub-if3 c = omega (arith, ((c .before .before .before .before .loop) .inv .1 .1 .1))
+
+running-requires-3 : tie.Need-running-requires-3 Inv-loop2 μ-loop2 Inv-loop μ-loop
+running-requires-3 c κs = ((c .before .before .before .before .before .loop) .inv .1 .1 .0)
+
+same-length-3 : tie.Need-same-length-3 Inv-loop2 μ-loop2 Inv-loop μ-loop
+same-length-3 c = ((c .before .before .before .before .before .before .loop) .inv .1 .1 .1) .1 .1 .0
+
+returns-3 : tie.Need-returns-3 Inv-loop2 μ-loop2 Inv-loop μ-loop
+returns-3 c = let a = answered ((c .before .before .before .before .before .before .before .before .before .before .before .before .before .before .before .before .before .before .before .before .args) .t) ((c .before .before .before .before .before .before .before .before .before .before .before .before .before .before .before .before .before .before .before .before .args) .most) ((c .before .before .before .before .before .before .before .before .before .before .before .before .before .before .before .before .before .before .before .before .args) .values .now) ((c .before .before .before .before .before .before .loop) .n) (stateOf ((c .before .before .before .before .before .before .loop) .depth) ((c .before .before .before .before .before .before .loop) .lost) ((c .before .before .before .before .before .before .loop) .procs) ((c .before .before .before .before .before .before .loop) .nodes) ((c .before .before .before .before .before .before .loop) .vars) ((c .before .before .before .before .before .before .loop) .sems) ((c .before .before .before .before .before .before .loop) .lens) ((c .before .before .before .before .before .before .loop) .items)) ((c .before .before .before .before .before .before .loop) .used) ((c .before .before .before .before .before .before .loop) .log) (runFrom ((c .before .before .before .before .before .before .before .before .before .before .before .before .before .before .before .before .before .before .before .before .args) .t) (keptIn ((c .before .before .before .before .before .before .before .before .before .before .before .before .before .before .before .before .before .before .before .before .args) .t)) ((c .before .before .before .before .before .before .before .before .before .before .before .before .before .before .before .before .before .before .before .before .args) .most) ((c .before .before .before .before .before .before .before .before .before .before .before .before .before .before .before .before .before .before .before .before .args) .values .now) ((c .before .before .before .before .before .before .before .before .before .before .before .before .before .before .before .before .before .before .before .before .args) .schedule .now) 0 ((c .before .before .before .before .before .before .before .before .before .before .before .before .before .before .before .before .before .before .before .before .args) .s) (drop ((c .before .before .before .before .before .before .before .before .before .before .before .before .before .before .before .before .before .before .before .before .args) .before) ((c .before .before .before .before .before .before .before .before .before .before .before .before .before .before .before .before .before .before .before .before .args) .values .now)) ((c .before .before .before .before .before .before .before .before .before .before .before .before .before .before .before .before .before .before .before .before .args) .log .now)) 11 (((c .before .before .before .before .before .before .loop) .inv .1 .1 .1) .0) (ap (λ (u : State). runFrom ((c .before .before .before .before .before .before .before .before .before .before .before .before .before .before .before .before .before .before .before .before .args) .t) (keptIn ((c .before .before .before .before .before .before .before .before .before .before .before .before .before .before .before .before .before .before .before .before .args) .t)) ((c .before .before .before .before .before .before .before .before .before .before .before .before .before .before .before .before .before .before .before .before .args) .most) ((c .before .before .before .before .before .before .before .before .before .before .before .before .before .before .before .before .before .before .before .before .args) .values .now) ((c .before .before .before .before .before .before .before .before .before .before .before .before .before .before .before .before .before .before .before .before .args) .schedule .now) 0 u (drop ((c .before .before .before .before .before .before .before .before .before .before .before .before .before .before .before .before .before .before .before .before .args) .before) ((c .before .before .before .before .before .before .before .before .before .before .before .before .before .before .before .before .before .before .before .before .args) .values .now)) ((c .before .before .before .before .before .before .before .before .before .before .before .before .before .before .before .before .before .before .before .before .args) .log .now)) (sym (begins (c .before .before .before .before .before .before .before .before .before .before))) ∙ (c .before .before .before .before .before .before .loop) .inv .0 ∙ stop-full ((c .before .before .before .before .before .before .before .before .before .before .before .before .before .before .before .before .before .before .before .before .args) .t) ((c .before .before .before .before .before .before .before .before .before .before .before .before .before .before .before .before .before .before .before .before .args) .t2) ((c .before .before .before .before .before .before .before .before .before .before .before .before .before .before .before .before .before .before .before .before .pre) .0) ((c .before .before .before .before .before .before .before .before .before .before .before .before .before .before .before .before .before .before .before .before .args) .most) ((c .before .before .before .before .before .before .before .before .before .before .before .before .before .before .before .before .before .before .before .before .args) .values .now) ((c .before .before .before .before .before .before .loop) .rest .now) ((c .before .before .before .before .before .before .loop) .n) (stateOf ((c .before .before .before .before .before .before .loop) .depth) ((c .before .before .before .before .before .before .loop) .lost) ((c .before .before .before .before .before .before .loop) .procs) ((c .before .before .before .before .before .before .loop) .nodes) ((c .before .before .before .before .before .before .loop) .vars) ((c .before .before .before .before .before .before .loop) .sems) ((c .before .before .before .before .before .before .loop) .lens) ((c .before .before .before .before .before .before .loop) .items)) ((c .before .before .before .before .before .before .loop) .used) ((c .before .before .before .before .before .before .loop) .log) ((c .before .before .before .before .before .if1) .left) ((c .before .before .if2) .left) ((c .before .if3) .taken)) in ((c .running3) .ensures ∙ a .0, a .1)
 
 cast-i : tie.Need-cast-i Inv-loop2 μ-loop2 Inv-loop μ-loop
 cast-i c = search needs
 
-element-copy-out-if4 : tie.Need-element-copy-out-if4 Inv-loop2 μ-loop2 Inv-loop μ-loop
-element-copy-out-if4 c = omega (arith, (c .before .if2) .left, (c .before .before .before .before .before .before .before .before .pre) .0 .tasks)
+array-read-if4 : tie.Need-array-read-if4 Inv-loop2 μ-loop2 Inv-loop μ-loop
+array-read-if4 c = omega (arith, (c .before .if2) .left, (c .before .before .before .before .before .before .before .before .before .before .before .before .before .before .before .before .before .before .before .pre) .0 .tasks)
 
-element-copy-out-d : tie.Need-element-copy-out-d Inv-loop2 μ-loop2 Inv-loop μ-loop
-element-copy-out-d c = omega (arith, (c .before .before .before .if2) .left, (c .before .before .before .before .before .before .before .before .before .before .pre) .0 .tasks)
+running-requires-4 : tie.Need-running-requires-4 Inv-loop2 μ-loop2 Inv-loop μ-loop
+running-requires-4 c κs = ((c .before .before .before .before .before .before .loop) .inv .1 .1 .0)
+
+same-length-4 : tie.Need-same-length-4 Inv-loop2 μ-loop2 Inv-loop μ-loop
+same-length-4 c = ((c .before .before .before .before .before .before .before .loop) .inv .1 .1 .1) .1 .1 .0
+
+returns-4 : tie.Need-returns-4 Inv-loop2 μ-loop2 Inv-loop μ-loop
+returns-4 c = let a = answered ((c .before .before .before .before .before .before .before .before .before .before .before .before .before .before .before .before .before .before .before .before .before .args) .t) ((c .before .before .before .before .before .before .before .before .before .before .before .before .before .before .before .before .before .before .before .before .before .args) .most) ((c .before .before .before .before .before .before .before .before .before .before .before .before .before .before .before .before .before .before .before .before .before .args) .values .now) ((c .before .before .before .before .before .before .before .loop) .n) (stateOf ((c .before .before .before .before .before .before .before .loop) .depth) ((c .before .before .before .before .before .before .before .loop) .lost) ((c .before .before .before .before .before .before .before .loop) .procs) ((c .before .before .before .before .before .before .before .loop) .nodes) ((c .before .before .before .before .before .before .before .loop) .vars) ((c .before .before .before .before .before .before .before .loop) .sems) ((c .before .before .before .before .before .before .before .loop) .lens) ((c .before .before .before .before .before .before .before .loop) .items)) ((c .before .before .before .before .before .before .before .loop) .used) ((c .before .before .before .before .before .before .before .loop) .log) (runFrom ((c .before .before .before .before .before .before .before .before .before .before .before .before .before .before .before .before .before .before .before .before .before .args) .t) (keptIn ((c .before .before .before .before .before .before .before .before .before .before .before .before .before .before .before .before .before .before .before .before .before .args) .t)) ((c .before .before .before .before .before .before .before .before .before .before .before .before .before .before .before .before .before .before .before .before .before .args) .most) ((c .before .before .before .before .before .before .before .before .before .before .before .before .before .before .before .before .before .before .before .before .before .args) .values .now) ((c .before .before .before .before .before .before .before .before .before .before .before .before .before .before .before .before .before .before .before .before .before .args) .schedule .now) 0 ((c .before .before .before .before .before .before .before .before .before .before .before .before .before .before .before .before .before .before .before .before .before .args) .s) (drop ((c .before .before .before .before .before .before .before .before .before .before .before .before .before .before .before .before .before .before .before .before .before .args) .before) ((c .before .before .before .before .before .before .before .before .before .before .before .before .before .before .before .before .before .before .before .before .before .args) .values .now)) ((c .before .before .before .before .before .before .before .before .before .before .before .before .before .before .before .before .before .before .before .before .before .args) .log .now)) 12 (((c .before .before .before .before .before .before .before .loop) .inv .1 .1 .1) .0) (ap (λ (u : State). runFrom ((c .before .before .before .before .before .before .before .before .before .before .before .before .before .before .before .before .before .before .before .before .before .args) .t) (keptIn ((c .before .before .before .before .before .before .before .before .before .before .before .before .before .before .before .before .before .before .before .before .before .args) .t)) ((c .before .before .before .before .before .before .before .before .before .before .before .before .before .before .before .before .before .before .before .before .before .args) .most) ((c .before .before .before .before .before .before .before .before .before .before .before .before .before .before .before .before .before .before .before .before .before .args) .values .now) ((c .before .before .before .before .before .before .before .before .before .before .before .before .before .before .before .before .before .before .before .before .before .args) .schedule .now) 0 u (drop ((c .before .before .before .before .before .before .before .before .before .before .before .before .before .before .before .before .before .before .before .before .before .args) .before) ((c .before .before .before .before .before .before .before .before .before .before .before .before .before .before .before .before .before .before .before .before .before .args) .values .now)) ((c .before .before .before .before .before .before .before .before .before .before .before .before .before .before .before .before .before .before .before .before .before .args) .log .now)) (sym (begins (c .before .before .before .before .before .before .before .before .before .before .before))) ∙ (c .before .before .before .before .before .before .before .loop) .inv .0 ∙ stop-lost ((c .before .before .before .before .before .before .before .before .before .before .before .before .before .before .before .before .before .before .before .before .before .args) .t) ((c .before .before .before .before .before .before .before .before .before .before .before .before .before .before .before .before .before .before .before .before .before .args) .t2) ((c .before .before .before .before .before .before .before .before .before .before .before .before .before .before .before .before .before .before .before .before .before .pre) .0) ((c .before .before .before .before .before .before .before .before .before .before .before .before .before .before .before .before .before .before .before .before .before .args) .most) ((c .before .before .before .before .before .before .before .before .before .before .before .before .before .before .before .before .before .before .before .before .before .args) .values .now) ((c .before .before .before .before .before .before .before .loop) .rest .now) ((c .before .before .before .before .before .before .before .loop) .n) (stateOf ((c .before .before .before .before .before .before .before .loop) .depth) ((c .before .before .before .before .before .before .before .loop) .lost) ((c .before .before .before .before .before .before .before .loop) .procs) ((c .before .before .before .before .before .before .before .loop) .nodes) ((c .before .before .before .before .before .before .before .loop) .vars) ((c .before .before .before .before .before .before .before .loop) .sems) ((c .before .before .before .before .before .before .before .loop) .lens) ((c .before .before .before .before .before .before .before .loop) .items)) ((c .before .before .before .before .before .before .before .loop) .used) ((c .before .before .before .before .before .before .before .loop) .log) ((c .before .before .before .before .before .before .if1) .left) ((c .before .before .before .if2) .left) ((c .before .before .if3) .left) ((c .before .if4) .taken)) in ((c .running4) .ensures ∙ a .0, a .1)
+
+array-read-d : tie.Need-array-read-d Inv-loop2 μ-loop2 Inv-loop μ-loop
+array-read-d c = omega (arith, (c .before .before .if2) .left, (c .before .before .before .before .before .before .before .before .before .before .before .before .before .before .before .before .before .before .before .before .pre) .0 .tasks)
 
 top-of-requires : tie.Need-top-of-requires Inv-loop2 μ-loop2 Inv-loop μ-loop
-top-of-requires c κs = (omega (arith, (c .before .before .before .before .if2) .left, (c .before .before .before .before .before .before .before .before .before .before .before .pre) .0 .tasks), ((c .before .before .before .before .before .before .before .loop) .inv .1 .0 .opened (getD ((c .before .before .before .before .before .before .before .loop) .rest .now) 0 0) ((c .before .before .before .before .if2) .left), (c .before .before .before .before .before .before .before .loop) .inv .1 .0 .bounded (getD ((c .before .before .before .before .before .before .before .loop) .rest .now) 0 0) ((c .before .before .before .before .if2) .left)))
+top-of-requires c κs = (omega (arith, (c .before .before .if2) .left, (c .before .before .before .before .before .before .before .before .before .before .before .before .before .before .before .before .before .before .before .before .pre) .0 .tasks), (((c .before .before .before .before .before .before .loop) .inv .1 .0) .opened (getD ((c .before .before .before .before .before .before .loop) .rest .now) 0 0) ((c .before .before .if2) .left), ((c .before .before .before .before .before .before .loop) .inv .1 .0) .bounded (getD ((c .before .before .before .before .before .before .loop) .rest .now) 0 0) ((c .before .before .if2) .left)))
 
-mul-top : tie.Need-mul-top Inv-loop2 μ-loop2 Inv-loop μ-loop
-mul-top c = record { fits = omega (arith, f-below c) }
+array-read-tp : tie.Need-array-read-tp Inv-loop2 μ-loop2 Inv-loop μ-loop
+array-read-tp c = f-below c
 
-element-copy-out-top : tie.Need-element-copy-out-top Inv-loop2 μ-loop2 Inv-loop μ-loop
-element-copy-out-top c = f-below c
+array-read-tn : tie.Need-array-read-tn Inv-loop2 μ-loop2 Inv-loop μ-loop
+array-read-tn c = f-below c
 
 place-requires : tie.Need-place-requires Inv-loop2 μ-loop2 Inv-loop μ-loop
-place-requires c κs = ((c .before .before .before .before .before .before .before .before .before .loop) .inv .1 .0 .procs ((c .before .top-of) .result), (c .before .before .before .before .before .before .before .before .before .loop) .inv .1 .0 .nodes ((c .before .top-of) .result))
+place-requires c κs = (proc-lt (c .before .before .before .before .before .before .before) ((c .top-of) .result), node-lt (c .before .before .before .before .before .before .before) ((c .top-of) .result))
 
 mul-sl : tie.Need-mul-sl Inv-loop2 μ-loop2 Inv-loop μ-loop
 mul-sl c = record { fits = omega (arith, a-below c) }
@@ -175,128 +284,145 @@ array-copy-out-sl c = a-below c
 enum-known-x : tie.Need-enum-known-x Inv-loop2 μ-loop2 Inv-loop μ-loop
 enum-known-x c = search needs
 
-mul-cf : tie.Need-mul-cf Inv-loop2 μ-loop2 Inv-loop μ-loop
-mul-cf c = record { fits = omega (arith, f-below (c .before .before .before .before .before .before .before)) }
+running-requires-5 : tie.Need-running-requires-5 Inv-loop2 μ-loop2 Inv-loop μ-loop
+running-requires-5 c κs = ((c .before .before .before .before .before .before .before .before .before .before .before .before .before .loop) .inv .1 .1 .0)
 
-element-copy-out-cf : tie.Need-element-copy-out-cf Inv-loop2 μ-loop2 Inv-loop μ-loop
-element-copy-out-cf c = f-below (c .before .before .before .before .before .before .before)
+same-length-5 : tie.Need-same-length-5 Inv-loop2 μ-loop2 Inv-loop μ-loop
+same-length-5 c = ((c .before .before .before .before .before .before .before .before .before .before .before .before .before .before .loop) .inv .1 .1 .1) .1 .1 .0
+
+returns-5 : tie.Need-returns-5 Inv-loop2 μ-loop2 Inv-loop μ-loop
+returns-5 c = let a = answered ((c .before .before .before .before .before .before .before .before .before .before .before .before .before .before .before .before .before .before .before .before .before .before .before .before .before .before .before .before .args) .t) ((c .before .before .before .before .before .before .before .before .before .before .before .before .before .before .before .before .before .before .before .before .before .before .before .before .before .before .before .before .args) .most) ((c .before .before .before .before .before .before .before .before .before .before .before .before .before .before .before .before .before .before .before .before .before .before .before .before .before .before .before .before .args) .values .now) ((c .before .before .before .before .before .before .before .before .before .before .before .before .before .before .loop) .n) (stateOf ((c .before .before .before .before .before .before .before .before .before .before .before .before .before .before .loop) .depth) ((c .before .before .before .before .before .before .before .before .before .before .before .before .before .before .loop) .lost) ((c .before .before .before .before .before .before .before .before .before .before .before .before .before .before .loop) .procs) ((c .before .before .before .before .before .before .before .before .before .before .before .before .before .before .loop) .nodes) ((c .before .before .before .before .before .before .before .before .before .before .before .before .before .before .loop) .vars) ((c .before .before .before .before .before .before .before .before .before .before .before .before .before .before .loop) .sems) ((c .before .before .before .before .before .before .before .before .before .before .before .before .before .before .loop) .lens) ((c .before .before .before .before .before .before .before .before .before .before .before .before .before .before .loop) .items)) ((c .before .before .before .before .before .before .before .before .before .before .before .before .before .before .loop) .used) ((c .before .before .before .before .before .before .before .before .before .before .before .before .before .before .loop) .log) (runFrom ((c .before .before .before .before .before .before .before .before .before .before .before .before .before .before .before .before .before .before .before .before .before .before .before .before .before .before .before .before .args) .t) (keptIn ((c .before .before .before .before .before .before .before .before .before .before .before .before .before .before .before .before .before .before .before .before .before .before .before .before .before .before .before .before .args) .t)) ((c .before .before .before .before .before .before .before .before .before .before .before .before .before .before .before .before .before .before .before .before .before .before .before .before .before .before .before .before .args) .most) ((c .before .before .before .before .before .before .before .before .before .before .before .before .before .before .before .before .before .before .before .before .before .before .before .before .before .before .before .before .args) .values .now) ((c .before .before .before .before .before .before .before .before .before .before .before .before .before .before .before .before .before .before .before .before .before .before .before .before .before .before .before .before .args) .schedule .now) 0 ((c .before .before .before .before .before .before .before .before .before .before .before .before .before .before .before .before .before .before .before .before .before .before .before .before .before .before .before .before .args) .s) (drop ((c .before .before .before .before .before .before .before .before .before .before .before .before .before .before .before .before .before .before .before .before .before .before .before .before .before .before .before .before .args) .before) ((c .before .before .before .before .before .before .before .before .before .before .before .before .before .before .before .before .before .before .before .before .before .before .before .before .before .before .before .before .args) .values .now)) ((c .before .before .before .before .before .before .before .before .before .before .before .before .before .before .before .before .before .before .before .before .before .before .before .before .before .before .before .before .args) .log .now)) 13 (((c .before .before .before .before .before .before .before .before .before .before .before .before .before .before .loop) .inv .1 .1 .1) .0) (ap (λ (u : State). runFrom ((c .before .before .before .before .before .before .before .before .before .before .before .before .before .before .before .before .before .before .before .before .before .before .before .before .before .before .before .before .args) .t) (keptIn ((c .before .before .before .before .before .before .before .before .before .before .before .before .before .before .before .before .before .before .before .before .before .before .before .before .before .before .before .before .args) .t)) ((c .before .before .before .before .before .before .before .before .before .before .before .before .before .before .before .before .before .before .before .before .before .before .before .before .before .before .before .before .args) .most) ((c .before .before .before .before .before .before .before .before .before .before .before .before .before .before .before .before .before .before .before .before .before .before .before .before .before .before .before .before .args) .values .now) ((c .before .before .before .before .before .before .before .before .before .before .before .before .before .before .before .before .before .before .before .before .before .before .before .before .before .before .before .before .args) .schedule .now) 0 u (drop ((c .before .before .before .before .before .before .before .before .before .before .before .before .before .before .before .before .before .before .before .before .before .before .before .before .before .before .before .before .args) .before) ((c .before .before .before .before .before .before .before .before .before .before .before .before .before .before .before .before .before .before .before .before .before .before .before .before .before .before .before .before .args) .values .now)) ((c .before .before .before .before .before .before .before .before .before .before .before .before .before .before .before .before .before .before .before .before .before .before .before .before .before .before .before .before .args) .log .now)) (sym (begins (c .before .before .before .before .before .before .before .before .before .before .before .before .before .before .before .before .before .before))) ∙ (c .before .before .before .before .before .before .before .before .before .before .before .before .before .before .loop) .inv .0 ∙ stop-call ((c .before .before .before .before .before .before .before .before .before .before .before .before .before .before .before .before .before .before .before .before .before .before .before .before .before .before .before .before .args) .t) ((c .before .before .before .before .before .before .before .before .before .before .before .before .before .before .before .before .before .before .before .before .before .before .before .before .before .before .before .before .args) .t2) ((c .before .before .before .before .before .before .before .before .before .before .before .before .before .before .before .before .before .before .before .before .before .before .before .before .before .before .before .before .pre) .0) ((c .before .before .before .before .before .before .before .before .before .before .before .before .before .before .before .before .before .before .before .before .before .before .before .before .before .before .before .before .args) .most) ((c .before .before .before .before .before .before .before .before .before .before .before .before .before .before .before .before .before .before .before .before .before .before .before .before .before .before .before .before .args) .values .now) ((c .before .before .before .before .before .before .before .before .before .before .before .before .before .before .loop) .rest .now) ((c .before .before .before .before .before .before .before .before .before .before .before .before .before .before .loop) .n) (stateOf ((c .before .before .before .before .before .before .before .before .before .before .before .before .before .before .loop) .depth) ((c .before .before .before .before .before .before .before .before .before .before .before .before .before .before .loop) .lost) ((c .before .before .before .before .before .before .before .before .before .before .before .before .before .before .loop) .procs) ((c .before .before .before .before .before .before .before .before .before .before .before .before .before .before .loop) .nodes) ((c .before .before .before .before .before .before .before .before .before .before .before .before .before .before .loop) .vars) ((c .before .before .before .before .before .before .before .before .before .before .before .before .before .before .loop) .sems) ((c .before .before .before .before .before .before .before .before .before .before .before .before .before .before .loop) .lens) ((c .before .before .before .before .before .before .before .before .before .before .before .before .before .before .loop) .items)) ((c .before .before .before .before .before .before .before .before .before .before .before .before .before .before .loop) .used) ((c .before .before .before .before .before .before .before .before .before .before .before .before .before .before .loop) .log) ((c .before .before .before .before .before .before .before .top-of) .result) (getD ((c .before .before .before .before .before .before .before .before .before .before .before .before .before .before .before .before .before .before .before .before .before .before .before .before .before .row) .result) ((c .before .before .before .before .before .before .place) .result) noSlot .node) ((c .before .before .before .before .before .before .before .before .before .before .before .before .before .before .loop) .lens) ((c .before .before .before .before .before .before .before .before .before .before .before .before .before .before .loop) .items) ((c .before .before .before .before .before .before .before .before .before .before .before .before .before .before .before .before .before .before .before .before .before .before .before .before .caps) .result) (standing (c .before .before .before .before .before)) ((c .before .before .before .x) .given .0 .0) ((c .before .before .before .x) .given .0 .1 .0) ((c .before .before .before .x) .given .0 .1 .1 .0) ((c .before .before .before .x) .given .1) ((c .before .if5) .taken)) in ((c .running5) .ensures ∙ a .0, a .1)
+
+mul-enter : tie.Need-mul-enter Inv-loop2 μ-loop2 Inv-loop μ-loop
+mul-enter c = record { fits = omega (arith, f-below (c .before .before .before .before .before .before)) }
+
+index-1-enter : tie.Need-index-1-enter Inv-loop2 μ-loop2 Inv-loop μ-loop
+index-1-enter c = f-below (c .before .before .before .before .before .before)
 
 enter-requires : tie.Need-enter-requires Inv-loop2 μ-loop2 Inv-loop μ-loop
-enter-requires c κs = ((c .before .before .before .before .before .before .before .before .before .before .before .before .before .before .before .before .before .before .loop) .inv .1 .0 .vars ((c .before .before .before .before .before .before .before .before .before .before .top-of) .result) (f-below (c .before .before .before .before .before .before .before .before .before .before)), subst Placed ((c .before .before .before .before .before .x) .given .1) (placed ((c .before .before .before .before .before .before .before .before .before .before .before .before .before .before .before .before .before .before .before .before .before .before .args) .t1) ((c .before .before .before .before .before .before .before .before .before .before .before .before .before .before .before .before .before .before .before .before .before .before .args) .t2) ((c .before .before .before .before .before .before .before .before .before .before .before .before .before .before .before .before .before .before .before .before .before .before .pre) .0) ((c .before .before .before .before .before .before .before .before .before .before .before .before .before .before .before .before .before .before .before .before .before .before .args) .most) ((c .before .before .before .before .before .before .before .before .before .before .before .before .before .before .before .before .before .before .before .before .before .before .args) .values .now) ((c .before .before .before .before .before .before .before .before .before .before .before .before .before .before .before .before .before .before .loop) .rest .now) ((c .before .before .before .before .before .before .before .before .before .before .before .before .before .before .before .before .before .before .loop) .n) ((c .before .before .before .before .before .before .before .before .before .before .before .before .before .before .before .before .before .before .loop) .u) ((c .before .before .before .before .before .before .before .before .before .before .before .before .before .before .before .before .before .before .loop) .used) ((c .before .before .before .before .before .before .before .before .before .before .before .before .before .before .before .before .before .before .loop) .log) ((c .before .before .before .before .before .before .before .before .before .before .top-of) .result) (getD ((c .before .before .before .before .before .before .before .before .before .before .before .before .before .before .before .before .before .before .before .row) .result) ((c .before .before .before .before .before .before .before .before .place) .result) noSlot .node) (sidesOf (getD ((c .before .before .before .before .before .before .before .before .before .before .before .before .before .before .before .before .before .before .before .row) .result) ((c .before .before .before .before .before .before .before .before .place) .result) noSlot .node)) (standing0 (c .before .before .before .before .before .before .before))) .1)
+enter-requires c κs = (vars-long (c .before .before .before .before .before .before .before .before .before .before .before .before .before .before) ((c .before .before .before .before .before .before .before .top-of) .result) (f-below (c .before .before .before .before .before .before .before)), subst Placed ((c .before .before .before .x) .given .1) (placed ((c .before .before .before .before .before .before .before .before .before .before .before .before .before .before .before .before .before .before .before .before .before .before .before .before .before .before .before .before .args) .t) ((c .before .before .before .before .before .before .before .before .before .before .before .before .before .before .before .before .before .before .before .before .before .before .before .before .before .before .before .before .args) .t2) ((c .before .before .before .before .before .before .before .before .before .before .before .before .before .before .before .before .before .before .before .before .before .before .before .before .before .before .before .before .pre) .0) ((c .before .before .before .before .before .before .before .before .before .before .before .before .before .before .before .before .before .before .before .before .before .before .before .before .before .before .before .before .args) .most) ((c .before .before .before .before .before .before .before .before .before .before .before .before .before .before .before .before .before .before .before .before .before .before .before .before .before .before .before .before .args) .values .now) ((c .before .before .before .before .before .before .before .before .before .before .before .before .before .before .loop) .rest .now) ((c .before .before .before .before .before .before .before .before .before .before .before .before .before .before .loop) .n) (stateOf ((c .before .before .before .before .before .before .before .before .before .before .before .before .before .before .loop) .depth) ((c .before .before .before .before .before .before .before .before .before .before .before .before .before .before .loop) .lost) ((c .before .before .before .before .before .before .before .before .before .before .before .before .before .before .loop) .procs) ((c .before .before .before .before .before .before .before .before .before .before .before .before .before .before .loop) .nodes) ((c .before .before .before .before .before .before .before .before .before .before .before .before .before .before .loop) .vars) ((c .before .before .before .before .before .before .before .before .before .before .before .before .before .before .loop) .sems) ((c .before .before .before .before .before .before .before .before .before .before .before .before .before .before .loop) .lens) ((c .before .before .before .before .before .before .before .before .before .before .before .before .before .before .loop) .items)) ((c .before .before .before .before .before .before .before .before .before .before .before .before .before .before .loop) .used) ((c .before .before .before .before .before .before .before .before .before .before .before .before .before .before .loop) .log) ((c .before .before .before .before .before .before .before .top-of) .result) (getD ((c .before .before .before .before .before .before .before .before .before .before .before .before .before .before .before .before .before .before .before .before .before .before .before .before .before .row) .result) ((c .before .before .before .before .before .before .place) .result) noSlot .node) ((c .before .before .before .before .before .before .before .before .before .before .before .before .before .before .loop) .lens) ((c .before .before .before .before .before .before .before .before .before .before .before .before .before .before .loop) .items) ((c .before .before .before .before .before .before .before .before .before .before .before .before .before .before .before .before .before .before .before .before .before .before .before .before .caps) .result) (standing (c .before .before .before .before .before))) .1)
 
-add-t82 : tie.Need-add-t82 Inv-loop2 μ-loop2 Inv-loop μ-loop
-add-t82 c = record { fits = omega (arith, f-below (c .before .before .before .before .before .before .before .before .before .before .before)) }
+add-vars : tie.Need-add-vars Inv-loop2 μ-loop2 Inv-loop μ-loop
+add-vars c = record { fits = omega (arith, f-below (c .before .before .before .before .before .before .before .before)) }
 
-mul-t87 : tie.Need-mul-t87 Inv-loop2 μ-loop2 Inv-loop μ-loop
-mul-t87 c = record { fits = omega (arith, f-below (c .before .before .before .before .before .before .before .before .before .before .before)) }
+mul-vars : tie.Need-mul-vars Inv-loop2 μ-loop2 Inv-loop μ-loop
+mul-vars c = record { fits = omega (arith, f-below (c .before .before .before .before .before .before .before .before)) }
 
-element-set-from-u : tie.Need-element-set-from-u Inv-loop2 μ-loop2 Inv-loop μ-loop
-element-set-from-u c = omega (arith, (c .before .before .before .before .before .before .before .before .before .before .before .top-of) .ensures, (c .before .before .before .before .before .before .before .before .before .before .before .before .before .before .before .before .if2) .left, (c .before .before .before .before .before .before .before .before .before .before .before .before .before .before .before .before .before .before .before .before .before .before .before .pre) .0 .tasks, (c .before .before .before .before .if5) .left, (c .before .before .before .before .before .before .before .before .before .before .before .before .before .before .before .before .before .before .before .loop) .inv .1 .0 .opened (getD ((c .before .before .before .before .before .before .before .before .before .before .before .before .before .before .before .before .before .before .before .loop) .rest .now) 0 0) ((c .before .before .before .before .before .before .before .before .before .before .before .before .before .before .before .before .if2) .left))
+array-set-from-vars : tie.Need-array-set-from-vars Inv-loop2 μ-loop2 Inv-loop μ-loop
+array-set-from-vars c = next-below (c .before .before)
 
-add-u : tie.Need-add-u Inv-loop2 μ-loop2 Inv-loop μ-loop
-add-u c = record { fits = omega (arith, (c .before .before .before .before .if5) .left) }
+add-procs : tie.Need-add-procs Inv-loop2 μ-loop2 Inv-loop μ-loop
+add-procs c = record { fits = omega (arith, f-below (c .before .before .before .before .before .before .before .before)) }
 
-element-write-u : tie.Need-element-write-u Inv-loop2 μ-loop2 Inv-loop μ-loop
-element-write-u c = omega (arith, (c .before .before .before .before .before .before .before .before .before .before .before .before .before .before .before .before .if2) .left, (c .before .before .before .before .before .before .before .before .before .before .before .before .before .before .before .before .before .before .before .before .before .before .before .pre) .0 .tasks)
+array-write-procs : tie.Need-array-write-procs Inv-loop2 μ-loop2 Inv-loop μ-loop
+array-write-procs c = next-below (c .before .before)
+
+add-nodes : tie.Need-add-nodes Inv-loop2 μ-loop2 Inv-loop μ-loop
+add-nodes c = record { fits = omega (arith, f-below (c .before .before .before .before .before .before .before .before)) }
+
+array-write-nodes : tie.Need-array-write-nodes Inv-loop2 μ-loop2 Inv-loop μ-loop
+array-write-nodes c = next-below (c .before .before)
+
+add-depth : tie.Need-add-depth Inv-loop2 μ-loop2 Inv-loop μ-loop
+add-depth c = record { fits = omega (arith, (c .before .before .if5) .left) }
+
+array-write-depth : tie.Need-array-write-depth Inv-loop2 μ-loop2 Inv-loop μ-loop
+array-write-depth c = omega (arith, (c .before .before .before .before .before .before .before .before .before .before .before .if2) .left, (c .before .before .before .before .before .before .before .before .before .before .before .before .before .before .before .before .before .before .before .before .before .before .before .before .before .before .before .before .before .pre) .0 .tasks)
 
 put-requires : tie.Need-put-requires Inv-loop2 μ-loop2 Inv-loop μ-loop
-put-requires c κs = omega (arith, (c .before .before .before .before .before .before .before .before .before .before .before .before .before .before .before .before .if3) .left, (c .before .before .before .before .before .before .before .before .before .before .before .before .before .before .before .before .before .before .before .before .loop) .inv .1)
+put-requires c κs = omega (arith, (c .before .before .before .before .before .before .before .before .before .before .before .if3) .left, ((c .before .before .before .before .before .before .before .before .before .before .before .before .before .before .before .before .loop) .inv .1 .1 .1))
 
 at-most-requires : tie.Need-at-most-requires Inv-loop2 μ-loop2 Inv-loop μ-loop
-at-most-requires c κs = (c .before .before .before .before .before .before .before .before .before .before .before .before .before .before .before .before .before .before .before .before .before .before .before .loop) .inv .1 .1 .0
+at-most-requires c κs = ((c .before .before .before .before .before .before .before .before .before .before .before .before .before .before .before .before .before .before .before .loop) .inv .1 .1 .1) .0
 
 add-n : tie.Need-add-n Inv-loop2 μ-loop2 Inv-loop μ-loop
-add-n c = record { fits = omega (arith, (c .before .before .before .before .before .before .before .before .before .before .before .before .before .before .before .before .before .before .before .before .if3) .left, (c .before .before .before .before .before .before .before .before .before .before .before .before .before .before .before .before .before .before .before .before .before .before .before .before .loop) .inv .1) }
+add-n c = record { fits = omega (arith, (c .before .before .before .before .before .before .before .before .before .before .before .before .before .before .before .if3) .left, ((c .before .before .before .before .before .before .before .before .before .before .before .before .before .before .before .before .before .before .before .before .loop) .inv .1 .1 .1)) }
 
 sub-rest : tie.Need-sub-rest Inv-loop2 μ-loop2 Inv-loop μ-loop
-sub-rest c = omega (arith, (c .before .before .before .before .before .before .before .before .before .before .before .before .before .before .before .before .before .before .before .before .before .before .before .if1) .left)
+sub-rest c = omega (arith, (c .before .before .before .before .before .before .before .before .before .before .before .before .before .before .before .before .before .before .before .if1) .left)
 
 part-rest-start : tie.Need-part-rest-start Inv-loop2 μ-loop2 Inv-loop μ-loop
-part-rest-start c = omega (arith, (c .before .before .before .before .before .before .before .before .before .before .before .before .before .before .before .before .before .before .before .before .before .before .before .if1) .left)
+part-rest-start c = omega (arith, (c .before .before .before .before .before .before .before .before .before .before .before .before .before .before .before .before .before .before .before .if1) .left)
 
 part-rest-end : tie.Need-part-rest-end Inv-loop2 μ-loop2 Inv-loop μ-loop
 part-rest-end c = search needs
 
 loop-less : tie.Need-loop-less Inv-loop2 μ-loop2 Inv-loop μ-loop
-loop-less c = omega (arith, (c .before .before .before .before .before .before .before .before .before .before .before .before .before .before .before .before .before .before .before .before .before .before .before .before .if1) .left)
+loop-less c = rest-less ((c .before .before .before .before .before .before .before .before .before .before .before .before .before .before .before .before .before .before .before .before .before .loop) .rest .now) ((c .before .before .before .before .before .before .before .before .before .before .before .before .before .before .before .before .before .before .before .before .if1) .left)
 
 loop-again : tie.Need-loop-again Inv-loop2 μ-loop2 Inv-loop μ-loop
 loop-again c =
     rw ((c .before .at-most) .ensures) (
-    let ps = (c .before .before .before .before .put) .ensures in
-    let ln : length ((c .before .before .before .before .put) .last .0) ≡ length ((c .before .before .before .before .before .before .before .before .before .before .before .before .before .before .before .before .before .before .before .before .before .before .before .before .before .loop) .log) = ap length ps ∙ length-sets ((c .before .before .before .before .before .before .before .before .before .before .before .before .before .before .before .before .before .before .before .before .before .before .before .before .before .loop) .log) (8 * (c .before .before .before .before .before .before .before .before .before .before .before .before .before .before .before .before .before .before .before .before .before .before .before .before .before .loop) .n) ((getD ((c .before .before .before .before .before .before .before .before .before .before .before .before .before .before .before .before .before .before .before .before .before .before .before .before .before .loop) .rest .now) 0 0) ∷ (frameIn ((c .before .before .before .before .before .before .before .before .before .before .before .before .before .before .before .before .before .before .before .before .before .before .before .before .before .loop) .u .frames) ((c .before .before .before .before .before .before .before .before .before .before .before .before .before .before .before .before .before .top-of) .result)) .proc ∷ (frameIn ((c .before .before .before .before .before .before .before .before .before .before .before .before .before .before .before .before .before .before .before .before .before .before .before .before .before .loop) .u .frames) ((c .before .before .before .before .before .before .before .before .before .before .before .before .before .before .before .before .before .top-of) .result)) .node ∷ 0 ∷ word 0) in (
-      (c .before .before .before .before .before .before .before .before .before .before .before .before .before .before .before .before .before .before .before .before .before .before .before .before .before .loop) .inv .0 ∙ turn-calls ((c .before .before .before .before .before .before .before .before .before .before .before .before .before .before .before .before .before .before .before .before .before .before .before .before .before .before .before .before .before .args) .t1) ((c .before .before .before .before .before .before .before .before .before .before .before .before .before .before .before .before .before .before .before .before .before .before .before .before .before .before .before .before .before .args) .t2) ((c .before .before .before .before .before .before .before .before .before .before .before .before .before .before .before .before .before .before .before .before .before .before .before .before .before .before .before .before .before .pre) .0) ((c .before .before .before .before .before .before .before .before .before .before .before .before .before .before .before .before .before .before .before .before .before .before .before .before .before .before .before .before .before .args) .most) ((c .before .before .before .before .before .before .before .before .before .before .before .before .before .before .before .before .before .before .before .before .before .before .before .before .before .before .before .before .before .args) .values .now) ((c .before .before .before .before .before .before .before .before .before .before .before .before .before .before .before .before .before .before .before .before .before .before .before .before .before .loop) .rest .now) ((c .before .before .before .before .before .before .before .before .before .before .before .before .before .before .before .before .before .before .before .before .before .before .before .before .before .loop) .n) ((c .before .before .before .before .before .before .before .before .before .before .before .before .before .before .before .before .before .before .before .before .before .before .before .before .before .loop) .u) ((c .before .before .before .before .before .before .before .before .before .before .before .before .before .before .before .before .before .before .before .before .before .before .before .before .before .loop) .used) ((c .before .before .before .before .before .before .before .before .before .before .before .before .before .before .before .before .before .before .before .before .before .before .before .before .before .loop) .log) ((c .before .before .before .before .before .before .before .before .before .before .before .before .before .before .before .before .before .top-of) .result) (getD ((c .before .before .before .before .before .before .before .before .before .before .before .before .before .before .before .before .before .before .before .before .before .before .before .before .before .before .row) .result) ((c .before .before .before .before .before .before .before .before .before .before .before .before .before .before .before .place) .result) noSlot .node) (sidesOf (getD ((c .before .before .before .before .before .before .before .before .before .before .before .before .before .before .before .before .before .before .before .before .before .before .before .before .before .before .row) .result) ((c .before .before .before .before .before .before .before .before .before .before .before .before .before .before .before .place) .result) noSlot .node)) (standing0 (c .before .before .before .before .before .before .before .before .before .before .before .before .before .before)) (call-free ((c .before .before .before .before .before .before .before .before .before .before .before .before .before .before .before .before .before .before .before .before .before .before .before .before .before .before .before .before .before .args) .t1) ((c .before .before .before .before .before .before .before .before .before .before .before .before .before .before .before .before .before .before .before .before .before .before .before .before .before .before .before .before .before .args) .t2) ((c .before .before .before .before .before .before .before .before .before .before .before .before .before .before .before .before .before .before .before .before .before .before .before .before .before .before .before .before .before .pre) .0) ((c .before .before .before .before .before .before .before .before .before .before .before .before .before .before .before .before .before .before .before .before .before .before .before .before .before .before .before .before .before .args) .most) ((c .before .before .before .before .before .before .before .before .before .before .before .before .before .before .before .before .before .before .before .before .before .before .before .before .before .before .before .before .before .args) .values .now) ((c .before .before .before .before .before .before .before .before .before .before .before .before .before .before .before .before .before .before .before .before .before .before .before .before .before .loop) .rest .now) ((c .before .before .before .before .before .before .before .before .before .before .before .before .before .before .before .before .before .before .before .before .before .before .before .before .before .loop) .n) ((c .before .before .before .before .before .before .before .before .before .before .before .before .before .before .before .before .before .before .before .before .before .before .before .before .before .loop) .u) ((c .before .before .before .before .before .before .before .before .before .before .before .before .before .before .before .before .before .before .before .before .before .before .before .before .before .loop) .used) ((c .before .before .before .before .before .before .before .before .before .before .before .before .before .before .before .before .before .before .before .before .before .before .before .before .before .loop) .log) ((c .before .before .before .before .before .before .before .before .before .before .before .before .before .before .before .before .before .top-of) .result) (getD ((c .before .before .before .before .before .before .before .before .before .before .before .before .before .before .before .before .before .before .before .before .before .before .before .before .before .before .row) .result) ((c .before .before .before .before .before .before .before .before .before .before .before .before .before .before .before .place) .result) noSlot .node) (sidesOf (getD ((c .before .before .before .before .before .before .before .before .before .before .before .before .before .before .before .before .before .before .before .before .before .before .before .before .before .before .row) .result) ((c .before .before .before .before .before .before .before .before .before .before .before .before .before .before .before .place) .result) noSlot .node)) (standing0 (c .before .before .before .before .before .before .before .before .before .before .before .before .before .before)) ((c .before .before .before .before .before .before .before .before .before .before .before .before .x) .given .0 .0) ((c .before .before .before .before .before .before .before .before .before .before .before .before .x) .given .0 .1 .0) ((c .before .before .before .before .before .before .before .before .before .before .before .before .x) .given .0 .1 .1 .0) ((c .before .before .before .before .before .before .before .before .before .before .before .before .x) .given .1) ((c .before .before .before .before .before .before .before .before .before .before .if5) .left)) ((c .before .before .before .before .put) .last .0) (showing 0 0) (call-shows ((c .before .before .before .before .before .before .before .before .before .before .before .before .before .before .before .before .before .before .before .before .before .before .before .before .before .before .before .before .before .args) .t1) ((c .before .before .before .before .before .before .before .before .before .before .before .before .before .before .before .before .before .before .before .before .before .before .before .before .before .before .before .before .before .args) .t2) ((c .before .before .before .before .before .before .before .before .before .before .before .before .before .before .before .before .before .before .before .before .before .before .before .before .before .before .before .before .before .pre) .0) ((c .before .before .before .before .before .before .before .before .before .before .before .before .before .before .before .before .before .before .before .before .before .before .before .before .before .before .before .before .before .args) .most) ((c .before .before .before .before .before .before .before .before .before .before .before .before .before .before .before .before .before .before .before .before .before .before .before .before .before .before .before .before .before .args) .values .now) ((c .before .before .before .before .before .before .before .before .before .before .before .before .before .before .before .before .before .before .before .before .before .before .before .before .before .loop) .rest .now) ((c .before .before .before .before .before .before .before .before .before .before .before .before .before .before .before .before .before .before .before .before .before .before .before .before .before .loop) .n) ((c .before .before .before .before .before .before .before .before .before .before .before .before .before .before .before .before .before .before .before .before .before .before .before .before .before .loop) .u) ((c .before .before .before .before .before .before .before .before .before .before .before .before .before .before .before .before .before .before .before .before .before .before .before .before .before .loop) .used) ((c .before .before .before .before .before .before .before .before .before .before .before .before .before .before .before .before .before .before .before .before .before .before .before .before .before .loop) .log) ((c .before .before .before .before .before .before .before .before .before .before .before .before .before .before .before .before .before .top-of) .result) (getD ((c .before .before .before .before .before .before .before .before .before .before .before .before .before .before .before .before .before .before .before .before .before .before .before .before .before .before .row) .result) ((c .before .before .before .before .before .before .before .before .before .before .before .before .before .before .before .place) .result) noSlot .node) (sidesOf (getD ((c .before .before .before .before .before .before .before .before .before .before .before .before .before .before .before .before .before .before .before .before .before .before .before .before .before .before .row) .result) ((c .before .before .before .before .before .before .before .before .before .before .before .before .before .before .before .place) .result) noSlot .node)) (standing0 (c .before .before .before .before .before .before .before .before .before .before .before .before .before .before)) ((c .before .before .before .before .before .before .before .before .before .before .before .before .x) .given .0 .0) ((c .before .before .before .before .before .before .before .before .before .before .before .before .x) .given .0 .1 .0) ((c .before .before .before .before .before .before .before .before .before .before .before .before .x) .given .0 .1 .1 .0) ((c .before .before .before .before .before .before .before .before .before .before .before .before .x) .given .1)) ps ((c .before .before .before .before .before .before .before .before .before .before .before .before .x) .given .0 .0) ((c .before .before .before .before .before .before .before .before .before .before .before .before .x) .given .0 .1 .0) ((c .before .before .before .before .before .before .before .before .before .before .before .before .x) .given .0 .1 .1 .0) ((c .before .before .before .before .before .before .before .before .before .before .before .before .x) .given .1) ((c .before .before .before .before .before .before .enter) .result) ((c .before .before .before .before .before .before .enter) .ensures),
+    let ps = (c .before .before .before .before .put) .ensures ∙ (λ i. sets ((c .before .before .before .before .before .before .before .before .before .before .before .before .before .before .before .before .before .before .before .before .before .loop) .log) (8 * (c .before .before .before .before .before .before .before .before .before .before .before .before .before .before .before .before .before .before .before .before .before .loop) .n) ((getD ((c .before .before .before .before .before .before .before .before .before .before .before .before .before .before .before .before .before .before .before .before .before .loop) .rest .now) 0 0) ∷ proc-in ((c .before .before .before .before .before .before .before .before .before .before .before .before .before .before .before .before .before .before .before .before .before .loop) .inv .1 .1 .0) ((c .before .before .before .before .before .before .before .before .before .before .before .before .before .before .top-of) .result) i ∷ node-in ((c .before .before .before .before .before .before .before .before .before .before .before .before .before .before .before .before .before .before .before .before .before .loop) .inv .1 .1 .0) ((c .before .before .before .before .before .before .before .before .before .before .before .before .before .before .top-of) .result) i ∷ 0 ∷ word 0)) in
+    let ln : length ((c .before .before .before .before .put) .last .0) ≡ length ((c .before .before .before .before .before .before .before .before .before .before .before .before .before .before .before .before .before .before .before .before .before .loop) .log) = ap length ps ∙ length-sets ((c .before .before .before .before .before .before .before .before .before .before .before .before .before .before .before .before .before .before .before .before .before .loop) .log) (8 * (c .before .before .before .before .before .before .before .before .before .before .before .before .before .before .before .before .before .before .before .before .before .loop) .n) ((getD ((c .before .before .before .before .before .before .before .before .before .before .before .before .before .before .before .before .before .before .before .before .before .loop) .rest .now) 0 0) ∷ frameIn (framesOf ((c .before .before .before .before .before .before .before .before .before .before .before .before .before .before .before .before .before .before .before .before .before .loop) .procs) ((c .before .before .before .before .before .before .before .before .before .before .before .before .before .before .before .before .before .before .before .before .before .loop) .nodes) ((c .before .before .before .before .before .before .before .before .before .before .before .before .before .before .before .before .before .before .before .before .before .loop) .vars)) ((c .before .before .before .before .before .before .before .before .before .before .before .before .before .before .top-of) .result) .proc ∷ frameIn (framesOf ((c .before .before .before .before .before .before .before .before .before .before .before .before .before .before .before .before .before .before .before .before .before .loop) .procs) ((c .before .before .before .before .before .before .before .before .before .before .before .before .before .before .before .before .before .before .before .before .before .loop) .nodes) ((c .before .before .before .before .before .before .before .before .before .before .before .before .before .before .before .before .before .before .before .before .before .loop) .vars)) ((c .before .before .before .before .before .before .before .before .before .before .before .before .before .before .top-of) .result) .node ∷ 0 ∷ word 0) in
+    let fr : Frame = record { proc = (c .before .before .before .before .before .before .before .before .before .before .x) .given .0 .0; node = 0; vars = (c .before .before .before .before .before .before .enter) .result } in
+    let en : fr ≡ entering (frameIn (framesOf ((c .before .before .before .before .before .before .before .before .before .before .before .before .before .before .before .before .before .before .before .before .before .loop) .procs) ((c .before .before .before .before .before .before .before .before .before .before .before .before .before .before .before .before .before .before .before .before .before .loop) .nodes) ((c .before .before .before .before .before .before .before .before .before .before .before .before .before .before .before .before .before .before .before .before .before .loop) .vars)) ((c .before .before .before .before .before .before .before .before .before .before .before .before .before .before .top-of) .result) .vars) ((c .before .before .before .before .before .before .before .before .before .before .x) .given .0 .0) ((c .before .before .before .before .before .before .before .before .before .before .x) .given .0 .1 .0) = (let v = (c .before .before .before .before .before .before .enter) .ensures ∙ ap (λ (l : List ℤ). entering l ((c .before .before .before .before .before .before .before .before .before .before .x) .given .0 .0) ((c .before .before .before .before .before .before .before .before .before .before .x) .given .0 .1 .0) .vars) (vars-in ((c .before .before .before .before .before .before .before .before .before .before .before .before .before .before .before .before .before .before .before .before .before .loop) .inv .1 .1 .0) ((c .before .before .before .before .before .before .before .before .before .before .before .before .before .before .top-of) .result)) in λ i. record { proc = (c .before .before .before .before .before .before .before .before .before .before .x) .given .0 .0; node = 0; vars = v i }) in
+    let fe = sym (frame-set ((c .before .before .before .before .before .before .before .before .before .before .before .before .before .before .before .before .before .before .before .before .before .loop) .procs) ((c .before .before .before .before .before .before .before .before .before .before .before .before .before .before .before .before .before .before .before .before .before .loop) .nodes) ((c .before .before .before .before .before .before .before .before .before .before .before .before .before .before .before .before .before .before .before .before .before .loop) .vars) ((c .before .before .before .before .before .before .before .before .before .before .before .before .before .before .top-of) .result + 1) ((c .before .before .before .before .before .before .before .before .before .before .x) .given .0 .0) 0 ((c .before .before .before .before .before .before .enter) .result)) in
+    let e : _≡_ {A = State} (record { depth = set ((c .before .before .before .before .before .before .before .before .before .before .before .before .before .before .before .before .before .before .before .before .before .loop) .depth) (getD ((c .before .before .before .before .before .before .before .before .before .before .before .before .before .before .before .before .before .before .before .before .before .loop) .rest .now) 0 0) ((getD ((c .before .before .before .before .before .before .before .before .before .before .before .before .before .before .before .before .before .before .before .before .before .loop) .depth) (getD ((c .before .before .before .before .before .before .before .before .before .before .before .before .before .before .before .before .before .before .before .before .before .loop) .rest .now) 0 0) 0) + 1); lost = (c .before .before .before .before .before .before .before .before .before .before .before .before .before .before .before .before .before .before .before .before .before .loop) .lost; frames = set (framesOf ((c .before .before .before .before .before .before .before .before .before .before .before .before .before .before .before .before .before .before .before .before .before .loop) .procs) ((c .before .before .before .before .before .before .before .before .before .before .before .before .before .before .before .before .before .before .before .before .before .loop) .nodes) ((c .before .before .before .before .before .before .before .before .before .before .before .before .before .before .before .before .before .before .before .before .before .loop) .vars)) ((c .before .before .before .before .before .before .before .before .before .before .before .before .before .before .top-of) .result + 1) fr; sems = (c .before .before .before .before .before .before .before .before .before .before .before .before .before .before .before .before .before .before .before .before .before .loop) .sems; queues = queuesOf ((c .before .before .before .before .before .before .before .before .before .before .before .before .before .before .before .before .before .before .before .before .before .loop) .lens) ((c .before .before .before .before .before .before .before .before .before .before .before .before .before .before .before .before .before .before .before .before .before .loop) .items) }) (stateOf (set ((c .before .before .before .before .before .before .before .before .before .before .before .before .before .before .before .before .before .before .before .before .before .loop) .depth) (getD ((c .before .before .before .before .before .before .before .before .before .before .before .before .before .before .before .before .before .before .before .before .before .loop) .rest .now) 0 0) ((getD ((c .before .before .before .before .before .before .before .before .before .before .before .before .before .before .before .before .before .before .before .before .before .loop) .depth) (getD ((c .before .before .before .before .before .before .before .before .before .before .before .before .before .before .before .before .before .before .before .before .before .loop) .rest .now) 0 0) 0) + 1)) ((c .before .before .before .before .before .before .before .before .before .before .before .before .before .before .before .before .before .before .before .before .before .loop) .lost) (set ((c .before .before .before .before .before .before .before .before .before .before .before .before .before .before .before .before .before .before .before .before .before .loop) .procs) ((c .before .before .before .before .before .before .before .before .before .before .before .before .before .before .top-of) .result + 1) ((c .before .before .before .before .before .before .before .before .before .before .x) .given .0 .0)) (set ((c .before .before .before .before .before .before .before .before .before .before .before .before .before .before .before .before .before .before .before .before .before .loop) .nodes) ((c .before .before .before .before .before .before .before .before .before .before .before .before .before .before .top-of) .result + 1) 0) (set ((c .before .before .before .before .before .before .before .before .before .before .before .before .before .before .before .before .before .before .before .before .before .loop) .vars) ((c .before .before .before .before .before .before .before .before .before .before .before .before .before .before .top-of) .result + 1) ((c .before .before .before .before .before .before .enter) .result)) ((c .before .before .before .before .before .before .before .before .before .before .before .before .before .before .before .before .before .before .before .before .before .loop) .sems) ((c .before .before .before .before .before .before .before .before .before .before .before .before .before .before .before .before .before .before .before .before .before .loop) .lens) ((c .before .before .before .before .before .before .before .before .before .before .before .before .before .before .before .before .before .before .before .before .before .loop) .items)) = (λ i. record { depth = set ((c .before .before .before .before .before .before .before .before .before .before .before .before .before .before .before .before .before .before .before .before .before .loop) .depth) (getD ((c .before .before .before .before .before .before .before .before .before .before .before .before .before .before .before .before .before .before .before .before .before .loop) .rest .now) 0 0) ((getD ((c .before .before .before .before .before .before .before .before .before .before .before .before .before .before .before .before .before .before .before .before .before .loop) .depth) (getD ((c .before .before .before .before .before .before .before .before .before .before .before .before .before .before .before .before .before .before .before .before .before .loop) .rest .now) 0 0) 0) + 1); lost = (c .before .before .before .before .before .before .before .before .before .before .before .before .before .before .before .before .before .before .before .before .before .loop) .lost; frames = fe i; sems = (c .before .before .before .before .before .before .before .before .before .before .before .before .before .before .before .before .before .before .before .before .before .loop) .sems; queues = queuesOf ((c .before .before .before .before .before .before .before .before .before .before .before .before .before .before .before .before .before .before .before .before .before .loop) .lens) ((c .before .before .before .before .before .before .before .before .before .before .before .before .before .before .before .before .before .before .before .before .before .loop) .items) }) in
+    let fr0 = call-free ((c .before .before .before .before .before .before .before .before .before .before .before .before .before .before .before .before .before .before .before .before .before .before .before .before .before .before .before .before .before .before .before .before .before .before .before .args) .t) ((c .before .before .before .before .before .before .before .before .before .before .before .before .before .before .before .before .before .before .before .before .before .before .before .before .before .before .before .before .before .before .before .before .before .before .before .args) .t2) ((c .before .before .before .before .before .before .before .before .before .before .before .before .before .before .before .before .before .before .before .before .before .before .before .before .before .before .before .before .before .before .before .before .before .before .before .pre) .0) ((c .before .before .before .before .before .before .before .before .before .before .before .before .before .before .before .before .before .before .before .before .before .before .before .before .before .before .before .before .before .before .before .before .before .before .before .args) .most) ((c .before .before .before .before .before .before .before .before .before .before .before .before .before .before .before .before .before .before .before .before .before .before .before .before .before .before .before .before .before .before .before .before .before .before .before .args) .values .now) ((c .before .before .before .before .before .before .before .before .before .before .before .before .before .before .before .before .before .before .before .before .before .loop) .rest .now) ((c .before .before .before .before .before .before .before .before .before .before .before .before .before .before .before .before .before .before .before .before .before .loop) .n) (stateOf ((c .before .before .before .before .before .before .before .before .before .before .before .before .before .before .before .before .before .before .before .before .before .loop) .depth) ((c .before .before .before .before .before .before .before .before .before .before .before .before .before .before .before .before .before .before .before .before .before .loop) .lost) ((c .before .before .before .before .before .before .before .before .before .before .before .before .before .before .before .before .before .before .before .before .before .loop) .procs) ((c .before .before .before .before .before .before .before .before .before .before .before .before .before .before .before .before .before .before .before .before .before .loop) .nodes) ((c .before .before .before .before .before .before .before .before .before .before .before .before .before .before .before .before .before .before .before .before .before .loop) .vars) ((c .before .before .before .before .before .before .before .before .before .before .before .before .before .before .before .before .before .before .before .before .before .loop) .sems) ((c .before .before .before .before .before .before .before .before .before .before .before .before .before .before .before .before .before .before .before .before .before .loop) .lens) ((c .before .before .before .before .before .before .before .before .before .before .before .before .before .before .before .before .before .before .before .before .before .loop) .items)) ((c .before .before .before .before .before .before .before .before .before .before .before .before .before .before .before .before .before .before .before .before .before .loop) .used) ((c .before .before .before .before .before .before .before .before .before .before .before .before .before .before .before .before .before .before .before .before .before .loop) .log) ((c .before .before .before .before .before .before .before .before .before .before .before .before .before .before .top-of) .result) (getD ((c .before .before .before .before .before .before .before .before .before .before .before .before .before .before .before .before .before .before .before .before .before .before .before .before .before .before .before .before .before .before .before .before .row) .result) ((c .before .before .before .before .before .before .before .before .before .before .before .before .before .place) .result) noSlot .node) ((c .before .before .before .before .before .before .before .before .before .before .before .before .before .before .before .before .before .before .before .before .before .loop) .lens) ((c .before .before .before .before .before .before .before .before .before .before .before .before .before .before .before .before .before .before .before .before .before .loop) .items) ((c .before .before .before .before .before .before .before .before .before .before .before .before .before .before .before .before .before .before .before .before .before .before .before .before .before .before .before .before .before .before .before .caps) .result) (standing (c .before .before .before .before .before .before .before .before .before .before .before .before)) ((c .before .before .before .before .before .before .before .before .before .before .x) .given .0 .0) ((c .before .before .before .before .before .before .before .before .before .before .x) .given .0 .1 .0) ((c .before .before .before .before .before .before .before .before .before .before .x) .given .0 .1 .1 .0) ((c .before .before .before .before .before .before .before .before .before .before .x) .given .1) ((c .before .before .before .before .before .before .before .before .if5) .left) in (
+      (c .before .before .before .before .before .before .before .before .before .before .before .before .before .before .before .before .before .before .before .before .before .loop) .inv .0 ∙ turn-calls ((c .before .before .before .before .before .before .before .before .before .before .before .before .before .before .before .before .before .before .before .before .before .before .before .before .before .before .before .before .before .before .before .before .before .before .before .args) .t) ((c .before .before .before .before .before .before .before .before .before .before .before .before .before .before .before .before .before .before .before .before .before .before .before .before .before .before .before .before .before .before .before .before .before .before .before .args) .t2) ((c .before .before .before .before .before .before .before .before .before .before .before .before .before .before .before .before .before .before .before .before .before .before .before .before .before .before .before .before .before .before .before .before .before .before .before .pre) .0) ((c .before .before .before .before .before .before .before .before .before .before .before .before .before .before .before .before .before .before .before .before .before .before .before .before .before .before .before .before .before .before .before .before .before .before .before .args) .most) ((c .before .before .before .before .before .before .before .before .before .before .before .before .before .before .before .before .before .before .before .before .before .before .before .before .before .before .before .before .before .before .before .before .before .before .before .args) .values .now) ((c .before .before .before .before .before .before .before .before .before .before .before .before .before .before .before .before .before .before .before .before .before .loop) .rest .now) ((c .before .before .before .before .before .before .before .before .before .before .before .before .before .before .before .before .before .before .before .before .before .loop) .n) (stateOf ((c .before .before .before .before .before .before .before .before .before .before .before .before .before .before .before .before .before .before .before .before .before .loop) .depth) ((c .before .before .before .before .before .before .before .before .before .before .before .before .before .before .before .before .before .before .before .before .before .loop) .lost) ((c .before .before .before .before .before .before .before .before .before .before .before .before .before .before .before .before .before .before .before .before .before .loop) .procs) ((c .before .before .before .before .before .before .before .before .before .before .before .before .before .before .before .before .before .before .before .before .before .loop) .nodes) ((c .before .before .before .before .before .before .before .before .before .before .before .before .before .before .before .before .before .before .before .before .before .loop) .vars) ((c .before .before .before .before .before .before .before .before .before .before .before .before .before .before .before .before .before .before .before .before .before .loop) .sems) ((c .before .before .before .before .before .before .before .before .before .before .before .before .before .before .before .before .before .before .before .before .before .loop) .lens) ((c .before .before .before .before .before .before .before .before .before .before .before .before .before .before .before .before .before .before .before .before .before .loop) .items)) ((c .before .before .before .before .before .before .before .before .before .before .before .before .before .before .before .before .before .before .before .before .before .loop) .used) ((c .before .before .before .before .before .before .before .before .before .before .before .before .before .before .before .before .before .before .before .before .before .loop) .log) ((c .before .before .before .before .before .before .before .before .before .before .before .before .before .before .top-of) .result) (getD ((c .before .before .before .before .before .before .before .before .before .before .before .before .before .before .before .before .before .before .before .before .before .before .before .before .before .before .before .before .before .before .before .before .row) .result) ((c .before .before .before .before .before .before .before .before .before .before .before .before .before .place) .result) noSlot .node) ((c .before .before .before .before .before .before .before .before .before .before .before .before .before .before .before .before .before .before .before .before .before .loop) .lens) ((c .before .before .before .before .before .before .before .before .before .before .before .before .before .before .before .before .before .before .before .before .before .loop) .items) ((c .before .before .before .before .before .before .before .before .before .before .before .before .before .before .before .before .before .before .before .before .before .before .before .before .before .before .before .before .before .before .before .caps) .result) (standing (c .before .before .before .before .before .before .before .before .before .before .before .before)) fr0 ((c .before .before .before .before .put) .last .0) (0 ∷ word 0) (call-shows ((c .before .before .before .before .before .before .before .before .before .before .before .before .before .before .before .before .before .before .before .before .before .before .before .before .before .before .before .before .before .before .before .before .before .before .before .args) .t) ((c .before .before .before .before .before .before .before .before .before .before .before .before .before .before .before .before .before .before .before .before .before .before .before .before .before .before .before .before .before .before .before .before .before .before .before .args) .t2) ((c .before .before .before .before .before .before .before .before .before .before .before .before .before .before .before .before .before .before .before .before .before .before .before .before .before .before .before .before .before .before .before .before .before .before .before .pre) .0) ((c .before .before .before .before .before .before .before .before .before .before .before .before .before .before .before .before .before .before .before .before .before .before .before .before .before .before .before .before .before .before .before .before .before .before .before .args) .most) ((c .before .before .before .before .before .before .before .before .before .before .before .before .before .before .before .before .before .before .before .before .before .before .before .before .before .before .before .before .before .before .before .before .before .before .before .args) .values .now) ((c .before .before .before .before .before .before .before .before .before .before .before .before .before .before .before .before .before .before .before .before .before .loop) .rest .now) ((c .before .before .before .before .before .before .before .before .before .before .before .before .before .before .before .before .before .before .before .before .before .loop) .n) (stateOf ((c .before .before .before .before .before .before .before .before .before .before .before .before .before .before .before .before .before .before .before .before .before .loop) .depth) ((c .before .before .before .before .before .before .before .before .before .before .before .before .before .before .before .before .before .before .before .before .before .loop) .lost) ((c .before .before .before .before .before .before .before .before .before .before .before .before .before .before .before .before .before .before .before .before .before .loop) .procs) ((c .before .before .before .before .before .before .before .before .before .before .before .before .before .before .before .before .before .before .before .before .before .loop) .nodes) ((c .before .before .before .before .before .before .before .before .before .before .before .before .before .before .before .before .before .before .before .before .before .loop) .vars) ((c .before .before .before .before .before .before .before .before .before .before .before .before .before .before .before .before .before .before .before .before .before .loop) .sems) ((c .before .before .before .before .before .before .before .before .before .before .before .before .before .before .before .before .before .before .before .before .before .loop) .lens) ((c .before .before .before .before .before .before .before .before .before .before .before .before .before .before .before .before .before .before .before .before .before .loop) .items)) ((c .before .before .before .before .before .before .before .before .before .before .before .before .before .before .before .before .before .before .before .before .before .loop) .used) ((c .before .before .before .before .before .before .before .before .before .before .before .before .before .before .before .before .before .before .before .before .before .loop) .log) ((c .before .before .before .before .before .before .before .before .before .before .before .before .before .before .top-of) .result) (getD ((c .before .before .before .before .before .before .before .before .before .before .before .before .before .before .before .before .before .before .before .before .before .before .before .before .before .before .before .before .before .before .before .before .row) .result) ((c .before .before .before .before .before .before .before .before .before .before .before .before .before .place) .result) noSlot .node) ((c .before .before .before .before .before .before .before .before .before .before .before .before .before .before .before .before .before .before .before .before .before .loop) .lens) ((c .before .before .before .before .before .before .before .before .before .before .before .before .before .before .before .before .before .before .before .before .before .loop) .items) ((c .before .before .before .before .before .before .before .before .before .before .before .before .before .before .before .before .before .before .before .before .before .before .before .before .before .before .before .before .before .before .before .caps) .result) (standing (c .before .before .before .before .before .before .before .before .before .before .before .before)) ((c .before .before .before .before .before .before .before .before .before .before .x) .given .0 .0) ((c .before .before .before .before .before .before .before .before .before .before .x) .given .0 .1 .0) ((c .before .before .before .before .before .before .before .before .before .before .x) .given .0 .1 .1 .0) ((c .before .before .before .before .before .before .before .before .before .before .x) .given .1)) ps ((c .before .before .before .before .before .before .before .before .before .before .x) .given .0 .0) ((c .before .before .before .before .before .before .before .before .before .before .x) .given .0 .1 .0) ((c .before .before .before .before .before .before .before .before .before .before .x) .given .0 .1 .1 .0) ((c .before .before .before .before .before .before .before .before .before .before .x) .given .1) fr en ∙ ap (λ (u : State). runFrom ((c .before .before .before .before .before .before .before .before .before .before .before .before .before .before .before .before .before .before .before .before .before .before .before .before .before .before .before .before .before .before .before .before .before .before .before .args) .t) (keptIn ((c .before .before .before .before .before .before .before .before .before .before .before .before .before .before .before .before .before .before .before .before .before .before .before .before .before .before .before .before .before .before .before .before .before .before .before .args) .t)) ((c .before .before .before .before .before .before .before .before .before .before .before .before .before .before .before .before .before .before .before .before .before .before .before .before .before .before .before .before .before .before .before .before .before .before .before .args) .most) ((c .before .before .before .before .before .before .before .before .before .before .before .before .before .before .before .before .before .before .before .before .before .before .before .before .before .before .before .before .before .before .before .before .before .before .before .args) .values .now) (take (length ((c .before .before .before .before .before .before .before .before .before .before .before .before .before .before .before .before .before .before .before .before .before .loop) .rest .now) - 1) (drop 1 ((c .before .before .before .before .before .before .before .before .before .before .before .before .before .before .before .before .before .before .before .before .before .loop) .rest .now))) ((c .before .before .before .before .before .before .before .before .before .before .before .before .before .before .before .before .before .before .before .before .before .loop) .n + 1) u (drop ((c .before .before .before .before .before .before .before .before .before .before .before .before .before .before .before .before .before .before .before .before .before .loop) .used) ((c .before .before .before .before .before .before .before .before .before .before .before .before .before .before .before .before .before .before .before .before .before .before .before .before .before .before .before .before .before .before .before .before .before .before .before .args) .values .now)) ((c .before .before .before .before .put) .last .0)) e,
       (
-        opened-good ((c .before .before .before .before .before .before .before .before .before .before .before .before .before .before .before .before .before .before .before .before .before .before .before .before .before .before .before .before .before .args) .t1) ((c .before .before .before .before .before .before .before .before .before .before .before .before .before .before .before .before .before .before .before .before .before .before .before .before .before .before .before .before .before .args) .t2) ((c .before .before .before .before .before .before .before .before .before .before .before .before .before .before .before .before .before .before .before .before .before .before .before .before .before .before .before .before .before .pre) .0) ((c .before .before .before .before .before .before .before .before .before .before .before .before .before .before .before .before .before .before .before .before .before .before .before .before .before .before .before .before .before .args) .most) ((c .before .before .before .before .before .before .before .before .before .before .before .before .before .before .before .before .before .before .before .before .before .before .before .before .before .before .before .before .before .args) .values .now) ((c .before .before .before .before .before .before .before .before .before .before .before .before .before .before .before .before .before .before .before .before .before .before .before .before .before .loop) .rest .now) ((c .before .before .before .before .before .before .before .before .before .before .before .before .before .before .before .before .before .before .before .before .before .before .before .before .before .loop) .n) ((c .before .before .before .before .before .before .before .before .before .before .before .before .before .before .before .before .before .before .before .before .before .before .before .before .before .loop) .u) ((c .before .before .before .before .before .before .before .before .before .before .before .before .before .before .before .before .before .before .before .before .before .before .before .before .before .loop) .used) ((c .before .before .before .before .before .before .before .before .before .before .before .before .before .before .before .before .before .before .before .before .before .before .before .before .before .loop) .log) ((c .before .before .before .before .before .before .before .before .before .before .before .before .before .before .before .before .before .top-of) .result) (getD ((c .before .before .before .before .before .before .before .before .before .before .before .before .before .before .before .before .before .before .before .before .before .before .before .before .before .before .row) .result) ((c .before .before .before .before .before .before .before .before .before .before .before .before .before .before .before .place) .result) noSlot .node) (sidesOf (getD ((c .before .before .before .before .before .before .before .before .before .before .before .before .before .before .before .before .before .before .before .before .before .before .before .before .before .before .row) .result) ((c .before .before .before .before .before .before .before .before .before .before .before .before .before .before .before .place) .result) noSlot .node)) (standing0 (c .before .before .before .before .before .before .before .before .before .before .before .before .before .before)) (call-free ((c .before .before .before .before .before .before .before .before .before .before .before .before .before .before .before .before .before .before .before .before .before .before .before .before .before .before .before .before .before .args) .t1) ((c .before .before .before .before .before .before .before .before .before .before .before .before .before .before .before .before .before .before .before .before .before .before .before .before .before .before .before .before .before .args) .t2) ((c .before .before .before .before .before .before .before .before .before .before .before .before .before .before .before .before .before .before .before .before .before .before .before .before .before .before .before .before .before .pre) .0) ((c .before .before .before .before .before .before .before .before .before .before .before .before .before .before .before .before .before .before .before .before .before .before .before .before .before .before .before .before .before .args) .most) ((c .before .before .before .before .before .before .before .before .before .before .before .before .before .before .before .before .before .before .before .before .before .before .before .before .before .before .before .before .before .args) .values .now) ((c .before .before .before .before .before .before .before .before .before .before .before .before .before .before .before .before .before .before .before .before .before .before .before .before .before .loop) .rest .now) ((c .before .before .before .before .before .before .before .before .before .before .before .before .before .before .before .before .before .before .before .before .before .before .before .before .before .loop) .n) ((c .before .before .before .before .before .before .before .before .before .before .before .before .before .before .before .before .before .before .before .before .before .before .before .before .before .loop) .u) ((c .before .before .before .before .before .before .before .before .before .before .before .before .before .before .before .before .before .before .before .before .before .before .before .before .before .loop) .used) ((c .before .before .before .before .before .before .before .before .before .before .before .before .before .before .before .before .before .before .before .before .before .before .before .before .before .loop) .log) ((c .before .before .before .before .before .before .before .before .before .before .before .before .before .before .before .before .before .top-of) .result) (getD ((c .before .before .before .before .before .before .before .before .before .before .before .before .before .before .before .before .before .before .before .before .before .before .before .before .before .before .row) .result) ((c .before .before .before .before .before .before .before .before .before .before .before .before .before .before .before .place) .result) noSlot .node) (sidesOf (getD ((c .before .before .before .before .before .before .before .before .before .before .before .before .before .before .before .before .before .before .before .before .before .before .before .before .before .before .row) .result) ((c .before .before .before .before .before .before .before .before .before .before .before .before .before .before .before .place) .result) noSlot .node)) (standing0 (c .before .before .before .before .before .before .before .before .before .before .before .before .before .before)) ((c .before .before .before .before .before .before .before .before .before .before .before .before .x) .given .0 .0) ((c .before .before .before .before .before .before .before .before .before .before .before .before .x) .given .0 .1 .0) ((c .before .before .before .before .before .before .before .before .before .before .before .before .x) .given .0 .1 .1 .0) ((c .before .before .before .before .before .before .before .before .before .before .before .before .x) .given .1) ((c .before .before .before .before .before .before .before .before .before .before .if5) .left)) ((c .before .before .before .before .put) .last .0) (showing 0 0) (call-shows ((c .before .before .before .before .before .before .before .before .before .before .before .before .before .before .before .before .before .before .before .before .before .before .before .before .before .before .before .before .before .args) .t1) ((c .before .before .before .before .before .before .before .before .before .before .before .before .before .before .before .before .before .before .before .before .before .before .before .before .before .before .before .before .before .args) .t2) ((c .before .before .before .before .before .before .before .before .before .before .before .before .before .before .before .before .before .before .before .before .before .before .before .before .before .before .before .before .before .pre) .0) ((c .before .before .before .before .before .before .before .before .before .before .before .before .before .before .before .before .before .before .before .before .before .before .before .before .before .before .before .before .before .args) .most) ((c .before .before .before .before .before .before .before .before .before .before .before .before .before .before .before .before .before .before .before .before .before .before .before .before .before .before .before .before .before .args) .values .now) ((c .before .before .before .before .before .before .before .before .before .before .before .before .before .before .before .before .before .before .before .before .before .before .before .before .before .loop) .rest .now) ((c .before .before .before .before .before .before .before .before .before .before .before .before .before .before .before .before .before .before .before .before .before .before .before .before .before .loop) .n) ((c .before .before .before .before .before .before .before .before .before .before .before .before .before .before .before .before .before .before .before .before .before .before .before .before .before .loop) .u) ((c .before .before .before .before .before .before .before .before .before .before .before .before .before .before .before .before .before .before .before .before .before .before .before .before .before .loop) .used) ((c .before .before .before .before .before .before .before .before .before .before .before .before .before .before .before .before .before .before .before .before .before .before .before .before .before .loop) .log) ((c .before .before .before .before .before .before .before .before .before .before .before .before .before .before .before .before .before .top-of) .result) (getD ((c .before .before .before .before .before .before .before .before .before .before .before .before .before .before .before .before .before .before .before .before .before .before .before .before .before .before .row) .result) ((c .before .before .before .before .before .before .before .before .before .before .before .before .before .before .before .place) .result) noSlot .node) (sidesOf (getD ((c .before .before .before .before .before .before .before .before .before .before .before .before .before .before .before .before .before .before .before .before .before .before .before .before .before .before .row) .result) ((c .before .before .before .before .before .before .before .before .before .before .before .before .before .before .before .place) .result) noSlot .node)) (standing0 (c .before .before .before .before .before .before .before .before .before .before .before .before .before .before)) ((c .before .before .before .before .before .before .before .before .before .before .before .before .x) .given .0 .0) ((c .before .before .before .before .before .before .before .before .before .before .before .before .x) .given .0 .1 .0) ((c .before .before .before .before .before .before .before .before .before .before .before .before .x) .given .0 .1 .1 .0) ((c .before .before .before .before .before .before .before .before .before .before .before .before .x) .given .1)) ps ((c .before .before .before .before .before .before .before .before .before .before .before .before .x) .given .0 .0) ((c .before .before .before .before .before .before .before .before .before .before .before .before .x) .given .0 .1 .0) ((c .before .before .before .before .before .before .before .before .before .before .before .before .x) .given .0 .1 .1 .0) ((c .before .before .before .before .before .before .before .before .before .before .before .before .x) .given .1) ((c .before .before .before .before .before .before .enter) .result) ((c .before .before .before .before .before .before .enter) .ensures),
-        ((c .before .before .before .before .before .before .before .before .before .before .before .before .before .before .before .before .before .before .before .before .before .before .before .before .before .loop) .inv .1 .1 .0, (omega (arith, ln, (c .before .before .before .before .before .before .before .before .before .before .before .before .before .before .before .before .before .before .before .before .before .if3) .left, (c .before .before .before .before .before .before .before .before .before .before .before .before .before .before .before .before .before .before .before .before .before .before .before .before .before .loop) .inv .1), (ln ∙ (c .before .before .before .before .before .before .before .before .before .before .before .before .before .before .before .before .before .before .before .before .before .before .before .before .before .loop) .inv .1 .1 .1 .1 .0, omega (arith, ln, (c .before .before .before .before .before .before .before .before .before .before .before .before .before .before .before .before .before .before .before .before .before .before .before .before .before .loop) .inv .1)))),
+        subst (λ (u : State). Good ((c .before .before .before .before .before .before .before .before .before .before .before .before .before .before .before .before .before .before .before .before .before .before .before .before .before .before .before .before .before .before .before .before .before .before .before .args) .t) u) e (opened-good ((c .before .before .before .before .before .before .before .before .before .before .before .before .before .before .before .before .before .before .before .before .before .before .before .before .before .before .before .before .before .before .before .before .before .before .before .args) .t) ((c .before .before .before .before .before .before .before .before .before .before .before .before .before .before .before .before .before .before .before .before .before .before .before .before .before .before .before .before .before .before .before .before .before .before .before .args) .t2) ((c .before .before .before .before .before .before .before .before .before .before .before .before .before .before .before .before .before .before .before .before .before .before .before .before .before .before .before .before .before .before .before .before .before .before .before .pre) .0) ((c .before .before .before .before .before .before .before .before .before .before .before .before .before .before .before .before .before .before .before .before .before .before .before .before .before .before .before .before .before .before .before .before .before .before .before .args) .most) ((c .before .before .before .before .before .before .before .before .before .before .before .before .before .before .before .before .before .before .before .before .before .before .before .before .before .before .before .before .before .before .before .before .before .before .before .args) .values .now) ((c .before .before .before .before .before .before .before .before .before .before .before .before .before .before .before .before .before .before .before .before .before .loop) .rest .now) ((c .before .before .before .before .before .before .before .before .before .before .before .before .before .before .before .before .before .before .before .before .before .loop) .n) (stateOf ((c .before .before .before .before .before .before .before .before .before .before .before .before .before .before .before .before .before .before .before .before .before .loop) .depth) ((c .before .before .before .before .before .before .before .before .before .before .before .before .before .before .before .before .before .before .before .before .before .loop) .lost) ((c .before .before .before .before .before .before .before .before .before .before .before .before .before .before .before .before .before .before .before .before .before .loop) .procs) ((c .before .before .before .before .before .before .before .before .before .before .before .before .before .before .before .before .before .before .before .before .before .loop) .nodes) ((c .before .before .before .before .before .before .before .before .before .before .before .before .before .before .before .before .before .before .before .before .before .loop) .vars) ((c .before .before .before .before .before .before .before .before .before .before .before .before .before .before .before .before .before .before .before .before .before .loop) .sems) ((c .before .before .before .before .before .before .before .before .before .before .before .before .before .before .before .before .before .before .before .before .before .loop) .lens) ((c .before .before .before .before .before .before .before .before .before .before .before .before .before .before .before .before .before .before .before .before .before .loop) .items)) ((c .before .before .before .before .before .before .before .before .before .before .before .before .before .before .before .before .before .before .before .before .before .loop) .used) ((c .before .before .before .before .before .before .before .before .before .before .before .before .before .before .before .before .before .before .before .before .before .loop) .log) ((c .before .before .before .before .before .before .before .before .before .before .before .before .before .before .top-of) .result) (getD ((c .before .before .before .before .before .before .before .before .before .before .before .before .before .before .before .before .before .before .before .before .before .before .before .before .before .before .before .before .before .before .before .before .row) .result) ((c .before .before .before .before .before .before .before .before .before .before .before .before .before .place) .result) noSlot .node) ((c .before .before .before .before .before .before .before .before .before .before .before .before .before .before .before .before .before .before .before .before .before .loop) .lens) ((c .before .before .before .before .before .before .before .before .before .before .before .before .before .before .before .before .before .before .before .before .before .loop) .items) ((c .before .before .before .before .before .before .before .before .before .before .before .before .before .before .before .before .before .before .before .before .before .before .before .before .before .before .before .before .before .before .before .caps) .result) (standing (c .before .before .before .before .before .before .before .before .before .before .before .before)) fr0 ((c .before .before .before .before .put) .last .0) (0 ∷ word 0) (call-shows ((c .before .before .before .before .before .before .before .before .before .before .before .before .before .before .before .before .before .before .before .before .before .before .before .before .before .before .before .before .before .before .before .before .before .before .before .args) .t) ((c .before .before .before .before .before .before .before .before .before .before .before .before .before .before .before .before .before .before .before .before .before .before .before .before .before .before .before .before .before .before .before .before .before .before .before .args) .t2) ((c .before .before .before .before .before .before .before .before .before .before .before .before .before .before .before .before .before .before .before .before .before .before .before .before .before .before .before .before .before .before .before .before .before .before .before .pre) .0) ((c .before .before .before .before .before .before .before .before .before .before .before .before .before .before .before .before .before .before .before .before .before .before .before .before .before .before .before .before .before .before .before .before .before .before .before .args) .most) ((c .before .before .before .before .before .before .before .before .before .before .before .before .before .before .before .before .before .before .before .before .before .before .before .before .before .before .before .before .before .before .before .before .before .before .before .args) .values .now) ((c .before .before .before .before .before .before .before .before .before .before .before .before .before .before .before .before .before .before .before .before .before .loop) .rest .now) ((c .before .before .before .before .before .before .before .before .before .before .before .before .before .before .before .before .before .before .before .before .before .loop) .n) (stateOf ((c .before .before .before .before .before .before .before .before .before .before .before .before .before .before .before .before .before .before .before .before .before .loop) .depth) ((c .before .before .before .before .before .before .before .before .before .before .before .before .before .before .before .before .before .before .before .before .before .loop) .lost) ((c .before .before .before .before .before .before .before .before .before .before .before .before .before .before .before .before .before .before .before .before .before .loop) .procs) ((c .before .before .before .before .before .before .before .before .before .before .before .before .before .before .before .before .before .before .before .before .before .loop) .nodes) ((c .before .before .before .before .before .before .before .before .before .before .before .before .before .before .before .before .before .before .before .before .before .loop) .vars) ((c .before .before .before .before .before .before .before .before .before .before .before .before .before .before .before .before .before .before .before .before .before .loop) .sems) ((c .before .before .before .before .before .before .before .before .before .before .before .before .before .before .before .before .before .before .before .before .before .loop) .lens) ((c .before .before .before .before .before .before .before .before .before .before .before .before .before .before .before .before .before .before .before .before .before .loop) .items)) ((c .before .before .before .before .before .before .before .before .before .before .before .before .before .before .before .before .before .before .before .before .before .loop) .used) ((c .before .before .before .before .before .before .before .before .before .before .before .before .before .before .before .before .before .before .before .before .before .loop) .log) ((c .before .before .before .before .before .before .before .before .before .before .before .before .before .before .top-of) .result) (getD ((c .before .before .before .before .before .before .before .before .before .before .before .before .before .before .before .before .before .before .before .before .before .before .before .before .before .before .before .before .before .before .before .before .row) .result) ((c .before .before .before .before .before .before .before .before .before .before .before .before .before .place) .result) noSlot .node) ((c .before .before .before .before .before .before .before .before .before .before .before .before .before .before .before .before .before .before .before .before .before .loop) .lens) ((c .before .before .before .before .before .before .before .before .before .before .before .before .before .before .before .before .before .before .before .before .before .loop) .items) ((c .before .before .before .before .before .before .before .before .before .before .before .before .before .before .before .before .before .before .before .before .before .before .before .before .before .before .before .before .before .before .before .caps) .result) (standing (c .before .before .before .before .before .before .before .before .before .before .before .before)) ((c .before .before .before .before .before .before .before .before .before .before .x) .given .0 .0) ((c .before .before .before .before .before .before .before .before .before .before .x) .given .0 .1 .0) ((c .before .before .before .before .before .before .before .before .before .before .x) .given .0 .1 .1 .0) ((c .before .before .before .before .before .before .before .before .before .before .x) .given .1)) ps ((c .before .before .before .before .before .before .before .before .before .before .x) .given .0 .0) ((c .before .before .before .before .before .before .before .before .before .before .x) .given .0 .1 .0) ((c .before .before .before .before .before .before .before .before .before .before .x) .given .0 .1 .1 .0) ((c .before .before .before .before .before .before .before .before .before .before .x) .given .1) fr en),
+        (shape-set ((c .before .before .before .before .before .before .before .before .before .before .before .before .before .before .before .before .before .before .before .before .before .loop) .inv .1 .1 .0) ((c .before .before .before .before .before .before .before .before .before .before .before .before .before .before .top-of) .result + 1) ((c .before .before .before .before .before .before .before .before .before .before .x) .given .0 .0) 0 ((c .before .before .before .before .before .before .enter) .result), (((c .before .before .before .before .before .before .before .before .before .before .before .before .before .before .before .before .before .before .before .before .before .loop) .inv .1 .1 .1) .0, next-room ((c .before .before .before .before .before .before .before .before .before .before .before .before .before .before .before .before .before .before .before .before .before .loop) .n) (length ((c .before .before .before .before .before .before .before .before .before .before .before .before .before .before .before .before .before .before .before .before .before .loop) .log)) _ (length ((c .before .before .before .before .before .before .before .before .before .before .before .before .before .before .before .before .before .before .before .before .before .before .before .before .before .before .before .before .before .before .before .before .before .before .before .args) .log .now)) ln ((c .before .before .before .before .before .before .before .before .before .before .before .before .before .before .before .before .if3) .left) (((c .before .before .before .before .before .before .before .before .before .before .before .before .before .before .before .before .before .before .before .before .before .loop) .inv .1 .1 .1) .1))),
       ),
     ))
 
-beside-requires : tie.Need-beside-requires Inv-loop2 μ-loop2 Inv-loop μ-loop
-beside-requires c κs = search needs
-
-element-copy-out-c : tie.Need-element-copy-out-c Inv-loop2 μ-loop2 Inv-loop μ-loop
-element-copy-out-c c = sem-lt c
+closes-requires : tie.Need-closes-requires Inv-loop2 μ-loop2 Inv-loop μ-loop
+closes-requires c κs = search needs
 
 under-requires : tie.Need-under-requires Inv-loop2 μ-loop2 Inv-loop μ-loop
-under-requires c κs = omega (arith, (c .before .before .before .before .before .before .before .top-of) .ensures)
+under-requires c κs = omega (arith, (c .before .before .before .before .before .top-of) .ensures)
 
-mul-bf : tie.Need-mul-bf Inv-loop2 μ-loop2 Inv-loop μ-loop
-mul-bf c = record { fits = omega (arith, under-below c) }
+array-read-place : tie.Need-array-read-place Inv-loop2 μ-loop2 Inv-loop μ-loop
+array-read-place c = under-below c
 
-element-copy-out-bf : tie.Need-element-copy-out-bf Inv-loop2 μ-loop2 Inv-loop μ-loop
-element-copy-out-bf c = under-below c
+array-read-place-2 : tie.Need-array-read-place-2 Inv-loop2 μ-loop2 Inv-loop μ-loop
+array-read-place-2 c = under-below c
 
 place-requires-2 : tie.Need-place-requires-2 Inv-loop2 μ-loop2 Inv-loop μ-loop
-place-requires-2 c κs = ((c .before .before .before .before .before .before .before .before .before .before .before .before .before .before .before .before .before .loop) .inv .1 .0 .procs ((c .before .under) .result), (c .before .before .before .before .before .before .before .before .before .before .before .before .before .before .before .before .before .loop) .inv .1 .0 .nodes ((c .before .under) .result))
+place-requires-2 c κs = (proc-lt (c .before .before .before .before .before .before .before .before .before .before .before .before .before) ((c .under) .result), node-lt (c .before .before .before .before .before .before .before .before .before .before .before .before .before) ((c .under) .result))
 
 mul-cl : tie.Need-mul-cl Inv-loop2 μ-loop2 Inv-loop μ-loop
-mul-cl c = record { fits = omega (arith, (c .place2) .ensures, (c .before .before .before .before .before .before .before .before .before .before .before .before .before .before .before .before .before .before .loop) .inv .1 .0 .procs ((c .before .before .under) .result), (c .before .before .before .before .before .before .before .before .before .before .before .before .before .before .before .before .before .before .loop) .inv .1 .0 .nodes ((c .before .before .under) .result)) }
+mul-cl c = record { fits = omega (arith, (c .place2) .ensures, proc-lt (c .before .before .before .before .before .before .before .before .before .before .before .before .before .before) ((c .before .under) .result), node-lt (c .before .before .before .before .before .before .before .before .before .before .before .before .before .before) ((c .before .under) .result)) }
 
 array-copy-out-cl : tie.Need-array-copy-out-cl Inv-loop2 μ-loop2 Inv-loop μ-loop
-array-copy-out-cl c = omega (arith, (c .place2) .ensures, (c .before .before .before .before .before .before .before .before .before .before .before .before .before .before .before .before .before .before .loop) .inv .1 .0 .procs ((c .before .before .under) .result), (c .before .before .before .before .before .before .before .before .before .before .before .before .before .before .before .before .before .before .loop) .inv .1 .0 .nodes ((c .before .before .under) .result))
+array-copy-out-cl c = omega (arith, (c .place2) .ensures, proc-lt (c .before .before .before .before .before .before .before .before .before .before .before .before .before .before) ((c .before .under) .result), node-lt (c .before .before .before .before .before .before .before .before .before .before .before .before .before .before) ((c .before .under) .result))
 
 arc-to-requires : tie.Need-arc-to-requires Inv-loop2 μ-loop2 Inv-loop μ-loop
 arc-to-requires c κs = search needs
 
-mul-q : tie.Need-mul-q Inv-loop2 μ-loop2 Inv-loop μ-loop
-mul-q c = record { fits = omega (arith, queue-lt (c .before .before .before .before .before .before .before)) }
+array-read-p : tie.Need-array-read-p Inv-loop2 μ-loop2 Inv-loop μ-loop
+array-read-p c = g-below c
 
-element-copy-out-q : tie.Need-element-copy-out-q Inv-loop2 μ-loop2 Inv-loop μ-loop
-element-copy-out-q c = queue-lt (c .before .before .before .before .before .before .before)
+mul-act : tie.Need-mul-act Inv-loop2 μ-loop2 Inv-loop μ-loop
+mul-act c = record { fits = omega (arith, g-below (c .before)) }
 
-mul-qc : tie.Need-mul-qc Inv-loop2 μ-loop2 Inv-loop μ-loop
-mul-qc c = record { fits = omega (arith, queue-lt (c .before .before .before .before .before .before .before .before .before)) }
-
-element-copy-out-qc : tie.Need-element-copy-out-qc Inv-loop2 μ-loop2 Inv-loop μ-loop
-element-copy-out-qc c = queue-lt (c .before .before .before .before .before .before .before .before .before)
-
-array-copy-out-first : tie.Need-array-copy-out-first Inv-loop2 μ-loop2 Inv-loop μ-loop
-array-copy-out-first c = search needs
-
-mul-fr : tie.Need-mul-fr Inv-loop2 μ-loop2 Inv-loop μ-loop
-mul-fr c = record { fits = omega (arith, g-below (c .before)) }
-
-element-copy-out-fr : tie.Need-element-copy-out-fr Inv-loop2 μ-loop2 Inv-loop μ-loop
-element-copy-out-fr c = g-below (c .before)
+index-1-act : tie.Need-index-1-act Inv-loop2 μ-loop2 Inv-loop μ-loop
+index-1-act c = g-below (c .before)
 
 act-requires : tie.Need-act-requires Inv-loop2 μ-loop2 Inv-loop μ-loop
-act-requires c κs = ((c .before .before .before .before .before .before .before .before .before .before .before .before .before .before .before .before .before .before .before .loop) .inv .1 .0 .vars ((c .before .before .before .before .if6) .g) (g-below (c .before .before .before .before)), (c .before .before .before .before .before .before .before .before .before .before .before .before .before .before .before .before .before .before .before .loop) .inv .1 .1 .0)
+act-requires c κs = (within (getD ((c .before .before .before .before .before .before .before .before .before .before .before .before .before .before .before .before .before .before .before .before .before .before .before .before .before .before .before .before .before .row) .result) ((c .before .before .before .before .before .before .before .before .before .before .place) .result) noSlot .node) (placed ((c .before .before .before .before .before .before .before .before .before .before .before .before .before .before .before .before .before .before .before .before .before .before .before .before .before .before .before .before .before .before .before .before .args) .t) ((c .before .before .before .before .before .before .before .before .before .before .before .before .before .before .before .before .before .before .before .before .before .before .before .before .before .before .before .before .before .before .before .before .args) .t2) ((c .before .before .before .before .before .before .before .before .before .before .before .before .before .before .before .before .before .before .before .before .before .before .before .before .before .before .before .before .before .before .before .before .pre) .0) ((c .before .before .before .before .before .before .before .before .before .before .before .before .before .before .before .before .before .before .before .before .before .before .before .before .before .before .before .before .before .before .before .before .args) .most) ((c .before .before .before .before .before .before .before .before .before .before .before .before .before .before .before .before .before .before .before .before .before .before .before .before .before .before .before .before .before .before .before .before .args) .values .now) ((c .before .before .before .before .before .before .before .before .before .before .before .before .before .before .before .before .before .before .loop) .rest .now) ((c .before .before .before .before .before .before .before .before .before .before .before .before .before .before .before .before .before .before .loop) .n) (stateOf ((c .before .before .before .before .before .before .before .before .before .before .before .before .before .before .before .before .before .before .loop) .depth) ((c .before .before .before .before .before .before .before .before .before .before .before .before .before .before .before .before .before .before .loop) .lost) ((c .before .before .before .before .before .before .before .before .before .before .before .before .before .before .before .before .before .before .loop) .procs) ((c .before .before .before .before .before .before .before .before .before .before .before .before .before .before .before .before .before .before .loop) .nodes) ((c .before .before .before .before .before .before .before .before .before .before .before .before .before .before .before .before .before .before .loop) .vars) ((c .before .before .before .before .before .before .before .before .before .before .before .before .before .before .before .before .before .before .loop) .sems) ((c .before .before .before .before .before .before .before .before .before .before .before .before .before .before .before .before .before .before .loop) .lens) ((c .before .before .before .before .before .before .before .before .before .before .before .before .before .before .before .before .before .before .loop) .items)) ((c .before .before .before .before .before .before .before .before .before .before .before .before .before .before .before .before .before .before .loop) .used) ((c .before .before .before .before .before .before .before .before .before .before .before .before .before .before .before .before .before .before .loop) .log) ((c .before .before .before .before .before .before .before .before .before .before .before .top-of) .result) (getD ((c .before .before .before .before .before .before .before .before .before .before .before .before .before .before .before .before .before .before .before .before .before .before .before .before .before .before .before .before .before .row) .result) ((c .before .before .before .before .before .before .before .before .before .before .place) .result) noSlot .node) ((c .before .before .before .before .before .before .before .before .before .before .before .before .before .before .before .before .before .before .loop) .lens) ((c .before .before .before .before .before .before .before .before .before .before .before .before .before .before .before .before .before .before .loop) .items) ((c .before .before .before .before .before .before .before .before .before .before .before .before .before .before .before .before .before .before .before .before .before .before .before .before .before .before .before .before .caps) .result) (standing (c .before .before .before .before .before .before .before .before .before))), (vars-long (c .before .before .before .before .before .before .before .before .before .before .before .before .before .before .before .before .before .before) ((c .before .before .before .before .before .before .if6) .g) (g-below (c .before .before .before .before .before .before)), ((c .before .before .before .before .before .before .before .before .before .before .before .before .before .before .before .before .before .before .loop) .inv .1 .1 .1) .0))
 
-set-var-requires : tie.Need-set-var-requires Inv-loop2 μ-loop2 Inv-loop μ-loop
-set-var-requires c κs = (c .before .before .before .before .before .before .before .before .before .before .before .before .before .before .before .before .before .before .before .before .before .before .before .before .loop) .inv .1 .0 .vars ((c .before .before .before .before .before .before .before .before .before .if6) .g) (g-below (c .before .before .before .before .before .before .before .before .before))
+running-requires-6 : tie.Need-running-requires-6 Inv-loop2 μ-loop2 Inv-loop μ-loop
+running-requires-6 c κs = ((c .before .before .before .before .before .before .before .before .before .before .before .before .before .before .before .before .before .before .before .before .before .loop) .inv .1 .1 .0)
+
+same-length-6 : tie.Need-same-length-6 Inv-loop2 μ-loop2 Inv-loop μ-loop
+same-length-6 c = ((c .before .before .before .before .before .before .before .before .before .before .before .before .before .before .before .before .before .before .before .before .before .before .loop) .inv .1 .1 .1) .1 .1 .0
+
+returns-6 : tie.Need-returns-6 Inv-loop2 μ-loop2 Inv-loop μ-loop
+returns-6 c = let a = answered ((c .before .before .before .before .before .before .before .before .before .before .before .before .before .before .before .before .before .before .before .before .before .before .before .before .before .before .before .before .before .before .before .before .before .before .before .before .args) .t) ((c .before .before .before .before .before .before .before .before .before .before .before .before .before .before .before .before .before .before .before .before .before .before .before .before .before .before .before .before .before .before .before .before .before .before .before .before .args) .most) ((c .before .before .before .before .before .before .before .before .before .before .before .before .before .before .before .before .before .before .before .before .before .before .before .before .before .before .before .before .before .before .before .before .before .before .before .before .args) .values .now) ((c .before .before .before .before .before .before .before .before .before .before .before .before .before .before .before .before .before .before .before .before .before .before .loop) .n) (stateOf ((c .before .before .before .before .before .before .before .before .before .before .before .before .before .before .before .before .before .before .before .before .before .before .loop) .depth) ((c .before .before .before .before .before .before .before .before .before .before .before .before .before .before .before .before .before .before .before .before .before .before .loop) .lost) ((c .before .before .before .before .before .before .before .before .before .before .before .before .before .before .before .before .before .before .before .before .before .before .loop) .procs) ((c .before .before .before .before .before .before .before .before .before .before .before .before .before .before .before .before .before .before .before .before .before .before .loop) .nodes) ((c .before .before .before .before .before .before .before .before .before .before .before .before .before .before .before .before .before .before .before .before .before .before .loop) .vars) ((c .before .before .before .before .before .before .before .before .before .before .before .before .before .before .before .before .before .before .before .before .before .before .loop) .sems) ((c .before .before .before .before .before .before .before .before .before .before .before .before .before .before .before .before .before .before .before .before .before .before .loop) .lens) ((c .before .before .before .before .before .before .before .before .before .before .before .before .before .before .before .before .before .before .before .before .before .before .loop) .items)) ((c .before .before .before .before .before .before .before .before .before .before .before .before .before .before .before .before .before .before .before .before .before .before .loop) .used) ((c .before .before .before .before .before .before .before .before .before .before .before .before .before .before .before .before .before .before .before .before .before .before .loop) .log) (runFrom ((c .before .before .before .before .before .before .before .before .before .before .before .before .before .before .before .before .before .before .before .before .before .before .before .before .before .before .before .before .before .before .before .before .before .before .before .before .args) .t) (keptIn ((c .before .before .before .before .before .before .before .before .before .before .before .before .before .before .before .before .before .before .before .before .before .before .before .before .before .before .before .before .before .before .before .before .before .before .before .before .args) .t)) ((c .before .before .before .before .before .before .before .before .before .before .before .before .before .before .before .before .before .before .before .before .before .before .before .before .before .before .before .before .before .before .before .before .before .before .before .before .args) .most) ((c .before .before .before .before .before .before .before .before .before .before .before .before .before .before .before .before .before .before .before .before .before .before .before .before .before .before .before .before .before .before .before .before .before .before .before .before .args) .values .now) ((c .before .before .before .before .before .before .before .before .before .before .before .before .before .before .before .before .before .before .before .before .before .before .before .before .before .before .before .before .before .before .before .before .before .before .before .before .args) .schedule .now) 0 ((c .before .before .before .before .before .before .before .before .before .before .before .before .before .before .before .before .before .before .before .before .before .before .before .before .before .before .before .before .before .before .before .before .before .before .before .before .args) .s) (drop ((c .before .before .before .before .before .before .before .before .before .before .before .before .before .before .before .before .before .before .before .before .before .before .before .before .before .before .before .before .before .before .before .before .before .before .before .before .args) .before) ((c .before .before .before .before .before .before .before .before .before .before .before .before .before .before .before .before .before .before .before .before .before .before .before .before .before .before .before .before .before .before .before .before .before .before .before .before .args) .values .now)) ((c .before .before .before .before .before .before .before .before .before .before .before .before .before .before .before .before .before .before .before .before .before .before .before .before .before .before .before .before .before .before .before .before .before .before .before .before .args) .log .now)) ((c .before .before .before .act) .result .stop) (((c .before .before .before .before .before .before .before .before .before .before .before .before .before .before .before .before .before .before .before .before .before .before .loop) .inv .1 .1 .1) .0) (ap (λ (u : State). runFrom ((c .before .before .before .before .before .before .before .before .before .before .before .before .before .before .before .before .before .before .before .before .before .before .before .before .before .before .before .before .before .before .before .before .before .before .before .before .args) .t) (keptIn ((c .before .before .before .before .before .before .before .before .before .before .before .before .before .before .before .before .before .before .before .before .before .before .before .before .before .before .before .before .before .before .before .before .before .before .before .before .args) .t)) ((c .before .before .before .before .before .before .before .before .before .before .before .before .before .before .before .before .before .before .before .before .before .before .before .before .before .before .before .before .before .before .before .before .before .before .before .before .args) .most) ((c .before .before .before .before .before .before .before .before .before .before .before .before .before .before .before .before .before .before .before .before .before .before .before .before .before .before .before .before .before .before .before .before .before .before .before .before .args) .values .now) ((c .before .before .before .before .before .before .before .before .before .before .before .before .before .before .before .before .before .before .before .before .before .before .before .before .before .before .before .before .before .before .before .before .before .before .before .before .args) .schedule .now) 0 u (drop ((c .before .before .before .before .before .before .before .before .before .before .before .before .before .before .before .before .before .before .before .before .before .before .before .before .before .before .before .before .before .before .before .before .before .before .before .before .args) .before) ((c .before .before .before .before .before .before .before .before .before .before .before .before .before .before .before .before .before .before .before .before .before .before .before .before .before .before .before .before .before .before .before .before .before .before .before .before .args) .values .now)) ((c .before .before .before .before .before .before .before .before .before .before .before .before .before .before .before .before .before .before .before .before .before .before .before .before .before .before .before .before .before .before .before .before .before .before .before .before .args) .log .now)) (sym (begins (c .before .before .before .before .before .before .before .before .before .before .before .before .before .before .before .before .before .before .before .before .before .before .before .before .before .before))) ∙ (c .before .before .before .before .before .before .before .before .before .before .before .before .before .before .before .before .before .before .before .before .before .before .loop) .inv .0 ∙ stop-tried ((c .before .before .before .before .before .before .before .before .before .before .before .before .before .before .before .before .before .before .before .before .before .before .before .before .before .before .before .before .before .before .before .before .before .before .before .before .args) .t) ((c .before .before .before .before .before .before .before .before .before .before .before .before .before .before .before .before .before .before .before .before .before .before .before .before .before .before .before .before .before .before .before .before .before .before .before .before .args) .t2) ((c .before .before .before .before .before .before .before .before .before .before .before .before .before .before .before .before .before .before .before .before .before .before .before .before .before .before .before .before .before .before .before .before .before .before .before .before .pre) .0) ((c .before .before .before .before .before .before .before .before .before .before .before .before .before .before .before .before .before .before .before .before .before .before .before .before .before .before .before .before .before .before .before .before .before .before .before .before .args) .most) ((c .before .before .before .before .before .before .before .before .before .before .before .before .before .before .before .before .before .before .before .before .before .before .before .before .before .before .before .before .before .before .before .before .before .before .before .before .args) .values .now) ((c .before .before .before .before .before .before .before .before .before .before .before .before .before .before .before .before .before .before .before .before .before .before .loop) .rest .now) ((c .before .before .before .before .before .before .before .before .before .before .before .before .before .before .before .before .before .before .before .before .before .before .loop) .n) (stateOf ((c .before .before .before .before .before .before .before .before .before .before .before .before .before .before .before .before .before .before .before .before .before .before .loop) .depth) ((c .before .before .before .before .before .before .before .before .before .before .before .before .before .before .before .before .before .before .before .before .before .before .loop) .lost) ((c .before .before .before .before .before .before .before .before .before .before .before .before .before .before .before .before .before .before .before .before .before .before .loop) .procs) ((c .before .before .before .before .before .before .before .before .before .before .before .before .before .before .before .before .before .before .before .before .before .before .loop) .nodes) ((c .before .before .before .before .before .before .before .before .before .before .before .before .before .before .before .before .before .before .before .before .before .before .loop) .vars) ((c .before .before .before .before .before .before .before .before .before .before .before .before .before .before .before .before .before .before .before .before .before .before .loop) .sems) ((c .before .before .before .before .before .before .before .before .before .before .before .before .before .before .before .before .before .before .before .before .before .before .loop) .lens) ((c .before .before .before .before .before .before .before .before .before .before .before .before .before .before .before .before .before .before .before .before .before .before .loop) .items)) ((c .before .before .before .before .before .before .before .before .before .before .before .before .before .before .before .before .before .before .before .before .before .before .loop) .used) ((c .before .before .before .before .before .before .before .before .before .before .before .before .before .before .before .before .before .before .before .before .before .before .loop) .log) ((c .before .before .before .before .before .before .before .before .before .before .before .before .before .before .before .top-of) .result) (getD ((c .before .before .before .before .before .before .before .before .before .before .before .before .before .before .before .before .before .before .before .before .before .before .before .before .before .before .before .before .before .before .before .before .before .row) .result) ((c .before .before .before .before .before .before .before .before .before .before .before .before .before .before .place) .result) noSlot .node) ((c .before .before .before .before .before .before .before .before .before .before .before .before .before .before .before .before .before .before .before .before .before .before .loop) .lens) ((c .before .before .before .before .before .before .before .before .before .before .before .before .before .before .before .before .before .before .before .before .before .before .loop) .items) ((c .before .before .before .before .before .before .before .before .before .before .before .before .before .before .before .before .before .before .before .before .before .before .before .before .before .before .before .before .before .before .before .before .caps) .result) (standing (c .before .before .before .before .before .before .before .before .before .before .before .before .before)) ((c .before .before .before .before .before .before .before .before .before .before .if6) .g) ((c .before .before .before .before .before .before .before .before .before .before .if6) .to) ((c .before .before .before .act) .result) (backs (c .before .before .before .before .before .before .before .before .before .before)) (tries (c .before .before .before)) (λ fr. stop-acting ((c .before .before .before .before .before .before .before .before .before .before .before .before .before .before .before .before .before .before .before .before .before .before .before .before .before .before .before .before .before .before .before .before .before .before .before .before .args) .t) ((c .before .before .before .before .before .before .before .before .before .before .before .before .before .before .before .before .before .before .before .before .before .before .before .before .before .before .before .before .before .before .before .before .before .before .before .before .args) .t2) ((c .before .before .before .before .before .before .before .before .before .before .before .before .before .before .before .before .before .before .before .before .before .before .before .before .before .before .before .before .before .before .before .before .before .before .before .before .pre) .0) ((c .before .before .before .before .before .before .before .before .before .before .before .before .before .before .before .before .before .before .before .before .before .before .before .before .before .before .before .before .before .before .before .before .before .before .before .before .args) .most) ((c .before .before .before .before .before .before .before .before .before .before .before .before .before .before .before .before .before .before .before .before .before .before .before .before .before .before .before .before .before .before .before .before .before .before .before .before .args) .values .now) ((c .before .before .before .before .before .before .before .before .before .before .before .before .before .before .before .before .before .before .before .before .before .before .loop) .rest .now) ((c .before .before .before .before .before .before .before .before .before .before .before .before .before .before .before .before .before .before .before .before .before .before .loop) .n) (stateOf ((c .before .before .before .before .before .before .before .before .before .before .before .before .before .before .before .before .before .before .before .before .before .before .loop) .depth) ((c .before .before .before .before .before .before .before .before .before .before .before .before .before .before .before .before .before .before .before .before .before .before .loop) .lost) ((c .before .before .before .before .before .before .before .before .before .before .before .before .before .before .before .before .before .before .before .before .before .before .loop) .procs) ((c .before .before .before .before .before .before .before .before .before .before .before .before .before .before .before .before .before .before .before .before .before .before .loop) .nodes) ((c .before .before .before .before .before .before .before .before .before .before .before .before .before .before .before .before .before .before .before .before .before .before .loop) .vars) ((c .before .before .before .before .before .before .before .before .before .before .before .before .before .before .before .before .before .before .before .before .before .before .loop) .sems) ((c .before .before .before .before .before .before .before .before .before .before .before .before .before .before .before .before .before .before .before .before .before .before .loop) .lens) ((c .before .before .before .before .before .before .before .before .before .before .before .before .before .before .before .before .before .before .before .before .before .before .loop) .items)) ((c .before .before .before .before .before .before .before .before .before .before .before .before .before .before .before .before .before .before .before .before .before .before .loop) .used) ((c .before .before .before .before .before .before .before .before .before .before .before .before .before .before .before .before .before .before .before .before .before .before .loop) .log) ((c .before .before .before .before .before .before .before .before .before .before .before .before .before .before .before .top-of) .result) (getD ((c .before .before .before .before .before .before .before .before .before .before .before .before .before .before .before .before .before .before .before .before .before .before .before .before .before .before .before .before .before .before .before .before .before .row) .result) ((c .before .before .before .before .before .before .before .before .before .before .before .before .before .before .place) .result) noSlot .node) ((c .before .before .before .before .before .before .before .before .before .before .before .before .before .before .before .before .before .before .before .before .before .before .loop) .lens) ((c .before .before .before .before .before .before .before .before .before .before .before .before .before .before .before .before .before .before .before .before .before .before .loop) .items) ((c .before .before .before .before .before .before .before .before .before .before .before .before .before .before .before .before .before .before .before .before .before .before .before .before .before .before .before .before .before .before .before .before .caps) .result) (standing (c .before .before .before .before .before .before .before .before .before .before .before .before .before)) fr (sets ((c .before .before .before .before .before .before .before .before .before .before .before .before .before .before .before .before .before .before .before .before .before .before .loop) .log) (8 * (c .before .before .before .before .before .before .before .before .before .before .before .before .before .before .before .before .before .before .before .before .before .before .loop) .n) ((getD ((c .before .before .before .before .before .before .before .before .before .before .before .before .before .before .before .before .before .before .before .before .before .before .loop) .rest .now) 0 0) ∷ frameIn (framesOf ((c .before .before .before .before .before .before .before .before .before .before .before .before .before .before .before .before .before .before .before .before .before .before .loop) .procs) ((c .before .before .before .before .before .before .before .before .before .before .before .before .before .before .before .before .before .before .before .before .before .before .loop) .nodes) ((c .before .before .before .before .before .before .before .before .before .before .before .before .before .before .before .before .before .before .before .before .before .before .loop) .vars)) ((c .before .before .before .before .before .before .before .before .before .before .before .before .before .before .before .top-of) .result) .proc ∷ frameIn (framesOf ((c .before .before .before .before .before .before .before .before .before .before .before .before .before .before .before .before .before .before .before .before .before .before .loop) .procs) ((c .before .before .before .before .before .before .before .before .before .before .before .before .before .before .before .before .before .before .before .before .before .before .loop) .nodes) ((c .before .before .before .before .before .before .before .before .before .before .before .before .before .before .before .before .before .before .before .before .before .before .loop) .vars)) ((c .before .before .before .before .before .before .before .before .before .before .before .before .before .before .before .top-of) .result) .node ∷ (flagOf ((c .before .before .before .act) .result .how) ∷ word (bitsOf ((c .before .before .before .act) .result .how) ((c .before .before .before .act) .result .value))))) (flagOf ((c .before .before .before .act) .result .how) ∷ word (bitsOf ((c .before .before .before .act) .result .how) ((c .before .before .before .act) .result .value))) (logs ((c .before .before .before .before .before .before .before .before .before .before .before .before .before .before .before .before .before .before .before .before .before .before .before .before .before .before .before .before .before .before .before .before .before .before .before .before .args) .t) ((c .before .before .before .before .before .before .before .before .before .before .before .before .before .before .before .before .before .before .before .before .before .before .before .before .before .before .before .before .before .before .before .before .before .before .before .before .args) .t2) ((c .before .before .before .before .before .before .before .before .before .before .before .before .before .before .before .before .before .before .before .before .before .before .before .before .before .before .before .before .before .before .before .before .before .before .before .before .pre) .0) ((c .before .before .before .before .before .before .before .before .before .before .before .before .before .before .before .before .before .before .before .before .before .before .before .before .before .before .before .before .before .before .before .before .before .before .before .before .args) .most) ((c .before .before .before .before .before .before .before .before .before .before .before .before .before .before .before .before .before .before .before .before .before .before .before .before .before .before .before .before .before .before .before .before .before .before .before .before .args) .values .now) ((c .before .before .before .before .before .before .before .before .before .before .before .before .before .before .before .before .before .before .before .before .before .before .loop) .rest .now) ((c .before .before .before .before .before .before .before .before .before .before .before .before .before .before .before .before .before .before .before .before .before .before .loop) .n) (stateOf ((c .before .before .before .before .before .before .before .before .before .before .before .before .before .before .before .before .before .before .before .before .before .before .loop) .depth) ((c .before .before .before .before .before .before .before .before .before .before .before .before .before .before .before .before .before .before .before .before .before .before .loop) .lost) ((c .before .before .before .before .before .before .before .before .before .before .before .before .before .before .before .before .before .before .before .before .before .before .loop) .procs) ((c .before .before .before .before .before .before .before .before .before .before .before .before .before .before .before .before .before .before .before .before .before .before .loop) .nodes) ((c .before .before .before .before .before .before .before .before .before .before .before .before .before .before .before .before .before .before .before .before .before .before .loop) .vars) ((c .before .before .before .before .before .before .before .before .before .before .before .before .before .before .before .before .before .before .before .before .before .before .loop) .sems) ((c .before .before .before .before .before .before .before .before .before .before .before .before .before .before .before .before .before .before .before .before .before .before .loop) .lens) ((c .before .before .before .before .before .before .before .before .before .before .before .before .before .before .before .before .before .before .before .before .before .before .loop) .items)) ((c .before .before .before .before .before .before .before .before .before .before .before .before .before .before .before .before .before .before .before .before .before .before .loop) .used) ((c .before .before .before .before .before .before .before .before .before .before .before .before .before .before .before .before .before .before .before .before .before .before .loop) .log) ((c .before .before .before .before .before .before .before .before .before .before .before .before .before .before .before .top-of) .result) (getD ((c .before .before .before .before .before .before .before .before .before .before .before .before .before .before .before .before .before .before .before .before .before .before .before .before .before .before .before .before .before .before .before .before .before .row) .result) ((c .before .before .before .before .before .before .before .before .before .before .before .before .before .before .place) .result) noSlot .node) ((c .before .before .before .before .before .before .before .before .before .before .before .before .before .before .before .before .before .before .before .before .before .before .loop) .lens) ((c .before .before .before .before .before .before .before .before .before .before .before .before .before .before .before .before .before .before .before .before .before .before .loop) .items) ((c .before .before .before .before .before .before .before .before .before .before .before .before .before .before .before .before .before .before .before .before .before .before .before .before .before .before .before .before .before .before .before .before .caps) .result) (standing (c .before .before .before .before .before .before .before .before .before .before .before .before .before)) ((c .before .before .before .before .before .before .before .before .before .before .if6) .g) ((c .before .before .before .before .before .before .before .before .before .before .if6) .to) ((c .before .before .before .act) .result) (backs (c .before .before .before .before .before .before .before .before .before .before)) (tries (c .before .before .before)) fr (nexts (c .before .before .before .before .before .before .before .before .before .before))) refl (no-call (getD ((c .before .before .before .before .before .before .before .before .before .before .before .before .before .before .before .before .before .before .before .before .before .before .before .before .before .before .before .before .before .before .before .before .before .row) .result) ((c .before .before .before .before .before .before .before .before .before .before .before .before .before .before .place) .result) noSlot .node) ((c .before .before .before .before .before .before .before .before .before .before .before .before .match) .keys2)) ((c .before .before .before .before .before .before .before .before .before .before .if6) .g) (nexts (c .before .before .before .before .before .before .before .before .before .before)) ((c .before .before .before .act) .result) (acted ((c .before .before .before .before .before .before .before .before .before .before .before .before .before .before .before .before .before .before .before .before .before .before .before .before .before .before .before .before .before .before .before .before .before .before .before .before .args) .t) ((c .before .before .before .before .before .before .before .before .before .before .before .before .before .before .before .before .before .before .before .before .before .before .before .before .before .before .before .before .before .before .before .before .before .before .before .before .args) .t2) ((c .before .before .before .before .before .before .before .before .before .before .before .before .before .before .before .before .before .before .before .before .before .before .before .before .before .before .before .before .before .before .before .before .before .before .before .before .pre) .0) ((c .before .before .before .before .before .before .before .before .before .before .before .before .before .before .before .before .before .before .before .before .before .before .before .before .before .before .before .before .before .before .before .before .before .before .before .before .args) .most) ((c .before .before .before .before .before .before .before .before .before .before .before .before .before .before .before .before .before .before .before .before .before .before .before .before .before .before .before .before .before .before .before .before .before .before .before .before .args) .values .now) ((c .before .before .before .before .before .before .before .before .before .before .before .before .before .before .before .before .before .before .before .before .before .before .loop) .rest .now) ((c .before .before .before .before .before .before .before .before .before .before .before .before .before .before .before .before .before .before .before .before .before .before .loop) .n) (stateOf ((c .before .before .before .before .before .before .before .before .before .before .before .before .before .before .before .before .before .before .before .before .before .before .loop) .depth) ((c .before .before .before .before .before .before .before .before .before .before .before .before .before .before .before .before .before .before .before .before .before .before .loop) .lost) ((c .before .before .before .before .before .before .before .before .before .before .before .before .before .before .before .before .before .before .before .before .before .before .loop) .procs) ((c .before .before .before .before .before .before .before .before .before .before .before .before .before .before .before .before .before .before .before .before .before .before .loop) .nodes) ((c .before .before .before .before .before .before .before .before .before .before .before .before .before .before .before .before .before .before .before .before .before .before .loop) .vars) ((c .before .before .before .before .before .before .before .before .before .before .before .before .before .before .before .before .before .before .before .before .before .before .loop) .sems) ((c .before .before .before .before .before .before .before .before .before .before .before .before .before .before .before .before .before .before .before .before .before .before .loop) .lens) ((c .before .before .before .before .before .before .before .before .before .before .before .before .before .before .before .before .before .before .before .before .before .before .loop) .items)) ((c .before .before .before .before .before .before .before .before .before .before .before .before .before .before .before .before .before .before .before .before .before .before .loop) .used) ((c .before .before .before .before .before .before .before .before .before .before .before .before .before .before .before .before .before .before .before .before .before .before .loop) .log) ((c .before .before .before .before .before .before .before .before .before .before .before .before .before .before .before .top-of) .result) (getD ((c .before .before .before .before .before .before .before .before .before .before .before .before .before .before .before .before .before .before .before .before .before .before .before .before .before .before .before .before .before .before .before .before .before .row) .result) ((c .before .before .before .before .before .before .before .before .before .before .before .before .before .before .place) .result) noSlot .node) ((c .before .before .before .before .before .before .before .before .before .before .before .before .before .before .before .before .before .before .before .before .before .before .loop) .lens) ((c .before .before .before .before .before .before .before .before .before .before .before .before .before .before .before .before .before .before .before .before .before .before .loop) .items) ((c .before .before .before .before .before .before .before .before .before .before .before .before .before .before .before .before .before .before .before .before .before .before .before .before .before .before .before .before .before .before .before .before .caps) .result) (standing (c .before .before .before .before .before .before .before .before .before .before .before .before .before)) ((c .before .before .before .before .before .before .before .before .before .before .if6) .g) ((c .before .before .before .before .before .before .before .before .before .before .if6) .to) ((c .before .before .before .act) .result) (backs (c .before .before .before .before .before .before .before .before .before .before)) (tries (c .before .before .before)) fr) ((c .before .if7) .taken))) in ((c .running6) .ensures ∙ a .0, a .1)
 
 cast-pi : tie.Need-cast-pi Inv-loop2 μ-loop2 Inv-loop μ-loop
-cast-pi c = record { fits = omega (arith, (c .before .before .before .before .before .before .before .before .before .before .before .before .before .before .before .before .before .before .before .before .before .before .before .before .before .loop) .inv .1 .0 .procs ((c .before .before .before .before .before .before .before .before .before .before .if6) .g)) }
+cast-pi c = record { fits = omega (arith, proc-lt (c .before .before .before .before .before .before .before .before .before .before .before .before .before .before .before .before .before .before .before .before .before) ((c .before .before .before .before .before .before .before .before .before .if6) .g)) }
 
 mul-kp : tie.Need-mul-kp Inv-loop2 μ-loop2 Inv-loop μ-loop
-mul-kp c = record { fits = omega (arith, (c .before .before .before .before .before .before .before .before .before .before .before .before .before .before .before .before .before .before .before .before .before .before .before .before .before .loop) .inv .1 .0 .procs ((c .before .before .before .before .before .before .before .before .before .before .if6) .g)) }
+mul-kp c = record { fits = omega (arith, proc-lt (c .before .before .before .before .before .before .before .before .before .before .before .before .before .before .before .before .before .before .before .before .before) ((c .before .before .before .before .before .before .before .before .before .if6) .g)) }
 
 array-read-kp : tie.Need-array-read-kp Inv-loop2 μ-loop2 Inv-loop μ-loop
-array-read-kp c = (c .before .before .before .before .before .before .before .before .before .before .before .before .before .before .before .before .before .before .before .before .before .before .before .before .before .loop) .inv .1 .0 .procs ((c .before .before .before .before .before .before .before .before .before .before .if6) .g)
+array-read-kp c = proc-lt (c .before .before .before .before .before .before .before .before .before .before .before .before .before .before .before .before .before .before .before .before .before) ((c .before .before .before .before .before .before .before .before .before .if6) .g)
 
 loop2-holds : tie.Need-loop2-holds Inv-loop2 μ-loop2 Inv-loop μ-loop
-loop2-holds c = ((λ mm. refl), (used-within (c .before .before .before .before .before), long c))
+loop2-holds c = ((λ mm. refl), (used-within (c .before .before), length-set (getD ((c .before .before .before .before .before .before .before .before .before .before .before .before .before .before .before .before .before .before .before .before .before .loop) .vars) ((c .before .before .before .before .before .before .before .before .before .if6) .g) []) ((c .before .before .act) .result .var) ((c .before .before .act) .result .value) ∙ vars-long (c .before .before .before .before .before .before .before .before .before .before .before .before .before .before .before .before .before .before .before .before .before) ((c .before .before .before .before .before .before .before .before .before .if6) .g) (g-below (c .before .before .before .before .before .before .before .before .before))))
 
 arrive-requires : tie.Need-arrive-requires Inv-loop2 μ-loop2 Inv-loop μ-loop
 arrive-requires c κs = (c .loop2) .inv .1 .0
@@ -304,8 +430,17 @@ arrive-requires c κs = (c .loop2) .inv .1 .0
 halted-requires : tie.Need-halted-requires Inv-loop2 μ-loop2 Inv-loop μ-loop
 halted-requires c κs = search needs
 
+mul-ahead : tie.Need-mul-ahead Inv-loop2 μ-loop2 Inv-loop μ-loop
+mul-ahead c = record { fits = omega (arith, g-below (c .before .before .before .before .before .before .before .before .before .before .before .before .before .before .before)) }
+
+index-1-ahead : tie.Need-index-1-ahead Inv-loop2 μ-loop2 Inv-loop μ-loop
+index-1-ahead c = g-below (c .before .before .before .before .before .before .before .before .before .before .before .before .before .before .before)
+
+ahead-requires : tie.Need-ahead-requires Inv-loop2 μ-loop2 Inv-loop μ-loop
+ahead-requires c κs = vars-long (c .before .before .before .before .before .before .before .before .before .before .before .before .before .before .before .before .before .before .before .before .before .before .before .before .before .before .before .before .before) ((c .before .before .before .before .before .before .before .before .before .before .before .before .before .before .before .before .before .if6) .g) (g-below (c .before .before .before .before .before .before .before .before .before .before .before .before .before .before .before .before .before))
+
 place-requires-3 : tie.Need-place-requires-3 Inv-loop2 μ-loop2 Inv-loop μ-loop
-place-requires-3 c κs = ((c .before .before .before .before .before .before .before .before .before .before .before .before .before .before .before .before .before .before .before .before .before .before .before .before .before .before .before .before .before .loop) .inv .1 .0 .procs ((c .before .before .before .before .before .before .before .before .before .before .before .before .before .before .if6) .g), (c .before .before .arrive) .ensures .sound .place)
+place-requires-3 c κs = (proc-lt (c .before .before .before .before .before .before .before .before .before .before .before .before .before .before .before .before .before .before .before .before .before .before .before .before .before .before .before .before .before .before) ((c .before .before .before .before .before .before .before .before .before .before .before .before .before .before .before .before .before .before .if6) .g), (c .before .before .before .before .before .before .before .arrive) .ensures .sound .place)
 
 mul-dl : tie.Need-mul-dl Inv-loop2 μ-loop2 Inv-loop μ-loop
 mul-dl c = record { fits = omega (arith, d-below c) }
@@ -314,146 +449,128 @@ array-copy-out-dl : tie.Need-array-copy-out-dl Inv-loop2 μ-loop2 Inv-loop μ-lo
 array-copy-out-dl c = d-below c
 
 pass-requires : tie.Need-pass-requires Inv-loop2 μ-loop2 Inv-loop μ-loop
-pass-requires c κs = ((c .before .before .before .before .before .before .loop2) .inv .1 .1, (c .before .before .before .before .before .arrive) .ensures .sound .within)
+pass-requires c κs = (ahead-long (c .before .before .before), (c .before .before .before .before .before .before .before .before .before .before .arrive) .ensures .sound .within)
 
 halted-requires-2 : tie.Need-halted-requires-2 Inv-loop2 μ-loop2 Inv-loop μ-loop
 halted-requires-2 c κs = search needs
 
-set-var-requires-2 : tie.Need-set-var-requires-2 Inv-loop2 μ-loop2 Inv-loop μ-loop
-set-var-requires-2 c κs = (c .before .before .before .before .before .before .before .before .before .before .before .loop2) .inv .1 .1
+set-var-requires : tie.Need-set-var-requires Inv-loop2 μ-loop2 Inv-loop μ-loop
+set-var-requires c κs = ahead-long (c .before .before .before .before .before .before .before .before)
 
 sub-m : tie.Need-sub-m Inv-loop2 μ-loop2 Inv-loop μ-loop
-sub-m c = omega (arith, (c .before .before .before .before .before .before .before .before .before .if9) .left)
+sub-m c = omega (arith, (c .before .before .before .before .before .before .before .before .before .before .before .before .before .before .if9) .left)
 
 loop2-less : tie.Need-loop2-less Inv-loop2 μ-loop2 Inv-loop μ-loop
-loop2-less c = omega (arith, (c .before .before .before .before .before .before .before .before .before .if9) .left)
+loop2-less c = omega (arith, (c .before .before .before .before .before .before .before .before .before .before .before .before .before .before .if9) .left)
 
 loop2-again : tie.Need-loop2-again Inv-loop2 μ-loop2 Inv-loop μ-loop
 loop2-again c =
-    let e : (c .set-var2) .last .0 ≡ set ((c .before .before .before .before .before .before .before .before .before .before .before .before .loop2) .fv) ((c .before .before .before .before .before .pass) .result .var) ((c .before .before .before .before .before .pass) .result .value) = (c .set-var2) .ensures ∙ ap (set ((c .before .before .before .before .before .before .before .before .before .before .before .before .loop2) .fv) ((c .before .before .before .before .before .pass) .result .var)) (toZ-ofZ {w = w32} (record { sfits = (c .before .struct-told2) .given .1 .1 .0 .1 })) in (
-      (λ mm. (c .before .before .before .before .before .before .before .before .before .before .before .before .loop2) .inv .0 mm ∙
-          goes-on ((c .before .before .before .before .before .before .before .before .before .before .before .before .before .before .before .before .before .before .before .before .before .before .before .before .before .before .before .before .before .before .before .before .before .before .before .before .before .before .before .before .before .before .args) .t1) ((c .before .before .before .before .before .before .before .before .before .before .before .before .before .before .before .before .before .before .before .before .before .before .before .before .before .before .before .before .before .before .before .before .before .before .before .before .before .before .before .before .before .before .args) .t2) ((c .before .before .before .before .before .before .before .before .before .before .before .before .before .before .before .before .before .before .before .before .before .before .before .before .before .before .before .before .before .before .before .before .before .before .before .before .before .before .before .before .before .before .pre) .0) ((c .before .before .before .before .before .before .before .before .before .before .before .before .before .before .before .before .before .before .before .before .before .before .before .before .before .before .before .before .before .before .before .before .before .before .before .before .before .before .before .before .before .before .args) .most) ((c .before .before .before .before .before .before .before .before .before .before .before .before .before .before .before .before .before .before .before .before .before .before .before .before .before .before .before .before .before .before .before .before .before .before .before .before .before .before .before .before .before .before .args) .values .now) ((frameIn ((c .before .before .before .before .before .before .before .before .before .before .before .before .before .before .before .before .before .before .before .before .before .before .before .before .before .before .before .before .before .before .before .before .before .before .before .before .before .before .loop) .u .frames) ((c .before .before .before .before .before .before .before .before .before .before .before .before .before .before .before .before .before .before .before .before .before .before .before .if6) .g)) .proc) ((c .before .before .before .before .before .before .before .before .before .before .before .before .loop2) .m) ((c .before .before .before .before .before .before .before .before .before .before .before .before .before .before .before .before .before .before .before .before .before .before .before .before .before .before .before .before .before .before .before .before .before .before .before .before .before .before .loop) .inv .1 .0 .procs ((c .before .before .before .before .before .before .before .before .before .before .before .before .before .before .before .before .before .before .before .before .before .before .before .if6) .g)) ((c .before .before .before .before .before .before .before .before .before .before .before .before .loop2) .fv) ((c .before .before .before .before .before .before .before .before .before .before .before .before .loop2) .inv .1 .1) ((c .before .before .before .before .before .before .before .before .before .before .before .before .loop2) .arc) ((c .before .before .before .before .before .before .before .before .before .before .before .before .loop2) .us) ((c .before .before .before .before .before .before .before .before .before .before .before .arrive) .result) ((c .before .before .before .before .before .before .before .before .before .before .before .arrive) .ensures) ((c .before .before .before .before .before .pass) .result) ((c .before .before .before .before .before .before .before .before .before .before .if8) .left) ((c .before .before .before .before .before .before .before .before .before .if9) .left) (passes (c .before .before .before .before .before)) ((c .before .before .before .if10) .left) mm ∙
-          ap (λ (l : List ℤ). met (heading ((c .before .before .before .before .before .before .before .before .before .before .before .before .before .before .before .before .before .before .before .before .before .before .before .before .before .before .before .before .before .before .before .before .before .before .before .before .before .before .before .before .before .before .args) .t1) ((c .before .before .before .before .before .before .before .before .before .before .before .before .before .before .before .before .before .before .before .before .before .before .before .before .before .before .before .before .before .before .before .before .before .before .before .before .before .before .before .before .before .before .args) .values .now) ((frameIn ((c .before .before .before .before .before .before .before .before .before .before .before .before .before .before .before .before .before .before .before .before .before .before .before .before .before .before .before .before .before .before .before .before .before .before .before .before .before .before .loop) .u .frames) ((c .before .before .before .before .before .before .before .before .before .before .before .before .before .before .before .before .before .before .before .before .before .before .before .if6) .g)) .proc) ((c .before .before .before .before .before .before .before .before .before .before .before .before .loop2) .m - 1) (withVars mm l) ((c .before .before .before .before .before .pass) .result .arc) ((c .before .before .before .before .before .pass) .result .used))) (sym e)),
-      (used-within2 (c .before .before .before .before .before), ap length e ∙ simp length-set ((c .before .before .before .before .before .before .before .before .before .before .before .before .loop2) .inv .1 .1)),
+    let h = ahead-is (c .before .before .before .before .before .before .before .before .before) in
+    let e : (c .set-var) .last .0 ≡ set (pick ((c .before .before .before .before .before .before .before .before .before .before .before .before .before .before .before .before .before .loop2) .far) ((c .before .before .before .before .before .before .before .before .before .before .before .before .before .before .before .before .before .loop2) .w) (set (getD ((c .before .before .before .before .before .before .before .before .before .before .before .before .before .before .before .before .before .before .before .before .before .before .before .before .before .before .before .before .before .before .before .before .before .before .before .before .before .before .before .loop) .vars) ((c .before .before .before .before .before .before .before .before .before .before .before .before .before .before .before .before .before .before .before .before .before .before .before .before .before .before .before .if6) .g) []) ((c .before .before .before .before .before .before .before .before .before .before .before .before .before .before .before .before .before .before .before .before .act) .result .var) ((c .before .before .before .before .before .before .before .before .before .before .before .before .before .before .before .before .before .before .before .before .act) .result .value))) ((c .before .before .before .before .before .pass) .result .var) ((c .before .before .before .before .before .pass) .result .value) = (c .set-var) .ensures ∙ ap (set ((c .before .before .before .before .before .before .before .before .before .ahead) .last .0) ((c .before .before .before .before .before .pass) .result .var)) (toZ-ofZ {w = w32} (record { sfits = (c .before .struct-told2) .given .1 .1 .0 .1 })) ∙ ap (λ (l : List ℤ). set l ((c .before .before .before .before .before .pass) .result .var) ((c .before .before .before .before .before .pass) .result .value)) h in (
+      (λ mm. (c .before .before .before .before .before .before .before .before .before .before .before .before .before .before .before .before .before .loop2) .inv .0 mm ∙
+          goes-on ((c .before .before .before .before .before .before .before .before .before .before .before .before .before .before .before .before .before .before .before .before .before .before .before .before .before .before .before .before .before .before .before .before .before .before .before .before .before .before .before .before .before .before .before .before .before .before .before .before .before .before .before .before .before .args) .t) ((c .before .before .before .before .before .before .before .before .before .before .before .before .before .before .before .before .before .before .before .before .before .before .before .before .before .before .before .before .before .before .before .before .before .before .before .before .before .before .before .before .before .before .before .before .before .before .before .before .before .before .before .before .before .args) .t2) ((c .before .before .before .before .before .before .before .before .before .before .before .before .before .before .before .before .before .before .before .before .before .before .before .before .before .before .before .before .before .before .before .before .before .before .before .before .before .before .before .before .before .before .before .before .before .before .before .before .before .before .before .before .before .pre) .0) ((c .before .before .before .before .before .before .before .before .before .before .before .before .before .before .before .before .before .before .before .before .before .before .before .before .before .before .before .before .before .before .before .before .before .before .before .before .before .before .before .before .before .before .before .before .before .before .before .before .before .before .before .before .before .args) .most) ((c .before .before .before .before .before .before .before .before .before .before .before .before .before .before .before .before .before .before .before .before .before .before .before .before .before .before .before .before .before .before .before .before .before .before .before .before .before .before .before .before .before .before .before .before .before .before .before .before .before .before .before .before .before .args) .values .now) (getD ((c .before .before .before .before .before .before .before .before .before .before .before .before .before .before .before .before .before .before .before .before .before .before .before .before .before .before .before .before .before .before .before .before .before .before .before .before .before .before .before .loop) .procs) ((c .before .before .before .before .before .before .before .before .before .before .before .before .before .before .before .before .before .before .before .before .before .before .before .before .before .before .before .if6) .g) 0) ((c .before .before .before .before .before .before .before .before .before .before .before .before .before .before .before .before .before .loop2) .m) (proc-lt (c .before .before .before .before .before .before .before .before .before .before .before .before .before .before .before .before .before .before .before .before .before .before .before .before .before .before .before .before .before .before .before .before .before .before .before .before .before .before .before) ((c .before .before .before .before .before .before .before .before .before .before .before .before .before .before .before .before .before .before .before .before .before .before .before .before .before .before .before .if6) .g)) (pick ((c .before .before .before .before .before .before .before .before .before .before .before .before .before .before .before .before .before .loop2) .far) ((c .before .before .before .before .before .before .before .before .before .before .before .before .before .before .before .before .before .loop2) .w) (set (getD ((c .before .before .before .before .before .before .before .before .before .before .before .before .before .before .before .before .before .before .before .before .before .before .before .before .before .before .before .before .before .before .before .before .before .before .before .before .before .before .before .loop) .vars) ((c .before .before .before .before .before .before .before .before .before .before .before .before .before .before .before .before .before .before .before .before .before .before .before .before .before .before .before .if6) .g) []) ((c .before .before .before .before .before .before .before .before .before .before .before .before .before .before .before .before .before .before .before .before .act) .result .var) ((c .before .before .before .before .before .before .before .before .before .before .before .before .before .before .before .before .before .before .before .before .act) .result .value))) ((c .before .before .before .before .before .before .before .before .before .before .before .before .before .before .before .before .before .loop2) .inv .1 .1) ((c .before .before .before .before .before .before .before .before .before .before .before .before .before .before .before .before .before .loop2) .arc) ((c .before .before .before .before .before .before .before .before .before .before .before .before .before .before .before .before .before .loop2) .us) ((c .before .before .before .before .before .before .before .before .before .before .before .before .before .before .before .before .arrive) .result) ((c .before .before .before .before .before .before .before .before .before .before .before .before .before .before .before .before .arrive) .ensures) ((c .before .before .before .before .before .pass) .result) ((c .before .before .before .before .before .before .before .before .before .before .before .before .before .before .before .if8) .left) ((c .before .before .before .before .before .before .before .before .before .before .before .before .before .before .if9) .left) (passes (c .before .before .before .before .before)) ((c .before .before .before .if10) .left) mm ∙
+          ap (λ (l : List ℤ). met (heading ((c .before .before .before .before .before .before .before .before .before .before .before .before .before .before .before .before .before .before .before .before .before .before .before .before .before .before .before .before .before .before .before .before .before .before .before .before .before .before .before .before .before .before .before .before .before .before .before .before .before .before .before .before .before .args) .t) ((c .before .before .before .before .before .before .before .before .before .before .before .before .before .before .before .before .before .before .before .before .before .before .before .before .before .before .before .before .before .before .before .before .before .before .before .before .before .before .before .before .before .before .before .before .before .before .before .before .before .before .before .before .before .args) .values .now) (getD ((c .before .before .before .before .before .before .before .before .before .before .before .before .before .before .before .before .before .before .before .before .before .before .before .before .before .before .before .before .before .before .before .before .before .before .before .before .before .before .before .loop) .procs) ((c .before .before .before .before .before .before .before .before .before .before .before .before .before .before .before .before .before .before .before .before .before .before .before .before .before .before .before .if6) .g) 0) ((c .before .before .before .before .before .before .before .before .before .before .before .before .before .before .before .before .before .loop2) .m - 1) (withVars mm l) ((c .before .before .before .before .before .pass) .result .arc) ((c .before .before .before .before .before .pass) .result .used))) (sym e)),
+      (used-within2 (c .before .before .before .before .before), ap length e ∙ length-set (pick ((c .before .before .before .before .before .before .before .before .before .before .before .before .before .before .before .before .before .loop2) .far) ((c .before .before .before .before .before .before .before .before .before .before .before .before .before .before .before .before .before .loop2) .w) (set (getD ((c .before .before .before .before .before .before .before .before .before .before .before .before .before .before .before .before .before .before .before .before .before .before .before .before .before .before .before .before .before .before .before .before .before .before .before .before .before .before .before .loop) .vars) ((c .before .before .before .before .before .before .before .before .before .before .before .before .before .before .before .before .before .before .before .before .before .before .before .before .before .before .before .if6) .g) []) ((c .before .before .before .before .before .before .before .before .before .before .before .before .before .before .before .before .before .before .before .before .act) .result .var) ((c .before .before .before .before .before .before .before .before .before .before .before .before .before .before .before .before .before .before .before .before .act) .result .value))) ((c .before .before .before .before .before .pass) .result .var) ((c .before .before .before .before .before .pass) .result .value) ∙ (c .before .before .before .before .before .before .before .before .before .before .before .before .before .before .before .before .before .loop2) .inv .1 .1),
     )
 
-no-frame-requires : tie.Need-no-frame-requires Inv-loop2 μ-loop2 Inv-loop μ-loop
-no-frame-requires c κs = search needs
+running-requires-7 : tie.Need-running-requires-7 Inv-loop2 μ-loop2 Inv-loop μ-loop
+running-requires-7 c κs = ((c .before .before .before .before .before .before .before .before .before .before .before .before .before .before .before .before .before .before .before .before .before .before .before .before .before .before .loop) .inv .1 .1 .0)
 
-mul-t134 : tie.Need-mul-t134 Inv-loop2 μ-loop2 Inv-loop μ-loop
-mul-t134 c = record { fits = omega (arith, f-below (c .before .before .before .before .before .before .before .before .before .before .before .before .before .before .before .before .before .before .before .before .before .before .before .before)) }
+same-length-7 : tie.Need-same-length-7 Inv-loop2 μ-loop2 Inv-loop μ-loop
+same-length-7 c = ((c .before .before .before .before .before .before .before .before .before .before .before .before .before .before .before .before .before .before .before .before .before .before .before .before .before .before .before .loop) .inv .1 .1 .1) .1 .1 .0
 
-element-set-from-u-2 : tie.Need-element-set-from-u-2 Inv-loop2 μ-loop2 Inv-loop μ-loop
-element-set-from-u-2 c = f-below (c .before .before .before .before .before .before .before .before .before .before .before .before .before .before .before .before .before .before .before .before .before .before .before .before)
+returns-7 : tie.Need-returns-7 Inv-loop2 μ-loop2 Inv-loop μ-loop
+returns-7 c = let a = answered ((c .before .before .before .before .before .before .before .before .before .before .before .before .before .before .before .before .before .before .before .before .before .before .before .before .before .before .before .before .before .before .before .before .before .before .before .before .before .before .before .before .before .args) .t) ((c .before .before .before .before .before .before .before .before .before .before .before .before .before .before .before .before .before .before .before .before .before .before .before .before .before .before .before .before .before .before .before .before .before .before .before .before .before .before .before .before .before .args) .most) ((c .before .before .before .before .before .before .before .before .before .before .before .before .before .before .before .before .before .before .before .before .before .before .before .before .before .before .before .before .before .before .before .before .before .before .before .before .before .before .before .before .before .args) .values .now) ((c .before .before .before .before .before .before .before .before .before .before .before .before .before .before .before .before .before .before .before .before .before .before .before .before .before .before .before .loop) .n) (stateOf ((c .before .before .before .before .before .before .before .before .before .before .before .before .before .before .before .before .before .before .before .before .before .before .before .before .before .before .before .loop) .depth) ((c .before .before .before .before .before .before .before .before .before .before .before .before .before .before .before .before .before .before .before .before .before .before .before .before .before .before .before .loop) .lost) ((c .before .before .before .before .before .before .before .before .before .before .before .before .before .before .before .before .before .before .before .before .before .before .before .before .before .before .before .loop) .procs) ((c .before .before .before .before .before .before .before .before .before .before .before .before .before .before .before .before .before .before .before .before .before .before .before .before .before .before .before .loop) .nodes) ((c .before .before .before .before .before .before .before .before .before .before .before .before .before .before .before .before .before .before .before .before .before .before .before .before .before .before .before .loop) .vars) ((c .before .before .before .before .before .before .before .before .before .before .before .before .before .before .before .before .before .before .before .before .before .before .before .before .before .before .before .loop) .sems) ((c .before .before .before .before .before .before .before .before .before .before .before .before .before .before .before .before .before .before .before .before .before .before .before .before .before .before .before .loop) .lens) ((c .before .before .before .before .before .before .before .before .before .before .before .before .before .before .before .before .before .before .before .before .before .before .before .before .before .before .before .loop) .items)) ((c .before .before .before .before .before .before .before .before .before .before .before .before .before .before .before .before .before .before .before .before .before .before .before .before .before .before .before .loop) .used) ((c .before .before .before .before .before .before .before .before .before .before .before .before .before .before .before .before .before .before .before .before .before .before .before .before .before .before .before .loop) .log) (runFrom ((c .before .before .before .before .before .before .before .before .before .before .before .before .before .before .before .before .before .before .before .before .before .before .before .before .before .before .before .before .before .before .before .before .before .before .before .before .before .before .before .before .before .args) .t) (keptIn ((c .before .before .before .before .before .before .before .before .before .before .before .before .before .before .before .before .before .before .before .before .before .before .before .before .before .before .before .before .before .before .before .before .before .before .before .before .before .before .before .before .before .args) .t)) ((c .before .before .before .before .before .before .before .before .before .before .before .before .before .before .before .before .before .before .before .before .before .before .before .before .before .before .before .before .before .before .before .before .before .before .before .before .before .before .before .before .before .args) .most) ((c .before .before .before .before .before .before .before .before .before .before .before .before .before .before .before .before .before .before .before .before .before .before .before .before .before .before .before .before .before .before .before .before .before .before .before .before .before .before .before .before .before .args) .values .now) ((c .before .before .before .before .before .before .before .before .before .before .before .before .before .before .before .before .before .before .before .before .before .before .before .before .before .before .before .before .before .before .before .before .before .before .before .before .before .before .before .before .before .args) .schedule .now) 0 ((c .before .before .before .before .before .before .before .before .before .before .before .before .before .before .before .before .before .before .before .before .before .before .before .before .before .before .before .before .before .before .before .before .before .before .before .before .before .before .before .before .before .args) .s) (drop ((c .before .before .before .before .before .before .before .before .before .before .before .before .before .before .before .before .before .before .before .before .before .before .before .before .before .before .before .before .before .before .before .before .before .before .before .before .before .before .before .before .before .args) .before) ((c .before .before .before .before .before .before .before .before .before .before .before .before .before .before .before .before .before .before .before .before .before .before .before .before .before .before .before .before .before .before .before .before .before .before .before .before .before .before .before .before .before .args) .values .now)) ((c .before .before .before .before .before .before .before .before .before .before .before .before .before .before .before .before .before .before .before .before .before .before .before .before .before .before .before .before .before .before .before .before .before .before .before .before .before .before .before .before .before .args) .log .now)) ((c .before .before .before .if8) .z .stop) (((c .before .before .before .before .before .before .before .before .before .before .before .before .before .before .before .before .before .before .before .before .before .before .before .before .before .before .before .loop) .inv .1 .1 .1) .0) (ap (λ (u : State). runFrom ((c .before .before .before .before .before .before .before .before .before .before .before .before .before .before .before .before .before .before .before .before .before .before .before .before .before .before .before .before .before .before .before .before .before .before .before .before .before .before .before .before .before .args) .t) (keptIn ((c .before .before .before .before .before .before .before .before .before .before .before .before .before .before .before .before .before .before .before .before .before .before .before .before .before .before .before .before .before .before .before .before .before .before .before .before .before .before .before .before .before .args) .t)) ((c .before .before .before .before .before .before .before .before .before .before .before .before .before .before .before .before .before .before .before .before .before .before .before .before .before .before .before .before .before .before .before .before .before .before .before .before .before .before .before .before .before .args) .most) ((c .before .before .before .before .before .before .before .before .before .before .before .before .before .before .before .before .before .before .before .before .before .before .before .before .before .before .before .before .before .before .before .before .before .before .before .before .before .before .before .before .before .args) .values .now) ((c .before .before .before .before .before .before .before .before .before .before .before .before .before .before .before .before .before .before .before .before .before .before .before .before .before .before .before .before .before .before .before .before .before .before .before .before .before .before .before .before .before .args) .schedule .now) 0 u (drop ((c .before .before .before .before .before .before .before .before .before .before .before .before .before .before .before .before .before .before .before .before .before .before .before .before .before .before .before .before .before .before .before .before .before .before .before .before .before .before .before .before .before .args) .before) ((c .before .before .before .before .before .before .before .before .before .before .before .before .before .before .before .before .before .before .before .before .before .before .before .before .before .before .before .before .before .before .before .before .before .before .before .before .before .before .before .before .before .args) .values .now)) ((c .before .before .before .before .before .before .before .before .before .before .before .before .before .before .before .before .before .before .before .before .before .before .before .before .before .before .before .before .before .before .before .before .before .before .before .before .before .before .before .before .before .args) .log .now)) (sym (begins (c .before .before .before .before .before .before .before .before .before .before .before .before .before .before .before .before .before .before .before .before .before .before .before .before .before .before .before .before .before .before .before))) ∙ (c .before .before .before .before .before .before .before .before .before .before .before .before .before .before .before .before .before .before .before .before .before .before .before .before .before .before .before .loop) .inv .0 ∙ stop-walking ((c .before .before .before .before .before .before .before .before .before .before .before .before .before .before .before .before .before .before .before .before .before .before .before .before .before .before .before .before .before .before .before .before .before .before .before .before .before .before .before .before .before .args) .t) ((c .before .before .before .before .before .before .before .before .before .before .before .before .before .before .before .before .before .before .before .before .before .before .before .before .before .before .before .before .before .before .before .before .before .before .before .before .before .before .before .before .before .args) .t2) ((c .before .before .before .before .before .before .before .before .before .before .before .before .before .before .before .before .before .before .before .before .before .before .before .before .before .before .before .before .before .before .before .before .before .before .before .before .before .before .before .before .before .pre) .0) ((c .before .before .before .before .before .before .before .before .before .before .before .before .before .before .before .before .before .before .before .before .before .before .before .before .before .before .before .before .before .before .before .before .before .before .before .before .before .before .before .before .before .args) .most) ((c .before .before .before .before .before .before .before .before .before .before .before .before .before .before .before .before .before .before .before .before .before .before .before .before .before .before .before .before .before .before .before .before .before .before .before .before .before .before .before .before .before .args) .values .now) ((c .before .before .before .before .before .before .before .before .before .before .before .before .before .before .before .before .before .before .before .before .before .before .before .before .before .before .before .loop) .rest .now) ((c .before .before .before .before .before .before .before .before .before .before .before .before .before .before .before .before .before .before .before .before .before .before .before .before .before .before .before .loop) .n) (stateOf ((c .before .before .before .before .before .before .before .before .before .before .before .before .before .before .before .before .before .before .before .before .before .before .before .before .before .before .before .loop) .depth) ((c .before .before .before .before .before .before .before .before .before .before .before .before .before .before .before .before .before .before .before .before .before .before .before .before .before .before .before .loop) .lost) ((c .before .before .before .before .before .before .before .before .before .before .before .before .before .before .before .before .before .before .before .before .before .before .before .before .before .before .before .loop) .procs) ((c .before .before .before .before .before .before .before .before .before .before .before .before .before .before .before .before .before .before .before .before .before .before .before .before .before .before .before .loop) .nodes) ((c .before .before .before .before .before .before .before .before .before .before .before .before .before .before .before .before .before .before .before .before .before .before .before .before .before .before .before .loop) .vars) ((c .before .before .before .before .before .before .before .before .before .before .before .before .before .before .before .before .before .before .before .before .before .before .before .before .before .before .before .loop) .sems) ((c .before .before .before .before .before .before .before .before .before .before .before .before .before .before .before .before .before .before .before .before .before .before .before .before .before .before .before .loop) .lens) ((c .before .before .before .before .before .before .before .before .before .before .before .before .before .before .before .before .before .before .before .before .before .before .before .before .before .before .before .loop) .items)) ((c .before .before .before .before .before .before .before .before .before .before .before .before .before .before .before .before .before .before .before .before .before .before .before .before .before .before .before .loop) .used) ((c .before .before .before .before .before .before .before .before .before .before .before .before .before .before .before .before .before .before .before .before .before .before .before .before .before .before .before .loop) .log) ((c .before .before .before .before .before .before .before .before .before .before .before .before .before .before .before .before .before .before .before .before .top-of) .result) (getD ((c .before .before .before .before .before .before .before .before .before .before .before .before .before .before .before .before .before .before .before .before .before .before .before .before .before .before .before .before .before .before .before .before .before .before .before .before .before .before .row) .result) ((c .before .before .before .before .before .before .before .before .before .before .before .before .before .before .before .before .before .before .before .place) .result) noSlot .node) ((c .before .before .before .before .before .before .before .before .before .before .before .before .before .before .before .before .before .before .before .before .before .before .before .before .before .before .before .loop) .lens) ((c .before .before .before .before .before .before .before .before .before .before .before .before .before .before .before .before .before .before .before .before .before .before .before .before .before .before .before .loop) .items) ((c .before .before .before .before .before .before .before .before .before .before .before .before .before .before .before .before .before .before .before .before .before .before .before .before .before .before .before .before .before .before .before .before .before .before .before .before .before .caps) .result) (standing (c .before .before .before .before .before .before .before .before .before .before .before .before .before .before .before .before .before .before)) (free (c .before .before .before .before .before .before)) (sets ((c .before .before .before .before .before .before .before .before .before .before .before .before .before .before .before .before .before .before .before .before .before .before .before .before .before .before .before .loop) .log) (8 * (c .before .before .before .before .before .before .before .before .before .before .before .before .before .before .before .before .before .before .before .before .before .before .before .before .before .before .before .loop) .n) ((getD ((c .before .before .before .before .before .before .before .before .before .before .before .before .before .before .before .before .before .before .before .before .before .before .before .before .before .before .before .loop) .rest .now) 0 0) ∷ frameIn (framesOf ((c .before .before .before .before .before .before .before .before .before .before .before .before .before .before .before .before .before .before .before .before .before .before .before .before .before .before .before .loop) .procs) ((c .before .before .before .before .before .before .before .before .before .before .before .before .before .before .before .before .before .before .before .before .before .before .before .before .before .before .before .loop) .nodes) ((c .before .before .before .before .before .before .before .before .before .before .before .before .before .before .before .before .before .before .before .before .before .before .before .before .before .before .before .loop) .vars)) ((c .before .before .before .before .before .before .before .before .before .before .before .before .before .before .before .before .before .before .before .before .top-of) .result) .proc ∷ frameIn (framesOf ((c .before .before .before .before .before .before .before .before .before .before .before .before .before .before .before .before .before .before .before .before .before .before .before .before .before .before .before .loop) .procs) ((c .before .before .before .before .before .before .before .before .before .before .before .before .before .before .before .before .before .before .before .before .before .before .before .before .before .before .before .loop) .nodes) ((c .before .before .before .before .before .before .before .before .before .before .before .before .before .before .before .before .before .before .before .before .before .before .before .before .before .before .before .loop) .vars)) ((c .before .before .before .before .before .before .before .before .before .before .before .before .before .before .before .before .before .before .before .before .top-of) .result) .node ∷ (flagOf ((c .before .before .before .before .before .before .before .before .act) .result .how) ∷ word (bitsOf ((c .before .before .before .before .before .before .before .before .act) .result .how) ((c .before .before .before .before .before .before .before .before .act) .result .value))))) (flagOf ((c .before .before .before .before .before .before .before .before .act) .result .how) ∷ word (bitsOf ((c .before .before .before .before .before .before .before .before .act) .result .how) ((c .before .before .before .before .before .before .before .before .act) .result .value))) (logged (c .before .before .before .before .before .before)) refl (no-call (getD ((c .before .before .before .before .before .before .before .before .before .before .before .before .before .before .before .before .before .before .before .before .before .before .before .before .before .before .before .before .before .before .before .before .before .before .before .before .before .before .row) .result) ((c .before .before .before .before .before .before .before .before .before .before .before .before .before .before .before .before .before .before .before .place) .result) noSlot .node) ((c .before .before .before .before .before .before .before .before .before .before .before .before .before .before .before .before .before .match) .keys2)) ((c .before .before .before .before .before .before .before .before .before .before .before .before .before .before .before .if6) .g) (nexts (c .before .before .before .before .before .before .before .before .before .before .before .before .before .before .before)) ((c .before .before .before .before .before .before .before .before .act) .result) (did (c .before .before .before .before .before .before)) ((c .before .before .before .before .before .before .if7) .left) (set (frameIn (framesOf ((c .before .before .before .before .before .before .before .before .before .before .before .before .before .before .before .before .before .before .before .before .before .before .before .before .before .before .before .loop) .procs) ((c .before .before .before .before .before .before .before .before .before .before .before .before .before .before .before .before .before .before .before .before .before .before .before .before .before .before .before .loop) .nodes) ((c .before .before .before .before .before .before .before .before .before .before .before .before .before .before .before .before .before .before .before .before .before .before .before .before .before .before .before .loop) .vars)) ((c .before .before .before .before .before .before .before .before .before .before .before .before .before .before .before .if6) .g) .vars) ((c .before .before .before .before .before .before .before .before .act) .result .var) ((c .before .before .before .before .before .before .before .before .act) .result .value)) refl ((c .before .before .before .if8) .z) (pick ((c .before .before .before .before .before .loop2) .far) ((c .before .before .before .before .before .loop2) .w) (set (getD ((c .before .before .before .before .before .before .before .before .before .before .before .before .before .before .before .before .before .before .before .before .before .before .before .before .before .before .before .loop) .vars) ((c .before .before .before .before .before .before .before .before .before .before .before .before .before .before .before .if6) .g) []) ((c .before .before .before .before .before .before .before .before .act) .result .var) ((c .before .before .before .before .before .before .before .before .act) .result .value))) (walked (c .before .before .before)) ((c .before .if11) .taken)) in ((c .running7) .ensures ∙ a .0, a .1)
 
-mul-qe : tie.Need-mul-qe Inv-loop2 μ-loop2 Inv-loop μ-loop
-mul-qe c = record { fits = omega (arith, queue-lt (c .before .before .before .before .before .before .before .before .before .before .before .before .before .before .before .before .before .before .before)) }
+mul-clear : tie.Need-mul-clear Inv-loop2 μ-loop2 Inv-loop μ-loop
+mul-clear c = record { fits = omega (arith, f-below (c .before .before .before .before .before .before .before .before .before .before .before .before .before .before .before .before .before .before .before)) }
 
-element-copy-out-qe : tie.Need-element-copy-out-qe Inv-loop2 μ-loop2 Inv-loop μ-loop
-element-copy-out-qe c = queue-lt (c .before .before .before .before .before .before .before .before .before .before .before .before .before .before .before .before .before .before .before)
+index-1-clear : tie.Need-index-1-clear Inv-loop2 μ-loop2 Inv-loop μ-loop
+index-1-clear c = f-below (c .before .before .before .before .before .before .before .before .before .before .before .before .before .before .before .before .before .before .before)
 
-queue-after-requires : tie.Need-queue-after-requires Inv-loop2 μ-loop2 Inv-loop μ-loop
-queue-after-requires c κs = search needs
+clear-requires : tie.Need-clear-requires Inv-loop2 μ-loop2 Inv-loop μ-loop
+clear-requires c κs = search needs
 
-mul-t134-2 : tie.Need-mul-t134-2 Inv-loop2 μ-loop2 Inv-loop μ-loop
-mul-t134-2 c = record { fits = omega (arith, queue-lt (c .before .before .before .before .before .before .before .before .before .before .before .before .before .before .before .before .before .before .before .before .before .before)) }
+mul-settle : tie.Need-mul-settle Inv-loop2 μ-loop2 Inv-loop μ-loop
+mul-settle c = record { fits = omega (arith, g-below (c .before .before .before .before .before .before .before .before .before .before .before .before .before .before .before .before)) }
 
-element-set-from-u-3 : tie.Need-element-set-from-u-3 Inv-loop2 μ-loop2 Inv-loop μ-loop
-element-set-from-u-3 c = queue-lt (c .before .before .before .before .before .before .before .before .before .before .before .before .before .before .before .before .before .before .before .before .before .before)
+index-1-settle : tie.Need-index-1-settle Inv-loop2 μ-loop2 Inv-loop μ-loop
+index-1-settle c = g-below (c .before .before .before .before .before .before .before .before .before .before .before .before .before .before .before .before)
 
-mul-t65 : tie.Need-mul-t65 Inv-loop2 μ-loop2 Inv-loop μ-loop
-mul-t65 c = record { fits = omega (arith, g-below (c .before .before .before .before .before .before .before .before .before .before .before .before .before .before .before .before)) }
+settle-requires : tie.Need-settle-requires Inv-loop2 μ-loop2 Inv-loop μ-loop
+settle-requires c κs = ap length (ap (λ (u : List ℤ). getD (set ((c .before .before .before .before .before .before .before .before .before .before .before .before .before .before .before .before .before .before .before .before .before .before .before .before .before .before .before .before .before .before .before .loop) .vars) ((c .before .before .before .before .before .before .before .before .before .before .before .before .before .before .before .before .before .before .before .before .before .before .before .before .top-of) .result) u) ((c .before .before .before .before .before .before .before .before .before .before .before .before .before .before .before .before .before .before .before .if6) .g) []) ((c .before .before .before .clear) .ensures) ∙ vars-still ((c .before .before .before .before .before .before .before .before .before .before .before .before .before .before .before .before .before .before .before .before .before .before .before .before .before .before .before .before .before .before .before .loop) .vars) ((c .before .before .before .before .before .before .before .before .before .before .before .before .before .before .before .before .before .before .before .before .before .before .before .before .top-of) .result) ((c .before .before .before .before .before .before .before .before .before .before .before .before .before .before .before .before .before .before .before .if6) .g) ((c .before .before .before .before .before .before .before .before .before .before .before .before .before .before .before .before .before .before .before .before .closes) .result) (apart (c .before .before .before .before .before .before .before .before .before .before))) ∙ vars-long (c .before .before .before .before .before .before .before .before .before .before .before .before .before .before .before .before .before .before .before .before .before .before .before .before .before .before .before .before .before .before .before) ((c .before .before .before .before .before .before .before .before .before .before .before .before .before .before .before .before .before .before .before .if6) .g) (g-below (c .before .before .before .before .before .before .before .before .before .before .before .before .before .before .before .before .before .before .before))
 
-element-set-from-u-4 : tie.Need-element-set-from-u-4 Inv-loop2 μ-loop2 Inv-loop μ-loop
-element-set-from-u-4 c = g-below (c .before .before .before .before .before .before .before .before .before .before .before .before .before .before .before .before)
+array-write-procs-2 : tie.Need-array-write-procs-2 Inv-loop2 μ-loop2 Inv-loop μ-loop
+array-write-procs-2 c = f-below (c .before .before .before .before .before .before .before .before .before .before .before .before .before .before .before .before .before .before .before .before .before .before .before .before .before)
 
-sub-u : tie.Need-sub-u Inv-loop2 μ-loop2 Inv-loop μ-loop
-sub-u c = omega (arith, back-lt (c .before .before .before .before .before .before .before .before .before .before))
+array-write-procs-3 : tie.Need-array-write-procs-3 Inv-loop2 μ-loop2 Inv-loop μ-loop
+array-write-procs-3 c = g-below (c .before .before .before .before .before .before .before .before .before .before .before .before .before .before .before .before .before .before .before .before)
 
-element-write-u-2 : tie.Need-element-write-u-2 Inv-loop2 μ-loop2 Inv-loop μ-loop
-element-write-u-2 c = omega (arith, (c .before .before .before .before .before .before .before .before .before .before .before .before .before .before .before .before .before .before .before .before .before .before .before .before .before .before .before .before .before .if2) .left, (c .before .before .before .before .before .before .before .before .before .before .before .before .before .before .before .before .before .before .before .before .before .before .before .before .before .before .before .before .before .before .before .before .before .before .before .before .pre) .0 .tasks)
+array-write-nodes-2 : tie.Need-array-write-nodes-2 Inv-loop2 μ-loop2 Inv-loop μ-loop
+array-write-nodes-2 c = f-below (c .before .before .before .before .before .before .before .before .before .before .before .before .before .before .before .before .before .before .before .before .before .before .before .before .before)
 
-element-write-u-3 : tie.Need-element-write-u-3 Inv-loop2 μ-loop2 Inv-loop μ-loop
-element-write-u-3 c = omega (arith, (c .before .before .before .before .before .before .before .before .before .before .before .before .before .before .before .before .before .before .before .before .before .before .before .before .before .before .before .before .before .if2) .left, (c .before .before .before .before .before .before .before .before .before .before .before .before .before .before .before .before .before .before .before .before .before .before .before .before .before .before .before .before .before .before .before .before .before .before .before .before .pre) .0 .tasks)
+array-write-nodes-3 : tie.Need-array-write-nodes-3 Inv-loop2 μ-loop2 Inv-loop μ-loop
+array-write-nodes-3 c = g-below (c .before .before .before .before .before .before .before .before .before .before .before .before .before .before .before .before .before .before .before .before)
 
-element-write-u-4 : tie.Need-element-write-u-4 Inv-loop2 μ-loop2 Inv-loop μ-loop
-element-write-u-4 c = sem-lt (c .before .before .before .before .before .before .before .before .before .before .before .before .before .before .before .before .before .before .before)
+sub-depth : tie.Need-sub-depth Inv-loop2 μ-loop2 Inv-loop μ-loop
+sub-depth c = omega (arith, back-lt (c .before .before .before .before .before .before .before .before .before .before .before))
+
+array-write-depth-2 : tie.Need-array-write-depth-2 Inv-loop2 μ-loop2 Inv-loop μ-loop
+array-write-depth-2 c = omega (arith, (c .before .before .before .before .before .before .before .before .before .before .before .before .before .before .before .before .before .before .before .before .before .before .before .before .before .before .before .before .if2) .left, (c .before .before .before .before .before .before .before .before .before .before .before .before .before .before .before .before .before .before .before .before .before .before .before .before .before .before .before .before .before .before .before .before .before .before .before .before .before .before .before .before .before .before .before .before .before .before .pre) .0 .tasks)
+
+array-write-lost : tie.Need-array-write-lost Inv-loop2 μ-loop2 Inv-loop μ-loop
+array-write-lost c = omega (arith, (c .before .before .before .before .before .before .before .before .before .before .before .before .before .before .before .before .before .before .before .before .before .before .before .before .before .before .before .before .if2) .left, (c .before .before .before .before .before .before .before .before .before .before .before .before .before .before .before .before .before .before .before .before .before .before .before .before .before .before .before .before .before .before .before .before .before .before .before .before .before .before .before .before .before .before .before .before .before .before .pre) .0 .tasks)
+
+affect-requires : tie.Need-affect-requires Inv-loop2 μ-loop2 Inv-loop μ-loop
+affect-requires c κs = (at-lt (c .before .before .before .before .before .before .before .before .before .before .before .before .before .before .before), ((c .before .before .before .before .before .before .before .before .before .before .before .before .before .before .before .before .before .before .before .before .before .before .before .before .before .before .before .before .before .before .before .before .before .before .before .before .loop) .inv .1 .1 .0) .rows ((c .before .before .before .before .before .before .before .before .before .before .before .before .before .before .before .before .before .act) .result .at) (at-lt (c .before .before .before .before .before .before .before .before .before .before .before .before .before .before .before)))
+
+flag-requires : tie.Need-flag-requires Inv-loop2 μ-loop2 Inv-loop μ-loop
+flag-requires c κs = search needs
+
+bits-requires : tie.Need-bits-requires Inv-loop2 μ-loop2 Inv-loop μ-loop
+bits-requires c κs = search needs
 
 put-requires-2 : tie.Need-put-requires-2 Inv-loop2 μ-loop2 Inv-loop μ-loop
-put-requires-2 c κs = omega (arith, (c .before .before .before .before .before .before .before .before .before .before .before .before .before .before .before .before .before .before .before .before .before .before .before .before .before .before .before .before .before .if3) .left, (c .before .before .before .before .before .before .before .before .before .before .before .before .before .before .before .before .before .before .before .before .before .before .before .before .before .before .before .before .before .before .before .before .before .loop) .inv .1)
+put-requires-2 c κs = omega (arith, (c .before .before .before .before .before .before .before .before .before .before .before .before .before .before .before .before .before .before .before .before .before .before .before .before .before .before .before .before .before .before .before .before .before .before .before .before .if3) .left, ((c .before .before .before .before .before .before .before .before .before .before .before .before .before .before .before .before .before .before .before .before .before .before .before .before .before .before .before .before .before .before .before .before .before .before .before .before .before .before .before .before .before .loop) .inv .1 .1 .1))
 
 add-n-2 : tie.Need-add-n-2 Inv-loop2 μ-loop2 Inv-loop μ-loop
-add-n-2 c = record { fits = omega (arith, (c .before .before .before .before .before .before .before .before .before .before .before .before .before .before .before .before .before .before .before .before .before .before .before .before .before .before .before .before .before .before .before .before .if3) .left, (c .before .before .before .before .before .before .before .before .before .before .before .before .before .before .before .before .before .before .before .before .before .before .before .before .before .before .before .before .before .before .before .before .before .before .before .before .loop) .inv .1) }
+add-n-2 c = record { fits = omega (arith, (c .before .before .before .before .before .before .before .before .before .before .before .before .before .before .before .before .before .before .before .before .before .before .before .before .before .before .before .before .before .before .before .before .before .before .before .before .before .before .before .if3) .left, ((c .before .before .before .before .before .before .before .before .before .before .before .before .before .before .before .before .before .before .before .before .before .before .before .before .before .before .before .before .before .before .before .before .before .before .before .before .before .before .before .before .before .before .before .before .loop) .inv .1 .1 .1)) }
 
 sub-rest-2 : tie.Need-sub-rest-2 Inv-loop2 μ-loop2 Inv-loop μ-loop
-sub-rest-2 c = omega (arith, (c .before .before .before .before .before .before .before .before .before .before .before .before .before .before .before .before .before .before .before .before .before .before .before .before .before .before .before .before .before .before .before .before .before .before .before .if1) .left)
+sub-rest-2 c = omega (arith, (c .before .before .before .before .before .before .before .before .before .before .before .before .before .before .before .before .before .before .before .before .before .before .before .before .before .before .before .before .before .before .before .before .before .before .before .before .before .before .before .before .before .before .before .if1) .left)
 
 part-rest-start-2 : tie.Need-part-rest-start-2 Inv-loop2 μ-loop2 Inv-loop μ-loop
-part-rest-start-2 c = omega (arith, (c .before .before .before .before .before .before .before .before .before .before .before .before .before .before .before .before .before .before .before .before .before .before .before .before .before .before .before .before .before .before .before .before .before .before .before .if1) .left)
+part-rest-start-2 c = omega (arith, (c .before .before .before .before .before .before .before .before .before .before .before .before .before .before .before .before .before .before .before .before .before .before .before .before .before .before .before .before .before .before .before .before .before .before .before .before .before .before .before .before .before .before .before .if1) .left)
 
 part-rest-end-2 : tie.Need-part-rest-end-2 Inv-loop2 μ-loop2 Inv-loop μ-loop
 part-rest-end-2 c = search needs
 
 loop-less-2 : tie.Need-loop-less-2 Inv-loop2 μ-loop2 Inv-loop μ-loop
-loop-less-2 c = omega (arith, (c .before .before .before .before .before .before .before .before .before .before .before .before .before .before .before .before .before .before .before .before .before .before .before .before .before .before .before .before .before .before .before .before .before .before .before .before .if1) .left)
+loop-less-2 c = rest-less ((c .before .before .before .before .before .before .before .before .before .before .before .before .before .before .before .before .before .before .before .before .before .before .before .before .before .before .before .before .before .before .before .before .before .before .before .before .before .before .before .before .before .before .before .before .before .loop) .rest .now) ((c .before .before .before .before .before .before .before .before .before .before .before .before .before .before .before .before .before .before .before .before .before .before .before .before .before .before .before .before .before .before .before .before .before .before .before .before .before .before .before .before .before .before .before .before .if1) .left)
 
 loop-again-2 : tie.Need-loop-again-2 Inv-loop2 μ-loop2 Inv-loop μ-loop
 loop-again-2 c =
-    let ps = (c .before .before .before .put2) .ensures in
-    let en = ends (c .before .before .before .before .before .before .before .before .before) in
-    let ln : length ((c .before .before .before .put2) .last .0) ≡ length ((c .before .before .before .before .before .before .before .before .before .before .before .before .before .before .before .before .before .before .before .before .before .before .before .before .before .before .before .before .before .before .before .before .before .before .before .before .before .loop) .log) = ap length ps ∙ length-sets ((c .before .before .before .before .before .before .before .before .before .before .before .before .before .before .before .before .before .before .before .before .before .before .before .before .before .before .before .before .before .before .before .before .before .before .before .before .before .loop) .log) (8 * (c .before .before .before .before .before .before .before .before .before .before .before .before .before .before .before .before .before .before .before .before .before .before .before .before .before .before .before .before .before .before .before .before .before .before .before .before .before .loop) .n) ((getD ((c .before .before .before .before .before .before .before .before .before .before .before .before .before .before .before .before .before .before .before .before .before .before .before .before .before .before .before .before .before .before .before .before .before .before .before .before .before .loop) .rest .now) 0 0) ∷ (frameIn ((c .before .before .before .before .before .before .before .before .before .before .before .before .before .before .before .before .before .before .before .before .before .before .before .before .before .before .before .before .before .before .before .before .before .before .before .before .before .loop) .u .frames) ((c .before .before .before .before .before .before .before .before .before .before .before .before .before .before .before .before .before .before .before .before .before .before .before .before .before .before .before .before .before .top-of) .result)) .proc ∷ (frameIn ((c .before .before .before .before .before .before .before .before .before .before .before .before .before .before .before .before .before .before .before .before .before .before .before .before .before .before .before .before .before .before .before .before .before .before .before .before .before .loop) .u .frames) ((c .before .before .before .before .before .before .before .before .before .before .before .before .before .before .before .before .before .before .before .before .before .before .before .before .before .before .before .before .before .top-of) .result)) .node ∷ (c .before .before .before .before .before .before .before .before .before .before .before .before .before .before .before .before .before .act) .result .flag ∷ word ((c .before .before .before .before .before .before .before .before .before .before .before .before .before .before .before .before .before .act) .result .bits)) in
-    let st =
-    ⊎-elim (λ w. few-is ((c .before .before .before .before .before .before .before .before .before .before .before .before .before .before .before .before .before .before .before .before .before .before .before .before .before .before .before .before .before .before .before .before .before .before .before .before .before .before .before .before .before .args) .t1) ((c .before .before .before .before .before .before .before .before .before .before .before .before .before .before .before .before .before .before .before .before .before .before .before .before .before .before .before .before .before .before .before .before .before .before .before .before .before .before .before .before .before .args) .t2) ((c .before .before .before .before .before .before .before .before .before .before .before .before .before .before .before .before .before .before .before .before .before .before .before .before .before .before .before .before .before .before .before .before .before .before .before .before .before .before .before .before .before .pre) .0) ((c .before .before .before .before .before .before .before .before .before .before .before .before .before .before .before .before .before .before .before .before .before .before .before .before .before .before .before .before .before .before .before .before .before .before .before .before .before .before .before .before .before .args) .most) ((c .before .before .before .before .before .before .before .before .before .before .before .before .before .before .before .before .before .before .before .before .before .before .before .before .before .before .before .before .before .before .before .before .before .before .before .before .before .before .before .before .before .args) .values .now) ((c .before .before .before .before .before .before .before .before .before .before .before .before .before .before .before .before .before .before .before .before .before .before .before .before .before .before .before .before .before .before .before .before .before .before .before .before .before .loop) .rest .now) ((c .before .before .before .before .before .before .before .before .before .before .before .before .before .before .before .before .before .before .before .before .before .before .before .before .before .before .before .before .before .before .before .before .before .before .before .before .before .loop) .n) ((c .before .before .before .before .before .before .before .before .before .before .before .before .before .before .before .before .before .before .before .before .before .before .before .before .before .before .before .before .before .before .before .before .before .before .before .before .before .loop) .u) ((c .before .before .before .before .before .before .before .before .before .before .before .before .before .before .before .before .before .before .before .before .before .before .before .before .before .before .before .before .before .before .before .before .before .before .before .before .before .loop) .used) ((c .before .before .before .before .before .before .before .before .before .before .before .before .before .before .before .before .before .before .before .before .before .before .before .before .before .before .before .before .before .before .before .before .before .before .before .before .before .loop) .log) ((c .before .before .before .before .before .before .before .before .before .before .before .before .before .before .before .before .before .before .before .before .before .before .before .before .before .before .before .before .before .top-of) .result) (getD ((c .before .before .before .before .before .before .before .before .before .before .before .before .before .before .before .before .before .before .before .before .before .before .before .before .before .before .before .before .before .before .before .before .before .before .before .before .before .before .row) .result) ((c .before .before .before .before .before .before .before .before .before .before .before .before .before .before .before .before .before .before .before .before .before .before .before .before .before .before .before .place) .result) noSlot .node) ((c .before .before .before .before .before .before .before .before .before .before .before .before .before .before .before .before .before .before .before .before .before .before .before .before .beside) .result) (standing (c .before .before .before .before .before .before .before .before .before .before .before .before .before .before .before .before .before .before .before .before .before .before .before .before)) (free (c .before .before .before .before .before .before .before .before .before .before .before .before .before .before .before)) ((c .before .before .before .put2) .last .0) (showing ((c .before .before .before .before .before .before .before .before .before .before .before .before .before .before .before .before .before .act) .result .flag) ((c .before .before .before .before .before .before .before .before .before .before .before .before .before .before .before .before .before .act) .result .bits)) (logs ((c .before .before .before .before .before .before .before .before .before .before .before .before .before .before .before .before .before .before .before .before .before .before .before .before .before .before .before .before .before .before .before .before .before .before .before .before .before .before .before .before .before .args) .t1) ((c .before .before .before .before .before .before .before .before .before .before .before .before .before .before .before .before .before .before .before .before .before .before .before .before .before .before .before .before .before .before .before .before .before .before .before .before .before .before .before .before .before .args) .t2) ((c .before .before .before .before .before .before .before .before .before .before .before .before .before .before .before .before .before .before .before .before .before .before .before .before .before .before .before .before .before .before .before .before .before .before .before .before .before .before .before .before .before .pre) .0) ((c .before .before .before .before .before .before .before .before .before .before .before .before .before .before .before .before .before .before .before .before .before .before .before .before .before .before .before .before .before .before .before .before .before .before .before .before .before .before .before .before .before .args) .most) ((c .before .before .before .before .before .before .before .before .before .before .before .before .before .before .before .before .before .before .before .before .before .before .before .before .before .before .before .before .before .before .before .before .before .before .before .before .before .before .before .before .before .args) .values .now) ((c .before .before .before .before .before .before .before .before .before .before .before .before .before .before .before .before .before .before .before .before .before .before .before .before .before .before .before .before .before .before .before .before .before .before .before .before .before .loop) .rest .now) ((c .before .before .before .before .before .before .before .before .before .before .before .before .before .before .before .before .before .before .before .before .before .before .before .before .before .before .before .before .before .before .before .before .before .before .before .before .before .loop) .n) ((c .before .before .before .before .before .before .before .before .before .before .before .before .before .before .before .before .before .before .before .before .before .before .before .before .before .before .before .before .before .before .before .before .before .before .before .before .before .loop) .u) ((c .before .before .before .before .before .before .before .before .before .before .before .before .before .before .before .before .before .before .before .before .before .before .before .before .before .before .before .before .before .before .before .before .before .before .before .before .before .loop) .used) ((c .before .before .before .before .before .before .before .before .before .before .before .before .before .before .before .before .before .before .before .before .before .before .before .before .before .before .before .before .before .before .before .before .before .before .before .before .before .loop) .log) ((c .before .before .before .before .before .before .before .before .before .before .before .before .before .before .before .before .before .before .before .before .before .before .before .before .before .before .before .before .before .top-of) .result) (getD ((c .before .before .before .before .before .before .before .before .before .before .before .before .before .before .before .before .before .before .before .before .before .before .before .before .before .before .before .before .before .before .before .before .before .before .before .before .before .before .row) .result) ((c .before .before .before .before .before .before .before .before .before .before .before .before .before .before .before .before .before .before .before .before .before .before .before .before .before .before .before .place) .result) noSlot .node) ((c .before .before .before .before .before .before .before .before .before .before .before .before .before .before .before .before .before .before .before .before .before .before .before .before .beside) .result) (standing (c .before .before .before .before .before .before .before .before .before .before .before .before .before .before .before .before .before .before .before .before .before .before .before .before)) ((c .before .before .before .before .before .before .before .before .before .before .before .before .before .before .before .before .before .before .before .before .before .before .if6) .g) ((c .before .before .before .before .before .before .before .before .before .before .before .before .before .before .before .before .before .before .before .before .before .before .if6) .back) ((c .before .before .before .before .before .before .before .before .before .before .before .before .before .before .before .before .before .act) .result) (backs (c .before .before .before .before .before .before .before .before .before .before .before .before .before .before .before .before .before .before .before .before .before .before)) (tries (c .before .before .before .before .before .before .before .before .before .before .before .before .before .before .before .before .before)) (free (c .before .before .before .before .before .before .before .before .before .before .before .before .before .before .before)) (nexts (c .before .before .before .before .before .before .before .before .before .before .before .before .before .before .before .before .before .before .before .before .before .before))) ((c .before .before .before .put2) .ensures) (no-call (getD ((c .before .before .before .before .before .before .before .before .before .before .before .before .before .before .before .before .before .before .before .before .before .before .before .before .before .before .before .before .before .before .before .before .before .before .before .before .before .before .row) .result) ((c .before .before .before .before .before .before .before .before .before .before .before .before .before .before .before .before .before .before .before .before .before .before .before .before .before .before .before .place) .result) noSlot .node) ((c .before .before .before .before .before .before .before .before .before .before .before .before .before .before .before .before .before .before .before .before .before .before .before .before .before .match) .keys2)) ((c .before .before .before .before .before .before .before .before .before .before .before .before .before .before .before .before .before .before .before .before .before .before .if6) .g) (nexts (c .before .before .before .before .before .before .before .before .before .before .before .before .before .before .before .before .before .before .before .before .before .before)) (nodeAt ((c .before .before .before .before .before .before .before .before .before .before .before .before .before .before .before .before .before .before .before .before .before .before .before .before .before .before .before .before .before .before .before .before .before .before .before .before .before .before .before .before .before .args) .t1) ((frameIn ((c .before .before .before .before .before .before .before .before .before .before .before .before .before .before .before .before .before .before .before .before .before .before .before .before .before .before .before .before .before .before .before .before .before .before .before .before .before .loop) .u .frames) ((c .before .before .before .before .before .before .before .before .before .before .before .before .before .before .before .before .before .before .before .before .before .before .if6) .g)) .proc) ((frameIn ((c .before .before .before .before .before .before .before .before .before .before .before .before .before .before .before .before .before .before .before .before .before .before .before .before .before .before .before .before .before .before .before .before .before .before .before .before .before .loop) .u .frames) ((c .before .before .before .before .before .before .before .before .before .before .before .before .before .before .before .before .before .before .before .before .before .before .if6) .g)) .node)) refl ((c .before .before .before .before .before .before .before .before .before .before .before .before .before .before .before .before .before .act) .result) (acted ((c .before .before .before .before .before .before .before .before .before .before .before .before .before .before .before .before .before .before .before .before .before .before .before .before .before .before .before .before .before .before .before .before .before .before .before .before .before .before .before .before .before .args) .t1) ((c .before .before .before .before .before .before .before .before .before .before .before .before .before .before .before .before .before .before .before .before .before .before .before .before .before .before .before .before .before .before .before .before .before .before .before .before .before .before .before .before .before .args) .t2) ((c .before .before .before .before .before .before .before .before .before .before .before .before .before .before .before .before .before .before .before .before .before .before .before .before .before .before .before .before .before .before .before .before .before .before .before .before .before .before .before .before .before .pre) .0) ((c .before .before .before .before .before .before .before .before .before .before .before .before .before .before .before .before .before .before .before .before .before .before .before .before .before .before .before .before .before .before .before .before .before .before .before .before .before .before .before .before .before .args) .most) ((c .before .before .before .before .before .before .before .before .before .before .before .before .before .before .before .before .before .before .before .before .before .before .before .before .before .before .before .before .before .before .before .before .before .before .before .before .before .before .before .before .before .args) .values .now) ((c .before .before .before .before .before .before .before .before .before .before .before .before .before .before .before .before .before .before .before .before .before .before .before .before .before .before .before .before .before .before .before .before .before .before .before .before .before .loop) .rest .now) ((c .before .before .before .before .before .before .before .before .before .before .before .before .before .before .before .before .before .before .before .before .before .before .before .before .before .before .before .before .before .before .before .before .before .before .before .before .before .loop) .n) ((c .before .before .before .before .before .before .before .before .before .before .before .before .before .before .before .before .before .before .before .before .before .before .before .before .before .before .before .before .before .before .before .before .before .before .before .before .before .loop) .u) ((c .before .before .before .before .before .before .before .before .before .before .before .before .before .before .before .before .before .before .before .before .before .before .before .before .before .before .before .before .before .before .before .before .before .before .before .before .before .loop) .used) ((c .before .before .before .before .before .before .before .before .before .before .before .before .before .before .before .before .before .before .before .before .before .before .before .before .before .before .before .before .before .before .before .before .before .before .before .before .before .loop) .log) ((c .before .before .before .before .before .before .before .before .before .before .before .before .before .before .before .before .before .before .before .before .before .before .before .before .before .before .before .before .before .top-of) .result) (getD ((c .before .before .before .before .before .before .before .before .before .before .before .before .before .before .before .before .before .before .before .before .before .before .before .before .before .before .before .before .before .before .before .before .before .before .before .before .before .before .row) .result) ((c .before .before .before .before .before .before .before .before .before .before .before .before .before .before .before .before .before .before .before .before .before .before .before .before .before .before .before .place) .result) noSlot .node) ((c .before .before .before .before .before .before .before .before .before .before .before .before .before .before .before .before .before .before .before .before .before .before .before .before .beside) .result) (standing (c .before .before .before .before .before .before .before .before .before .before .before .before .before .before .before .before .before .before .before .before .before .before .before .before)) ((c .before .before .before .before .before .before .before .before .before .before .before .before .before .before .before .before .before .before .before .before .before .before .if6) .g) ((c .before .before .before .before .before .before .before .before .before .before .before .before .before .before .before .before .before .before .before .before .before .before .if6) .back) ((c .before .before .before .before .before .before .before .before .before .before .before .before .before .before .before .before .before .act) .result) (backs (c .before .before .before .before .before .before .before .before .before .before .before .before .before .before .before .before .before .before .before .before .before .before)) (tries (c .before .before .before .before .before .before .before .before .before .before .before .before .before .before .before .before .before)) (free (c .before .before .before .before .before .before .before .before .before .before .before .before .before .before .before))) ((c .before .before .before .before .before .before .before .before .before .before .before .before .before .before .before .if7) .left) ((c .before .before .before .before .before .before .before .before .before .before .before .before .set-var) .last .0) ((c .before .before .before .before .before .before .before .before .before .before .before .before .set-var) .ensures ∙ ap (set ((frameIn ((c .before .before .before .before .before .before .before .before .before .before .before .before .before .before .before .before .before .before .before .before .before .before .before .before .before .before .before .before .before .before .before .before .before .before .before .before .before .loop) .u .frames) ((c .before .before .before .before .before .before .before .before .before .before .before .before .before .before .before .before .before .before .before .before .before .before .if6) .g)) .vars) ((c .before .before .before .before .before .before .before .before .before .before .before .before .before .before .before .before .before .act) .result .var)) (toZ-ofZ {w = w32} (record { sfits = (c .before .before .before .before .before .before .before .before .before .before .before .before .before .struct-told) .given .1 .1 .0 .1 }))) ((c .before .before .before .before .before .before .before .before .before .if8) .z) ((c .before .before .before .before .before .before .before .before .before .before .before .loop2) .fv) (λ mm. (c .before .before .before .before .before .before .before .before .before .before .before .loop2) .inv .0 mm ∙ ends (c .before .before .before .before .before .before .before .before .before) .is mm) ((c .before .before .before .before .before .before .if12) .u) (w .1 .result) (w .4 .result) (w .1 .ensures) (w .4 .ensures ∙ ap (queueAfter (entriesAt ((c .before .before .before .before .before .before .before .before .before .before .before .before .before .before .before .before .before .before .before .before .before .before .before .before .before .before .before .before .before .before .before .before .before .before .before .before .before .loop) .u .queues) ((c .before .before .before .before .before .before .before .before .before .before .before .before .before .before .before .before .before .before .before .before .before .before .before .before .beside) .result .queue)) ((c .before .before .before .before .before .before .before .before .before .before .before .before .before .before .before .before .before .before .before .before .before .before .before .before .beside) .result .how)) (toZ-ofZ {w = w32} (record { sfits = w .3 .given .1 .1 .0 .1 }))) (w .5))
-    (λ w. most-is ((c .before .before .before .before .before .before .before .before .before .before .before .before .before .before .before .before .before .before .before .before .before .before .before .before .before .before .before .before .before .before .before .before .before .before .before .before .before .before .before .before .before .args) .t1) ((c .before .before .before .before .before .before .before .before .before .before .before .before .before .before .before .before .before .before .before .before .before .before .before .before .before .before .before .before .before .before .before .before .before .before .before .before .before .before .before .before .before .args) .t2) ((c .before .before .before .before .before .before .before .before .before .before .before .before .before .before .before .before .before .before .before .before .before .before .before .before .before .before .before .before .before .before .before .before .before .before .before .before .before .before .before .before .before .pre) .0) ((c .before .before .before .before .before .before .before .before .before .before .before .before .before .before .before .before .before .before .before .before .before .before .before .before .before .before .before .before .before .before .before .before .before .before .before .before .before .before .before .before .before .args) .most) ((c .before .before .before .before .before .before .before .before .before .before .before .before .before .before .before .before .before .before .before .before .before .before .before .before .before .before .before .before .before .before .before .before .before .before .before .before .before .before .before .before .before .args) .values .now) ((c .before .before .before .before .before .before .before .before .before .before .before .before .before .before .before .before .before .before .before .before .before .before .before .before .before .before .before .before .before .before .before .before .before .before .before .before .before .loop) .rest .now) ((c .before .before .before .before .before .before .before .before .before .before .before .before .before .before .before .before .before .before .before .before .before .before .before .before .before .before .before .before .before .before .before .before .before .before .before .before .before .loop) .n) ((c .before .before .before .before .before .before .before .before .before .before .before .before .before .before .before .before .before .before .before .before .before .before .before .before .before .before .before .before .before .before .before .before .before .before .before .before .before .loop) .u) ((c .before .before .before .before .before .before .before .before .before .before .before .before .before .before .before .before .before .before .before .before .before .before .before .before .before .before .before .before .before .before .before .before .before .before .before .before .before .loop) .used) ((c .before .before .before .before .before .before .before .before .before .before .before .before .before .before .before .before .before .before .before .before .before .before .before .before .before .before .before .before .before .before .before .before .before .before .before .before .before .loop) .log) ((c .before .before .before .before .before .before .before .before .before .before .before .before .before .before .before .before .before .before .before .before .before .before .before .before .before .before .before .before .before .top-of) .result) (getD ((c .before .before .before .before .before .before .before .before .before .before .before .before .before .before .before .before .before .before .before .before .before .before .before .before .before .before .before .before .before .before .before .before .before .before .before .before .before .before .row) .result) ((c .before .before .before .before .before .before .before .before .before .before .before .before .before .before .before .before .before .before .before .before .before .before .before .before .before .before .before .place) .result) noSlot .node) ((c .before .before .before .before .before .before .before .before .before .before .before .before .before .before .before .before .before .before .before .before .before .before .before .before .beside) .result) (standing (c .before .before .before .before .before .before .before .before .before .before .before .before .before .before .before .before .before .before .before .before .before .before .before .before)) (free (c .before .before .before .before .before .before .before .before .before .before .before .before .before .before .before)) ((c .before .before .before .put2) .last .0) (showing ((c .before .before .before .before .before .before .before .before .before .before .before .before .before .before .before .before .before .act) .result .flag) ((c .before .before .before .before .before .before .before .before .before .before .before .before .before .before .before .before .before .act) .result .bits)) (logs ((c .before .before .before .before .before .before .before .before .before .before .before .before .before .before .before .before .before .before .before .before .before .before .before .before .before .before .before .before .before .before .before .before .before .before .before .before .before .before .before .before .before .args) .t1) ((c .before .before .before .before .before .before .before .before .before .before .before .before .before .before .before .before .before .before .before .before .before .before .before .before .before .before .before .before .before .before .before .before .before .before .before .before .before .before .before .before .before .args) .t2) ((c .before .before .before .before .before .before .before .before .before .before .before .before .before .before .before .before .before .before .before .before .before .before .before .before .before .before .before .before .before .before .before .before .before .before .before .before .before .before .before .before .before .pre) .0) ((c .before .before .before .before .before .before .before .before .before .before .before .before .before .before .before .before .before .before .before .before .before .before .before .before .before .before .before .before .before .before .before .before .before .before .before .before .before .before .before .before .before .args) .most) ((c .before .before .before .before .before .before .before .before .before .before .before .before .before .before .before .before .before .before .before .before .before .before .before .before .before .before .before .before .before .before .before .before .before .before .before .before .before .before .before .before .before .args) .values .now) ((c .before .before .before .before .before .before .before .before .before .before .before .before .before .before .before .before .before .before .before .before .before .before .before .before .before .before .before .before .before .before .before .before .before .before .before .before .before .loop) .rest .now) ((c .before .before .before .before .before .before .before .before .before .before .before .before .before .before .before .before .before .before .before .before .before .before .before .before .before .before .before .before .before .before .before .before .before .before .before .before .before .loop) .n) ((c .before .before .before .before .before .before .before .before .before .before .before .before .before .before .before .before .before .before .before .before .before .before .before .before .before .before .before .before .before .before .before .before .before .before .before .before .before .loop) .u) ((c .before .before .before .before .before .before .before .before .before .before .before .before .before .before .before .before .before .before .before .before .before .before .before .before .before .before .before .before .before .before .before .before .before .before .before .before .before .loop) .used) ((c .before .before .before .before .before .before .before .before .before .before .before .before .before .before .before .before .before .before .before .before .before .before .before .before .before .before .before .before .before .before .before .before .before .before .before .before .before .loop) .log) ((c .before .before .before .before .before .before .before .before .before .before .before .before .before .before .before .before .before .before .before .before .before .before .before .before .before .before .before .before .before .top-of) .result) (getD ((c .before .before .before .before .before .before .before .before .before .before .before .before .before .before .before .before .before .before .before .before .before .before .before .before .before .before .before .before .before .before .before .before .before .before .before .before .before .before .row) .result) ((c .before .before .before .before .before .before .before .before .before .before .before .before .before .before .before .before .before .before .before .before .before .before .before .before .before .before .before .place) .result) noSlot .node) ((c .before .before .before .before .before .before .before .before .before .before .before .before .before .before .before .before .before .before .before .before .before .before .before .before .beside) .result) (standing (c .before .before .before .before .before .before .before .before .before .before .before .before .before .before .before .before .before .before .before .before .before .before .before .before)) ((c .before .before .before .before .before .before .before .before .before .before .before .before .before .before .before .before .before .before .before .before .before .before .if6) .g) ((c .before .before .before .before .before .before .before .before .before .before .before .before .before .before .before .before .before .before .before .before .before .before .if6) .back) ((c .before .before .before .before .before .before .before .before .before .before .before .before .before .before .before .before .before .act) .result) (backs (c .before .before .before .before .before .before .before .before .before .before .before .before .before .before .before .before .before .before .before .before .before .before)) (tries (c .before .before .before .before .before .before .before .before .before .before .before .before .before .before .before .before .before)) (free (c .before .before .before .before .before .before .before .before .before .before .before .before .before .before .before)) (nexts (c .before .before .before .before .before .before .before .before .before .before .before .before .before .before .before .before .before .before .before .before .before .before))) ((c .before .before .before .put2) .ensures) (no-call (getD ((c .before .before .before .before .before .before .before .before .before .before .before .before .before .before .before .before .before .before .before .before .before .before .before .before .before .before .before .before .before .before .before .before .before .before .before .before .before .before .row) .result) ((c .before .before .before .before .before .before .before .before .before .before .before .before .before .before .before .before .before .before .before .before .before .before .before .before .before .before .before .place) .result) noSlot .node) ((c .before .before .before .before .before .before .before .before .before .before .before .before .before .before .before .before .before .before .before .before .before .before .before .before .before .match) .keys2)) ((c .before .before .before .before .before .before .before .before .before .before .before .before .before .before .before .before .before .before .before .before .before .before .if6) .g) (nexts (c .before .before .before .before .before .before .before .before .before .before .before .before .before .before .before .before .before .before .before .before .before .before)) (nodeAt ((c .before .before .before .before .before .before .before .before .before .before .before .before .before .before .before .before .before .before .before .before .before .before .before .before .before .before .before .before .before .before .before .before .before .before .before .before .before .before .before .before .before .args) .t1) ((frameIn ((c .before .before .before .before .before .before .before .before .before .before .before .before .before .before .before .before .before .before .before .before .before .before .before .before .before .before .before .before .before .before .before .before .before .before .before .before .before .loop) .u .frames) ((c .before .before .before .before .before .before .before .before .before .before .before .before .before .before .before .before .before .before .before .before .before .before .if6) .g)) .proc) ((frameIn ((c .before .before .before .before .before .before .before .before .before .before .before .before .before .before .before .before .before .before .before .before .before .before .before .before .before .before .before .before .before .before .before .before .before .before .before .before .before .loop) .u .frames) ((c .before .before .before .before .before .before .before .before .before .before .before .before .before .before .before .before .before .before .before .before .before .before .if6) .g)) .node)) refl ((c .before .before .before .before .before .before .before .before .before .before .before .before .before .before .before .before .before .act) .result) (acted ((c .before .before .before .before .before .before .before .before .before .before .before .before .before .before .before .before .before .before .before .before .before .before .before .before .before .before .before .before .before .before .before .before .before .before .before .before .before .before .before .before .before .args) .t1) ((c .before .before .before .before .before .before .before .before .before .before .before .before .before .before .before .before .before .before .before .before .before .before .before .before .before .before .before .before .before .before .before .before .before .before .before .before .before .before .before .before .before .args) .t2) ((c .before .before .before .before .before .before .before .before .before .before .before .before .before .before .before .before .before .before .before .before .before .before .before .before .before .before .before .before .before .before .before .before .before .before .before .before .before .before .before .before .before .pre) .0) ((c .before .before .before .before .before .before .before .before .before .before .before .before .before .before .before .before .before .before .before .before .before .before .before .before .before .before .before .before .before .before .before .before .before .before .before .before .before .before .before .before .before .args) .most) ((c .before .before .before .before .before .before .before .before .before .before .before .before .before .before .before .before .before .before .before .before .before .before .before .before .before .before .before .before .before .before .before .before .before .before .before .before .before .before .before .before .before .args) .values .now) ((c .before .before .before .before .before .before .before .before .before .before .before .before .before .before .before .before .before .before .before .before .before .before .before .before .before .before .before .before .before .before .before .before .before .before .before .before .before .loop) .rest .now) ((c .before .before .before .before .before .before .before .before .before .before .before .before .before .before .before .before .before .before .before .before .before .before .before .before .before .before .before .before .before .before .before .before .before .before .before .before .before .loop) .n) ((c .before .before .before .before .before .before .before .before .before .before .before .before .before .before .before .before .before .before .before .before .before .before .before .before .before .before .before .before .before .before .before .before .before .before .before .before .before .loop) .u) ((c .before .before .before .before .before .before .before .before .before .before .before .before .before .before .before .before .before .before .before .before .before .before .before .before .before .before .before .before .before .before .before .before .before .before .before .before .before .loop) .used) ((c .before .before .before .before .before .before .before .before .before .before .before .before .before .before .before .before .before .before .before .before .before .before .before .before .before .before .before .before .before .before .before .before .before .before .before .before .before .loop) .log) ((c .before .before .before .before .before .before .before .before .before .before .before .before .before .before .before .before .before .before .before .before .before .before .before .before .before .before .before .before .before .top-of) .result) (getD ((c .before .before .before .before .before .before .before .before .before .before .before .before .before .before .before .before .before .before .before .before .before .before .before .before .before .before .before .before .before .before .before .before .before .before .before .before .before .before .row) .result) ((c .before .before .before .before .before .before .before .before .before .before .before .before .before .before .before .before .before .before .before .before .before .before .before .before .before .before .before .place) .result) noSlot .node) ((c .before .before .before .before .before .before .before .before .before .before .before .before .before .before .before .before .before .before .before .before .before .before .before .before .beside) .result) (standing (c .before .before .before .before .before .before .before .before .before .before .before .before .before .before .before .before .before .before .before .before .before .before .before .before)) ((c .before .before .before .before .before .before .before .before .before .before .before .before .before .before .before .before .before .before .before .before .before .before .if6) .g) ((c .before .before .before .before .before .before .before .before .before .before .before .before .before .before .before .before .before .before .before .before .before .before .if6) .back) ((c .before .before .before .before .before .before .before .before .before .before .before .before .before .before .before .before .before .act) .result) (backs (c .before .before .before .before .before .before .before .before .before .before .before .before .before .before .before .before .before .before .before .before .before .before)) (tries (c .before .before .before .before .before .before .before .before .before .before .before .before .before .before .before .before .before)) (free (c .before .before .before .before .before .before .before .before .before .before .before .before .before .before .before))) ((c .before .before .before .before .before .before .before .before .before .before .before .before .before .before .before .if7) .left) ((c .before .before .before .before .before .before .before .before .before .before .before .before .set-var) .last .0) ((c .before .before .before .before .before .before .before .before .before .before .before .before .set-var) .ensures ∙ ap (set ((frameIn ((c .before .before .before .before .before .before .before .before .before .before .before .before .before .before .before .before .before .before .before .before .before .before .before .before .before .before .before .before .before .before .before .before .before .before .before .before .before .loop) .u .frames) ((c .before .before .before .before .before .before .before .before .before .before .before .before .before .before .before .before .before .before .before .before .before .before .if6) .g)) .vars) ((c .before .before .before .before .before .before .before .before .before .before .before .before .before .before .before .before .before .act) .result .var)) (toZ-ofZ {w = w32} (record { sfits = (c .before .before .before .before .before .before .before .before .before .before .before .before .before .struct-told) .given .1 .1 .0 .1 }))) ((c .before .before .before .before .before .before .before .before .before .if8) .z) ((c .before .before .before .before .before .before .before .before .before .before .before .loop2) .fv) (λ mm. (c .before .before .before .before .before .before .before .before .before .before .before .loop2) .inv .0 mm ∙ ends (c .before .before .before .before .before .before .before .before .before) .is mm) ((c .before .before .before .before .before .before .if12) .u) (w .0 .left) (w .1))
-    ((c .before .before .before .before .before .before .if12) .came) in (
-      (c .before .before .before .before .before .before .before .before .before .before .before .before .before .before .before .before .before .before .before .before .before .before .before .before .before .before .before .before .before .before .before .before .before .before .before .before .before .loop) .inv .0 ∙ turn-walks ((c .before .before .before .before .before .before .before .before .before .before .before .before .before .before .before .before .before .before .before .before .before .before .before .before .before .before .before .before .before .before .before .before .before .before .before .before .before .before .before .before .before .args) .t1) ((c .before .before .before .before .before .before .before .before .before .before .before .before .before .before .before .before .before .before .before .before .before .before .before .before .before .before .before .before .before .before .before .before .before .before .before .before .before .before .before .before .before .args) .t2) ((c .before .before .before .before .before .before .before .before .before .before .before .before .before .before .before .before .before .before .before .before .before .before .before .before .before .before .before .before .before .before .before .before .before .before .before .before .before .before .before .before .before .pre) .0) ((c .before .before .before .before .before .before .before .before .before .before .before .before .before .before .before .before .before .before .before .before .before .before .before .before .before .before .before .before .before .before .before .before .before .before .before .before .before .before .before .before .before .args) .most) ((c .before .before .before .before .before .before .before .before .before .before .before .before .before .before .before .before .before .before .before .before .before .before .before .before .before .before .before .before .before .before .before .before .before .before .before .before .before .before .before .before .before .args) .values .now) ((c .before .before .before .before .before .before .before .before .before .before .before .before .before .before .before .before .before .before .before .before .before .before .before .before .before .before .before .before .before .before .before .before .before .before .before .before .before .loop) .rest .now) ((c .before .before .before .before .before .before .before .before .before .before .before .before .before .before .before .before .before .before .before .before .before .before .before .before .before .before .before .before .before .before .before .before .before .before .before .before .before .loop) .n) ((c .before .before .before .before .before .before .before .before .before .before .before .before .before .before .before .before .before .before .before .before .before .before .before .before .before .before .before .before .before .before .before .before .before .before .before .before .before .loop) .u) ((c .before .before .before .before .before .before .before .before .before .before .before .before .before .before .before .before .before .before .before .before .before .before .before .before .before .before .before .before .before .before .before .before .before .before .before .before .before .loop) .used) ((c .before .before .before .before .before .before .before .before .before .before .before .before .before .before .before .before .before .before .before .before .before .before .before .before .before .before .before .before .before .before .before .before .before .before .before .before .before .loop) .log) ((c .before .before .before .before .before .before .before .before .before .before .before .before .before .before .before .before .before .before .before .before .before .before .before .before .before .before .before .before .before .top-of) .result) (getD ((c .before .before .before .before .before .before .before .before .before .before .before .before .before .before .before .before .before .before .before .before .before .before .before .before .before .before .before .before .before .before .before .before .before .before .before .before .before .before .row) .result) ((c .before .before .before .before .before .before .before .before .before .before .before .before .before .before .before .before .before .before .before .before .before .before .before .before .before .before .before .place) .result) noSlot .node) ((c .before .before .before .before .before .before .before .before .before .before .before .before .before .before .before .before .before .before .before .before .before .before .before .before .beside) .result) (standing (c .before .before .before .before .before .before .before .before .before .before .before .before .before .before .before .before .before .before .before .before .before .before .before .before)) (free (c .before .before .before .before .before .before .before .before .before .before .before .before .before .before .before)) ((c .before .before .before .put2) .last .0) (showing ((c .before .before .before .before .before .before .before .before .before .before .before .before .before .before .before .before .before .act) .result .flag) ((c .before .before .before .before .before .before .before .before .before .before .before .before .before .before .before .before .before .act) .result .bits)) (logs ((c .before .before .before .before .before .before .before .before .before .before .before .before .before .before .before .before .before .before .before .before .before .before .before .before .before .before .before .before .before .before .before .before .before .before .before .before .before .before .before .before .before .args) .t1) ((c .before .before .before .before .before .before .before .before .before .before .before .before .before .before .before .before .before .before .before .before .before .before .before .before .before .before .before .before .before .before .before .before .before .before .before .before .before .before .before .before .before .args) .t2) ((c .before .before .before .before .before .before .before .before .before .before .before .before .before .before .before .before .before .before .before .before .before .before .before .before .before .before .before .before .before .before .before .before .before .before .before .before .before .before .before .before .before .pre) .0) ((c .before .before .before .before .before .before .before .before .before .before .before .before .before .before .before .before .before .before .before .before .before .before .before .before .before .before .before .before .before .before .before .before .before .before .before .before .before .before .before .before .before .args) .most) ((c .before .before .before .before .before .before .before .before .before .before .before .before .before .before .before .before .before .before .before .before .before .before .before .before .before .before .before .before .before .before .before .before .before .before .before .before .before .before .before .before .before .args) .values .now) ((c .before .before .before .before .before .before .before .before .before .before .before .before .before .before .before .before .before .before .before .before .before .before .before .before .before .before .before .before .before .before .before .before .before .before .before .before .before .loop) .rest .now) ((c .before .before .before .before .before .before .before .before .before .before .before .before .before .before .before .before .before .before .before .before .before .before .before .before .before .before .before .before .before .before .before .before .before .before .before .before .before .loop) .n) ((c .before .before .before .before .before .before .before .before .before .before .before .before .before .before .before .before .before .before .before .before .before .before .before .before .before .before .before .before .before .before .before .before .before .before .before .before .before .loop) .u) ((c .before .before .before .before .before .before .before .before .before .before .before .before .before .before .before .before .before .before .before .before .before .before .before .before .before .before .before .before .before .before .before .before .before .before .before .before .before .loop) .used) ((c .before .before .before .before .before .before .before .before .before .before .before .before .before .before .before .before .before .before .before .before .before .before .before .before .before .before .before .before .before .before .before .before .before .before .before .before .before .loop) .log) ((c .before .before .before .before .before .before .before .before .before .before .before .before .before .before .before .before .before .before .before .before .before .before .before .before .before .before .before .before .before .top-of) .result) (getD ((c .before .before .before .before .before .before .before .before .before .before .before .before .before .before .before .before .before .before .before .before .before .before .before .before .before .before .before .before .before .before .before .before .before .before .before .before .before .before .row) .result) ((c .before .before .before .before .before .before .before .before .before .before .before .before .before .before .before .before .before .before .before .before .before .before .before .before .before .before .before .place) .result) noSlot .node) ((c .before .before .before .before .before .before .before .before .before .before .before .before .before .before .before .before .before .before .before .before .before .before .before .before .beside) .result) (standing (c .before .before .before .before .before .before .before .before .before .before .before .before .before .before .before .before .before .before .before .before .before .before .before .before)) ((c .before .before .before .before .before .before .before .before .before .before .before .before .before .before .before .before .before .before .before .before .before .before .if6) .g) ((c .before .before .before .before .before .before .before .before .before .before .before .before .before .before .before .before .before .before .before .before .before .before .if6) .back) ((c .before .before .before .before .before .before .before .before .before .before .before .before .before .before .before .before .before .act) .result) (backs (c .before .before .before .before .before .before .before .before .before .before .before .before .before .before .before .before .before .before .before .before .before .before)) (tries (c .before .before .before .before .before .before .before .before .before .before .before .before .before .before .before .before .before)) (free (c .before .before .before .before .before .before .before .before .before .before .before .before .before .before .before)) (nexts (c .before .before .before .before .before .before .before .before .before .before .before .before .before .before .before .before .before .before .before .before .before .before))) ((c .before .before .before .put2) .ensures) (no-call (getD ((c .before .before .before .before .before .before .before .before .before .before .before .before .before .before .before .before .before .before .before .before .before .before .before .before .before .before .before .before .before .before .before .before .before .before .before .before .before .before .row) .result) ((c .before .before .before .before .before .before .before .before .before .before .before .before .before .before .before .before .before .before .before .before .before .before .before .before .before .before .before .place) .result) noSlot .node) ((c .before .before .before .before .before .before .before .before .before .before .before .before .before .before .before .before .before .before .before .before .before .before .before .before .before .match) .keys2)) ((c .before .before .before .before .before .before .before .before .before .before .before .before .before .before .before .before .before .before .before .before .before .before .if6) .g) (nexts (c .before .before .before .before .before .before .before .before .before .before .before .before .before .before .before .before .before .before .before .before .before .before)) (nodeAt ((c .before .before .before .before .before .before .before .before .before .before .before .before .before .before .before .before .before .before .before .before .before .before .before .before .before .before .before .before .before .before .before .before .before .before .before .before .before .before .before .before .before .args) .t1) ((frameIn ((c .before .before .before .before .before .before .before .before .before .before .before .before .before .before .before .before .before .before .before .before .before .before .before .before .before .before .before .before .before .before .before .before .before .before .before .before .before .loop) .u .frames) ((c .before .before .before .before .before .before .before .before .before .before .before .before .before .before .before .before .before .before .before .before .before .before .if6) .g)) .proc) ((frameIn ((c .before .before .before .before .before .before .before .before .before .before .before .before .before .before .before .before .before .before .before .before .before .before .before .before .before .before .before .before .before .before .before .before .before .before .before .before .before .loop) .u .frames) ((c .before .before .before .before .before .before .before .before .before .before .before .before .before .before .before .before .before .before .before .before .before .before .if6) .g)) .node)) refl ((c .before .before .before .before .before .before .before .before .before .before .before .before .before .before .before .before .before .act) .result) (acted ((c .before .before .before .before .before .before .before .before .before .before .before .before .before .before .before .before .before .before .before .before .before .before .before .before .before .before .before .before .before .before .before .before .before .before .before .before .before .before .before .before .before .args) .t1) ((c .before .before .before .before .before .before .before .before .before .before .before .before .before .before .before .before .before .before .before .before .before .before .before .before .before .before .before .before .before .before .before .before .before .before .before .before .before .before .before .before .before .args) .t2) ((c .before .before .before .before .before .before .before .before .before .before .before .before .before .before .before .before .before .before .before .before .before .before .before .before .before .before .before .before .before .before .before .before .before .before .before .before .before .before .before .before .before .pre) .0) ((c .before .before .before .before .before .before .before .before .before .before .before .before .before .before .before .before .before .before .before .before .before .before .before .before .before .before .before .before .before .before .before .before .before .before .before .before .before .before .before .before .before .args) .most) ((c .before .before .before .before .before .before .before .before .before .before .before .before .before .before .before .before .before .before .before .before .before .before .before .before .before .before .before .before .before .before .before .before .before .before .before .before .before .before .before .before .before .args) .values .now) ((c .before .before .before .before .before .before .before .before .before .before .before .before .before .before .before .before .before .before .before .before .before .before .before .before .before .before .before .before .before .before .before .before .before .before .before .before .before .loop) .rest .now) ((c .before .before .before .before .before .before .before .before .before .before .before .before .before .before .before .before .before .before .before .before .before .before .before .before .before .before .before .before .before .before .before .before .before .before .before .before .before .loop) .n) ((c .before .before .before .before .before .before .before .before .before .before .before .before .before .before .before .before .before .before .before .before .before .before .before .before .before .before .before .before .before .before .before .before .before .before .before .before .before .loop) .u) ((c .before .before .before .before .before .before .before .before .before .before .before .before .before .before .before .before .before .before .before .before .before .before .before .before .before .before .before .before .before .before .before .before .before .before .before .before .before .loop) .used) ((c .before .before .before .before .before .before .before .before .before .before .before .before .before .before .before .before .before .before .before .before .before .before .before .before .before .before .before .before .before .before .before .before .before .before .before .before .before .loop) .log) ((c .before .before .before .before .before .before .before .before .before .before .before .before .before .before .before .before .before .before .before .before .before .before .before .before .before .before .before .before .before .top-of) .result) (getD ((c .before .before .before .before .before .before .before .before .before .before .before .before .before .before .before .before .before .before .before .before .before .before .before .before .before .before .before .before .before .before .before .before .before .before .before .before .before .before .row) .result) ((c .before .before .before .before .before .before .before .before .before .before .before .before .before .before .before .before .before .before .before .before .before .before .before .before .before .before .before .place) .result) noSlot .node) ((c .before .before .before .before .before .before .before .before .before .before .before .before .before .before .before .before .before .before .before .before .before .before .before .before .beside) .result) (standing (c .before .before .before .before .before .before .before .before .before .before .before .before .before .before .before .before .before .before .before .before .before .before .before .before)) ((c .before .before .before .before .before .before .before .before .before .before .before .before .before .before .before .before .before .before .before .before .before .before .if6) .g) ((c .before .before .before .before .before .before .before .before .before .before .before .before .before .before .before .before .before .before .before .before .before .before .if6) .back) ((c .before .before .before .before .before .before .before .before .before .before .before .before .before .before .before .before .before .act) .result) (backs (c .before .before .before .before .before .before .before .before .before .before .before .before .before .before .before .before .before .before .before .before .before .before)) (tries (c .before .before .before .before .before .before .before .before .before .before .before .before .before .before .before .before .before)) (free (c .before .before .before .before .before .before .before .before .before .before .before .before .before .before .before))) ((c .before .before .before .before .before .before .before .before .before .before .before .before .before .before .before .if7) .left) ((c .before .before .before .before .before .before .before .before .before .before .before .before .set-var) .last .0) ((c .before .before .before .before .before .before .before .before .before .before .before .before .set-var) .ensures ∙ ap (set ((frameIn ((c .before .before .before .before .before .before .before .before .before .before .before .before .before .before .before .before .before .before .before .before .before .before .before .before .before .before .before .before .before .before .before .before .before .before .before .before .before .loop) .u .frames) ((c .before .before .before .before .before .before .before .before .before .before .before .before .before .before .before .before .before .before .before .before .before .before .if6) .g)) .vars) ((c .before .before .before .before .before .before .before .before .before .before .before .before .before .before .before .before .before .act) .result .var)) (toZ-ofZ {w = w32} (record { sfits = (c .before .before .before .before .before .before .before .before .before .before .before .before .before .struct-told) .given .1 .1 .0 .1 }))) ((c .before .before .before .before .before .before .before .before .before .if8) .z) ((c .before .before .before .before .before .before .before .before .before .before .before .loop2) .fv) (λ mm. (c .before .before .before .before .before .before .before .before .before .before .before .loop2) .inv .0 mm ∙ ends (c .before .before .before .before .before .before .before .before .before) .is mm) ((c .before .before .before .before .before .before .if12) .u) st ((frameIn ((c .before .before .before .before .before .before .before .before .before .before .before .before .before .before .before .before .before .before .before .before .before .before .before .before .before .before .before .before .before .before .before .before .before .before .before .before .before .loop) .u .frames) ((c .before .before .before .before .before .before .before .before .before .before .before .before .before .before .before .before .before .before .before .before .before .before .if6) .g)) .proc) refl ((c .before .before .before .before .before .before .before .if11) .left) (en .gone),
+    let ps = puts (c .before .before .before) in
+    let en = ends (c .before .before .before .before .before .before .before .before .before .before .before .before .before .before .before .before .before .before .before .before .before) in
+    let ln : length ((c .before .before .before .put2) .last .0) ≡ length ((c .before .before .before .before .before .before .before .before .before .before .before .before .before .before .before .before .before .before .before .before .before .before .before .before .before .before .before .before .before .before .before .before .before .before .before .before .before .before .before .before .before .before .before .before .before .loop) .log) = ap length ps ∙ length-sets ((c .before .before .before .before .before .before .before .before .before .before .before .before .before .before .before .before .before .before .before .before .before .before .before .before .before .before .before .before .before .before .before .before .before .before .before .before .before .before .before .before .before .before .before .before .before .loop) .log) (8 * (c .before .before .before .before .before .before .before .before .before .before .before .before .before .before .before .before .before .before .before .before .before .before .before .before .before .before .before .before .before .before .before .before .before .before .before .before .before .before .before .before .before .before .before .before .before .loop) .n) ((getD ((c .before .before .before .before .before .before .before .before .before .before .before .before .before .before .before .before .before .before .before .before .before .before .before .before .before .before .before .before .before .before .before .before .before .before .before .before .before .before .before .before .before .before .before .before .before .loop) .rest .now) 0 0) ∷ frameIn (framesOf ((c .before .before .before .before .before .before .before .before .before .before .before .before .before .before .before .before .before .before .before .before .before .before .before .before .before .before .before .before .before .before .before .before .before .before .before .before .before .before .before .before .before .before .before .before .before .loop) .procs) ((c .before .before .before .before .before .before .before .before .before .before .before .before .before .before .before .before .before .before .before .before .before .before .before .before .before .before .before .before .before .before .before .before .before .before .before .before .before .before .before .before .before .before .before .before .before .loop) .nodes) ((c .before .before .before .before .before .before .before .before .before .before .before .before .before .before .before .before .before .before .before .before .before .before .before .before .before .before .before .before .before .before .before .before .before .before .before .before .before .before .before .before .before .before .before .before .before .loop) .vars)) ((c .before .before .before .before .before .before .before .before .before .before .before .before .before .before .before .before .before .before .before .before .before .before .before .before .before .before .before .before .before .before .before .before .before .before .before .before .before .before .top-of) .result) .proc ∷ frameIn (framesOf ((c .before .before .before .before .before .before .before .before .before .before .before .before .before .before .before .before .before .before .before .before .before .before .before .before .before .before .before .before .before .before .before .before .before .before .before .before .before .before .before .before .before .before .before .before .before .loop) .procs) ((c .before .before .before .before .before .before .before .before .before .before .before .before .before .before .before .before .before .before .before .before .before .before .before .before .before .before .before .before .before .before .before .before .before .before .before .before .before .before .before .before .before .before .before .before .before .loop) .nodes) ((c .before .before .before .before .before .before .before .before .before .before .before .before .before .before .before .before .before .before .before .before .before .before .before .before .before .before .before .before .before .before .before .before .before .before .before .before .before .before .before .before .before .before .before .before .before .loop) .vars)) ((c .before .before .before .before .before .before .before .before .before .before .before .before .before .before .before .before .before .before .before .before .before .before .before .before .before .before .before .before .before .before .before .before .before .before .before .before .before .before .top-of) .result) .node ∷ (flagOf ((c .before .before .before .before .before .before .before .before .before .before .before .before .before .before .before .before .before .before .before .before .before .before .before .before .before .before .act) .result .how) ∷ word (bitsOf ((c .before .before .before .before .before .before .before .before .before .before .before .before .before .before .before .before .before .before .before .before .before .before .before .before .before .before .act) .result .how) ((c .before .before .before .before .before .before .before .before .before .before .before .before .before .before .before .before .before .before .before .before .before .before .before .before .before .before .act) .result .value)))) in
+    let es = sym ((c .before .before .before .before .before .before .before .before .affect) .ensures .0) in
+    let el = sym ((c .before .before .before .before .before .before .before .before .affect) .ensures .1 .0) in
+    let ei = sym ((c .before .before .before .before .before .before .before .before .affect) .ensures .1 .1 ∙ ap (λ (x : ℤ). itemsAfter ((c .before .before .before .before .before .before .before .before .before .before .before .before .before .before .before .before .before .before .before .before .before .before .before .before .before .before .before .before .before .before .before .before .before .before .before .before .before .before .before .before .before .before .before .before .before .loop) .items) ((c .before .before .before .before .before .before .before .before .before .before .before .before .before .before .before .before .before .before .before .before .before .before .before .before .before .before .before .before .before .before .before .before .before .before .before .before .before .before .before .before .before .before .before .before .before .loop) .lens) ((c .before .before .before .before .before .before .before .before .before .before .before .before .before .before .before .before .before .before .before .before .before .before .before .before .before .before .act) .result .how) ((c .before .before .before .before .before .before .before .before .before .before .before .before .before .before .before .before .before .before .before .before .before .before .before .before .before .before .act) .result .at) x) (toZ-ofZ {w = w32} (record { sfits = (c .before .before .before .before .before .before .before .before .before .struct-told4) .given .1 .1 .0 .1 }))) in
+    let ed = sym ((c .before .before .before .before .before .before .before .before .before .before .before .before .before .before .before .before .before .before .before .before .before .before .before .before .before .before .before .before .before .before .before .before .before .before .closes) .ensures) in
+    let ep = sym (proc-in ((c .before .before .before .before .before .before .before .before .before .before .before .before .before .before .before .before .before .before .before .before .before .before .before .before .before .before .before .before .before .before .before .before .before .before .before .before .before .before .before .before .before .before .before .before .before .loop) .inv .1 .1 .0) ((c .before .before .before .before .before .before .before .before .before .before .before .before .before .before .before .before .before .before .before .before .before .before .before .before .before .before .before .before .before .before .before .before .before .if6) .g)) in
+    let fe = (λ i. set (set (framesOf ((c .before .before .before .before .before .before .before .before .before .before .before .before .before .before .before .before .before .before .before .before .before .before .before .before .before .before .before .before .before .before .before .before .before .before .before .before .before .before .before .before .before .before .before .before .before .loop) .procs) ((c .before .before .before .before .before .before .before .before .before .before .before .before .before .before .before .before .before .before .before .before .before .before .before .before .before .before .before .before .before .before .before .before .before .before .before .before .before .before .before .before .before .before .before .before .before .loop) .nodes) ((c .before .before .before .before .before .before .before .before .before .before .before .before .before .before .before .before .before .before .before .before .before .before .before .before .before .before .before .before .before .before .before .before .before .before .before .before .before .before .before .before .before .before .before .before .before .loop) .vars)) ((c .before .before .before .before .before .before .before .before .before .before .before .before .before .before .before .before .before .before .before .before .before .before .before .before .before .before .before .before .before .before .before .before .before .before .before .before .before .before .top-of) .result) (record { proc = 0; node = 0; vars = ((c .before .before .before .before .before .before .before .before .before .before .before .before .before .before .before .before .before .clear) .last .0) })) ((c .before .before .before .before .before .before .before .before .before .before .before .before .before .before .before .before .before .before .before .before .before .before .before .before .before .before .before .before .before .before .before .before .before .if6) .g) (record { proc = ep i; node = ((c .before .before .before .before .before .before .before .before .before .before .before .before .before .before .before .before .before .before .before .before .before .if8) .z .node); vars = ((c .before .before .before .before .before .before .before .before .before .before .before .before .before .settle) .last .0) })) ∙ sym (frames-after ((c .before .before .before .before .before .before .before .before .before .before .before .before .before .before .before .before .before .before .before .before .before .before .before .before .before .before .before .before .before .before .before .before .before .before .before .before .before .before .before .before .before .before .before .before .before .loop) .procs) ((c .before .before .before .before .before .before .before .before .before .before .before .before .before .before .before .before .before .before .before .before .before .before .before .before .before .before .before .before .before .before .before .before .before .before .before .before .before .before .before .before .before .before .before .before .before .loop) .nodes) ((c .before .before .before .before .before .before .before .before .before .before .before .before .before .before .before .before .before .before .before .before .before .before .before .before .before .before .before .before .before .before .before .before .before .before .before .before .before .before .before .before .before .before .before .before .before .loop) .vars) ((c .before .before .before .before .before .before .before .before .before .before .before .before .before .before .before .before .before .before .before .before .before .before .before .before .before .before .before .before .before .before .before .before .before .before .before .before .before .before .top-of) .result) ((c .before .before .before .before .before .before .before .before .before .before .before .before .before .before .before .before .before .before .before .before .before .before .before .before .before .before .before .before .before .before .before .before .before .if6) .g) (getD ((c .before .before .before .before .before .before .before .before .before .before .before .before .before .before .before .before .before .before .before .before .before .before .before .before .before .before .before .before .before .before .before .before .before .before .before .before .before .before .before .before .before .before .before .before .before .loop) .procs) ((c .before .before .before .before .before .before .before .before .before .before .before .before .before .before .before .before .before .before .before .before .before .before .before .before .before .before .before .before .before .before .before .before .before .if6) .g) 0) ((c .before .before .before .before .before .before .before .before .before .before .before .before .before .before .before .before .before .before .before .before .before .if8) .z .node) ((c .before .before .before .before .before .before .before .before .before .before .before .before .before .before .before .before .before .clear) .last .0) ((c .before .before .before .before .before .before .before .before .before .before .before .before .before .settle) .last .0)) in
+    let e : whole ((c .before .before .before .before .before .before .before .before .before .before .before .before .before .before .before .before .before .before .before .before .before .before .before .before .before .before .before .before .before .before .before .before .before .before .before .before .before .before .before .before .before .before .before .before .before .before .before .before .before .before .before .before .before .before .before .before .before .before .before .args) .t) ((c .before .before .before .before .before .before .before .before .before .before .before .before .before .before .before .before .before .before .before .before .before .before .before .before .before .before .before .before .before .before .before .before .before .before .before .before .before .before .before .before .before .before .before .before .before .before .before .before .before .before .before .before .before .before .before .before .before .before .before .args) .t2) ((c .before .before .before .before .before .before .before .before .before .before .before .before .before .before .before .before .before .before .before .before .before .before .before .before .before .before .before .before .before .before .before .before .before .before .before .before .before .before .before .before .before .before .before .before .before .before .before .before .before .before .before .before .before .before .before .before .before .before .before .pre) .0) ((c .before .before .before .before .before .before .before .before .before .before .before .before .before .before .before .before .before .before .before .before .before .before .before .before .before .before .before .before .before .before .before .before .before .before .before .before .before .before .before .before .before .before .before .before .before .before .before .before .before .before .before .before .before .before .before .before .before .before .before .args) .most) ((c .before .before .before .before .before .before .before .before .before .before .before .before .before .before .before .before .before .before .before .before .before .before .before .before .before .before .before .before .before .before .before .before .before .before .before .before .before .before .before .before .before .before .before .before .before .before .before .before .before .before .before .before .before .before .before .before .before .before .before .args) .values .now) ((c .before .before .before .before .before .before .before .before .before .before .before .before .before .before .before .before .before .before .before .before .before .before .before .before .before .before .before .before .before .before .before .before .before .before .before .before .before .before .before .before .before .before .before .before .before .loop) .rest .now) ((c .before .before .before .before .before .before .before .before .before .before .before .before .before .before .before .before .before .before .before .before .before .before .before .before .before .before .before .before .before .before .before .before .before .before .before .before .before .before .before .before .before .before .before .before .before .loop) .n) (stateOf ((c .before .before .before .before .before .before .before .before .before .before .before .before .before .before .before .before .before .before .before .before .before .before .before .before .before .before .before .before .before .before .before .before .before .before .before .before .before .before .before .before .before .before .before .before .before .loop) .depth) ((c .before .before .before .before .before .before .before .before .before .before .before .before .before .before .before .before .before .before .before .before .before .before .before .before .before .before .before .before .before .before .before .before .before .before .before .before .before .before .before .before .before .before .before .before .before .loop) .lost) ((c .before .before .before .before .before .before .before .before .before .before .before .before .before .before .before .before .before .before .before .before .before .before .before .before .before .before .before .before .before .before .before .before .before .before .before .before .before .before .before .before .before .before .before .before .before .loop) .procs) ((c .before .before .before .before .before .before .before .before .before .before .before .before .before .before .before .before .before .before .before .before .before .before .before .before .before .before .before .before .before .before .before .before .before .before .before .before .before .before .before .before .before .before .before .before .before .loop) .nodes) ((c .before .before .before .before .before .before .before .before .before .before .before .before .before .before .before .before .before .before .before .before .before .before .before .before .before .before .before .before .before .before .before .before .before .before .before .before .before .before .before .before .before .before .before .before .before .loop) .vars) ((c .before .before .before .before .before .before .before .before .before .before .before .before .before .before .before .before .before .before .before .before .before .before .before .before .before .before .before .before .before .before .before .before .before .before .before .before .before .before .before .before .before .before .before .before .before .loop) .sems) ((c .before .before .before .before .before .before .before .before .before .before .before .before .before .before .before .before .before .before .before .before .before .before .before .before .before .before .before .before .before .before .before .before .before .before .before .before .before .before .before .before .before .before .before .before .before .loop) .lens) ((c .before .before .before .before .before .before .before .before .before .before .before .before .before .before .before .before .before .before .before .before .before .before .before .before .before .before .before .before .before .before .before .before .before .before .before .before .before .before .before .before .before .before .before .before .before .loop) .items)) ((c .before .before .before .before .before .before .before .before .before .before .before .before .before .before .before .before .before .before .before .before .before .before .before .before .before .before .before .before .before .before .before .before .before .before .before .before .before .before .before .before .before .before .before .before .before .loop) .used) ((c .before .before .before .before .before .before .before .before .before .before .before .before .before .before .before .before .before .before .before .before .before .before .before .before .before .before .before .before .before .before .before .before .before .before .before .before .before .before .before .before .before .before .before .before .before .loop) .log) ((c .before .before .before .before .before .before .before .before .before .before .before .before .before .before .before .before .before .before .before .before .before .before .before .before .before .before .before .before .before .before .before .before .before .before .before .before .before .before .top-of) .result) (getD ((c .before .before .before .before .before .before .before .before .before .before .before .before .before .before .before .before .before .before .before .before .before .before .before .before .before .before .before .before .before .before .before .before .before .before .before .before .before .before .before .before .before .before .before .before .before .before .before .before .before .before .before .before .before .before .before .before .row) .result) ((c .before .before .before .before .before .before .before .before .before .before .before .before .before .before .before .before .before .before .before .before .before .before .before .before .before .before .before .before .before .before .before .before .before .before .before .before .before .place) .result) noSlot .node) ((c .before .before .before .before .before .before .before .before .before .before .before .before .before .before .before .before .before .before .before .before .before .before .before .before .before .before .before .before .before .before .before .before .before .before .before .before .before .before .before .before .before .before .before .before .before .loop) .lens) ((c .before .before .before .before .before .before .before .before .before .before .before .before .before .before .before .before .before .before .before .before .before .before .before .before .before .before .before .before .before .before .before .before .before .before .before .before .before .before .before .before .before .before .before .before .before .loop) .items) ((c .before .before .before .before .before .before .before .before .before .before .before .before .before .before .before .before .before .before .before .before .before .before .before .before .before .before .before .before .before .before .before .before .before .before .before .before .before .before .before .before .before .before .before .before .before .before .before .before .before .before .before .before .before .before .before .caps) .result) (standing (c .before .before .before .before .before .before .before .before .before .before .before .before .before .before .before .before .before .before .before .before .before .before .before .before .before .before .before .before .before .before .before .before .before .before .before .before)) (free (c .before .before .before .before .before .before .before .before .before .before .before .before .before .before .before .before .before .before .before .before .before .before .before .before)) ((c .before .before .before .put2) .last .0) (flagOf ((c .before .before .before .before .before .before .before .before .before .before .before .before .before .before .before .before .before .before .before .before .before .before .before .before .before .before .act) .result .how) ∷ word (bitsOf ((c .before .before .before .before .before .before .before .before .before .before .before .before .before .before .before .before .before .before .before .before .before .before .before .before .before .before .act) .result .how) ((c .before .before .before .before .before .before .before .before .before .before .before .before .before .before .before .before .before .before .before .before .before .before .before .before .before .before .act) .result .value))) (logged (c .before .before .before .before .before .before .before .before .before .before .before .before .before .before .before .before .before .before .before .before .before .before .before .before)) (puts (c .before .before .before)) (no-call (getD ((c .before .before .before .before .before .before .before .before .before .before .before .before .before .before .before .before .before .before .before .before .before .before .before .before .before .before .before .before .before .before .before .before .before .before .before .before .before .before .before .before .before .before .before .before .before .before .before .before .before .before .before .before .before .before .before .before .row) .result) ((c .before .before .before .before .before .before .before .before .before .before .before .before .before .before .before .before .before .before .before .before .before .before .before .before .before .before .before .before .before .before .before .before .before .before .before .before .before .place) .result) noSlot .node) ((c .before .before .before .before .before .before .before .before .before .before .before .before .before .before .before .before .before .before .before .before .before .before .before .before .before .before .before .before .before .before .before .before .before .before .before .match) .keys2)) ((c .before .before .before .before .before .before .before .before .before .before .before .before .before .before .before .before .before .before .before .before .before .before .before .before .before .before .before .before .before .before .before .before .before .if6) .g) (nexts (c .before .before .before .before .before .before .before .before .before .before .before .before .before .before .before .before .before .before .before .before .before .before .before .before .before .before .before .before .before .before .before .before .before)) ((c .before .before .before .before .before .before .before .before .before .before .before .before .before .before .before .before .before .before .before .before .before .before .before .before .before .before .act) .result) (did (c .before .before .before .before .before .before .before .before .before .before .before .before .before .before .before .before .before .before .before .before .before .before .before .before)) ((c .before .before .before .before .before .before .before .before .before .before .before .before .before .before .before .before .before .before .before .before .before .before .before .before .if7) .left) (set (frameIn (framesOf ((c .before .before .before .before .before .before .before .before .before .before .before .before .before .before .before .before .before .before .before .before .before .before .before .before .before .before .before .before .before .before .before .before .before .before .before .before .before .before .before .before .before .before .before .before .before .loop) .procs) ((c .before .before .before .before .before .before .before .before .before .before .before .before .before .before .before .before .before .before .before .before .before .before .before .before .before .before .before .before .before .before .before .before .before .before .before .before .before .before .before .before .before .before .before .before .before .loop) .nodes) ((c .before .before .before .before .before .before .before .before .before .before .before .before .before .before .before .before .before .before .before .before .before .before .before .before .before .before .before .before .before .before .before .before .before .before .before .before .before .before .before .before .before .before .before .before .before .loop) .vars)) ((c .before .before .before .before .before .before .before .before .before .before .before .before .before .before .before .before .before .before .before .before .before .before .before .before .before .before .before .before .before .before .before .before .before .if6) .g) .vars) ((c .before .before .before .before .before .before .before .before .before .before .before .before .before .before .before .before .before .before .before .before .before .before .before .before .before .before .act) .result .var) ((c .before .before .before .before .before .before .before .before .before .before .before .before .before .before .before .before .before .before .before .before .before .before .before .before .before .before .act) .result .value)) refl ((c .before .before .before .before .before .before .before .before .before .before .before .before .before .before .before .before .before .before .before .before .before .if8) .z) ((c .before .before .before .before .before .before .before .before .before .before .before .before .before .settle) .last .0) (λ mm. walked (c .before .before .before .before .before .before .before .before .before .before .before .before .before .before .before .before .before .before .before .before .before) mm ∙ ap (λ (l : List ℤ). metOf ((c .before .before .before .before .before .before .before .before .before .before .before .before .before .before .before .before .before .before .before .before .before .before .before .before .before .before .before .before .before .before .before .before .before .before .before .before .before .before .before .before .before .before .before .before .before .before .before .before .before .before .before .before .before .before .before .before .before .before .before .args) .values .now) (withVars mm l) ((c .before .before .before .before .before .before .before .before .before .before .before .before .before .before .before .before .before .before .before .before .before .if8) .z)) (sym (left-is (c .before .before .before .before .before .before .before .before .before .before .before .before .before)))) (record { proc = 0; node = 0; vars = ((c .before .before .before .before .before .before .before .before .before .before .before .before .before .before .before .before .before .clear) .last .0) }) ≡ _ = (λ i. record { depth = set ((c .before .before .before .before .before .before .before .before .before .before .before .before .before .before .before .before .before .before .before .before .before .before .before .before .before .before .before .before .before .before .before .before .before .before .before .before .before .before .before .before .before .before .before .before .before .loop) .depth) (getD ((c .before .before .before .before .before .before .before .before .before .before .before .before .before .before .before .before .before .before .before .before .before .before .before .before .before .before .before .before .before .before .before .before .before .before .before .before .before .before .before .before .before .before .before .before .before .loop) .rest .now) 0 0) ((getD ((c .before .before .before .before .before .before .before .before .before .before .before .before .before .before .before .before .before .before .before .before .before .before .before .before .before .before .before .before .before .before .before .before .before .before .before .before .before .before .before .before .before .before .before .before .before .loop) .depth) (getD ((c .before .before .before .before .before .before .before .before .before .before .before .before .before .before .before .before .before .before .before .before .before .before .before .before .before .before .before .before .before .before .before .before .before .before .before .before .before .before .before .before .before .before .before .before .before .loop) .rest .now) 0 0) 0) - ed i); lost = set ((c .before .before .before .before .before .before .before .before .before .before .before .before .before .before .before .before .before .before .before .before .before .before .before .before .before .before .before .before .before .before .before .before .before .before .before .before .before .before .before .before .before .before .before .before .before .loop) .lost) (getD ((c .before .before .before .before .before .before .before .before .before .before .before .before .before .before .before .before .before .before .before .before .before .before .before .before .before .before .before .before .before .before .before .before .before .before .before .before .before .before .before .before .before .before .before .before .before .loop) .rest .now) 0 0) ((c .before .before .before .before .before .before .before .before .before .before .before .before .before .before .before .before .before .before .before .before .before .if8) .z .lost); frames = fe i; sems = es i; queues = queuesOf (el i) (ei i) }) in
+    let blank : (backOf (getD ((c .before .before .before .before .before .before .before .before .before .before .before .before .before .before .before .before .before .before .before .before .before .before .before .before .before .before .before .before .before .before .before .before .before .before .before .before .before .before .before .before .before .before .before .before .before .before .before .before .before .before .before .before .before .before .before .before .row) .result) ((c .before .before .before .before .before .before .before .before .before .before .before .before .before .before .before .before .before .before .before .before .before .before .before .before .before .before .before .before .before .before .before .before .before .before .before .before .before .place) .result) noSlot .node) ≡ 0 → ⊥) → _≡_ {A = Frame} (record { proc = 0; node = 0; vars = ((c .before .before .before .before .before .before .before .before .before .before .before .before .before .before .before .before .before .clear) .last .0) }) noFrame = (λ h. (let u = (c .before .before .before .before .before .before .before .before .before .before .before .before .before .before .before .before .before .clear) .ensures in λ i. record { proc = 0; node = 0; vars = u i }) ∙ cleared-none ((c .before .before .before .before .before .before .before .before .before .before .before .before .before .before .before .before .before .before .before .before .before .before .before .before .before .before .before .before .before .before .before .before .before .before .before .before .before .before .before .before .before .before .before .before .before .loop) .vars) ((c .before .before .before .before .before .before .before .before .before .before .before .before .before .before .before .before .before .before .before .before .before .before .before .before .before .before .before .before .before .before .before .before .before .before .before .before .before .before .top-of) .result) ((c .before .before .before .before .before .before .before .before .before .before .before .before .before .before .before .before .before .before .before .before .before .before .before .before .before .before .before .before .before .before .before .before .before .if6) .g) ((c .before .before .before .before .before .before .before .before .before .before .before .before .before .before .before .before .before .before .before .before .before .before .before .before .before .before .before .before .before .before .before .before .before .before .closes) .result) (apart (c .before .before .before .before .before .before .before .before .before .before .before .before .before .before .before .before .before .before .before .before .before .before .before .before)) (λ z. h (ed ∙ z))) in
+    let bg : FrameGood (record { proc = 0; node = 0; vars = ((c .before .before .before .before .before .before .before .before .before .before .before .before .before .before .before .before .before .clear) .last .0) }) = subst (λ (l : List ℤ). FrameGood (record { proc = 0; node = 0; vars = l })) (sym ((c .before .before .before .before .before .before .before .before .before .before .before .before .before .before .before .before .before .clear) .ensures)) (cleared-good ((c .before .before .before .before .before .before .before .before .before .before .before .before .before .before .before .before .before .before .before .before .before .before .before .before .before .before .before .before .before .before .before .before .before .before .before .before .before .before .before .before .before .before .before .before .before .loop) .vars) ((c .before .before .before .before .before .before .before .before .before .before .before .before .before .before .before .before .before .before .before .before .before .before .before .before .before .before .before .before .before .before .before .before .before .before .before .before .before .before .top-of) .result) ((c .before .before .before .before .before .before .before .before .before .before .before .before .before .before .before .before .before .before .before .before .before .before .before .before .before .before .before .before .before .before .before .before .before .if6) .g) ((c .before .before .before .before .before .before .before .before .before .before .before .before .before .before .before .before .before .before .before .before .before .before .before .before .before .before .before .before .before .before .before .before .before .before .closes) .result) (apart (c .before .before .before .before .before .before .before .before .before .before .before .before .before .before .before .before .before .before .before .before .before .before .before .before)) (vars-long (c .before .before .before .before .before .before .before .before .before .before .before .before .before .before .before .before .before .before .before .before .before .before .before .before .before .before .before .before .before .before .before .before .before .before .before .before .before .before .before .before .before .before .before .before .before) ((c .before .before .before .before .before .before .before .before .before .before .before .before .before .before .before .before .before .before .before .before .before .before .before .before .before .before .before .before .before .before .before .before .before .before .before .before .before .before .top-of) .result) (f-below (c .before .before .before .before .before .before .before .before .before .before .before .before .before .before .before .before .before .before .before .before .before .before .before .before .before .before .before .before .before .before .before .before .before .before .before .before .before .before)))) in (
+      (c .before .before .before .before .before .before .before .before .before .before .before .before .before .before .before .before .before .before .before .before .before .before .before .before .before .before .before .before .before .before .before .before .before .before .before .before .before .before .before .before .before .before .before .before .before .loop) .inv .0 ∙ turn-walks ((c .before .before .before .before .before .before .before .before .before .before .before .before .before .before .before .before .before .before .before .before .before .before .before .before .before .before .before .before .before .before .before .before .before .before .before .before .before .before .before .before .before .before .before .before .before .before .before .before .before .before .before .before .before .before .before .before .before .before .before .args) .t) ((c .before .before .before .before .before .before .before .before .before .before .before .before .before .before .before .before .before .before .before .before .before .before .before .before .before .before .before .before .before .before .before .before .before .before .before .before .before .before .before .before .before .before .before .before .before .before .before .before .before .before .before .before .before .before .before .before .before .before .before .args) .t2) ((c .before .before .before .before .before .before .before .before .before .before .before .before .before .before .before .before .before .before .before .before .before .before .before .before .before .before .before .before .before .before .before .before .before .before .before .before .before .before .before .before .before .before .before .before .before .before .before .before .before .before .before .before .before .before .before .before .before .before .before .pre) .0) ((c .before .before .before .before .before .before .before .before .before .before .before .before .before .before .before .before .before .before .before .before .before .before .before .before .before .before .before .before .before .before .before .before .before .before .before .before .before .before .before .before .before .before .before .before .before .before .before .before .before .before .before .before .before .before .before .before .before .before .before .args) .most) ((c .before .before .before .before .before .before .before .before .before .before .before .before .before .before .before .before .before .before .before .before .before .before .before .before .before .before .before .before .before .before .before .before .before .before .before .before .before .before .before .before .before .before .before .before .before .before .before .before .before .before .before .before .before .before .before .before .before .before .before .args) .values .now) ((c .before .before .before .before .before .before .before .before .before .before .before .before .before .before .before .before .before .before .before .before .before .before .before .before .before .before .before .before .before .before .before .before .before .before .before .before .before .before .before .before .before .before .before .before .before .loop) .rest .now) ((c .before .before .before .before .before .before .before .before .before .before .before .before .before .before .before .before .before .before .before .before .before .before .before .before .before .before .before .before .before .before .before .before .before .before .before .before .before .before .before .before .before .before .before .before .before .loop) .n) (stateOf ((c .before .before .before .before .before .before .before .before .before .before .before .before .before .before .before .before .before .before .before .before .before .before .before .before .before .before .before .before .before .before .before .before .before .before .before .before .before .before .before .before .before .before .before .before .before .loop) .depth) ((c .before .before .before .before .before .before .before .before .before .before .before .before .before .before .before .before .before .before .before .before .before .before .before .before .before .before .before .before .before .before .before .before .before .before .before .before .before .before .before .before .before .before .before .before .before .loop) .lost) ((c .before .before .before .before .before .before .before .before .before .before .before .before .before .before .before .before .before .before .before .before .before .before .before .before .before .before .before .before .before .before .before .before .before .before .before .before .before .before .before .before .before .before .before .before .before .loop) .procs) ((c .before .before .before .before .before .before .before .before .before .before .before .before .before .before .before .before .before .before .before .before .before .before .before .before .before .before .before .before .before .before .before .before .before .before .before .before .before .before .before .before .before .before .before .before .before .loop) .nodes) ((c .before .before .before .before .before .before .before .before .before .before .before .before .before .before .before .before .before .before .before .before .before .before .before .before .before .before .before .before .before .before .before .before .before .before .before .before .before .before .before .before .before .before .before .before .before .loop) .vars) ((c .before .before .before .before .before .before .before .before .before .before .before .before .before .before .before .before .before .before .before .before .before .before .before .before .before .before .before .before .before .before .before .before .before .before .before .before .before .before .before .before .before .before .before .before .before .loop) .sems) ((c .before .before .before .before .before .before .before .before .before .before .before .before .before .before .before .before .before .before .before .before .before .before .before .before .before .before .before .before .before .before .before .before .before .before .before .before .before .before .before .before .before .before .before .before .before .loop) .lens) ((c .before .before .before .before .before .before .before .before .before .before .before .before .before .before .before .before .before .before .before .before .before .before .before .before .before .before .before .before .before .before .before .before .before .before .before .before .before .before .before .before .before .before .before .before .before .loop) .items)) ((c .before .before .before .before .before .before .before .before .before .before .before .before .before .before .before .before .before .before .before .before .before .before .before .before .before .before .before .before .before .before .before .before .before .before .before .before .before .before .before .before .before .before .before .before .before .loop) .used) ((c .before .before .before .before .before .before .before .before .before .before .before .before .before .before .before .before .before .before .before .before .before .before .before .before .before .before .before .before .before .before .before .before .before .before .before .before .before .before .before .before .before .before .before .before .before .loop) .log) ((c .before .before .before .before .before .before .before .before .before .before .before .before .before .before .before .before .before .before .before .before .before .before .before .before .before .before .before .before .before .before .before .before .before .before .before .before .before .before .top-of) .result) (getD ((c .before .before .before .before .before .before .before .before .before .before .before .before .before .before .before .before .before .before .before .before .before .before .before .before .before .before .before .before .before .before .before .before .before .before .before .before .before .before .before .before .before .before .before .before .before .before .before .before .before .before .before .before .before .before .before .before .row) .result) ((c .before .before .before .before .before .before .before .before .before .before .before .before .before .before .before .before .before .before .before .before .before .before .before .before .before .before .before .before .before .before .before .before .before .before .before .before .before .place) .result) noSlot .node) ((c .before .before .before .before .before .before .before .before .before .before .before .before .before .before .before .before .before .before .before .before .before .before .before .before .before .before .before .before .before .before .before .before .before .before .before .before .before .before .before .before .before .before .before .before .before .loop) .lens) ((c .before .before .before .before .before .before .before .before .before .before .before .before .before .before .before .before .before .before .before .before .before .before .before .before .before .before .before .before .before .before .before .before .before .before .before .before .before .before .before .before .before .before .before .before .before .loop) .items) ((c .before .before .before .before .before .before .before .before .before .before .before .before .before .before .before .before .before .before .before .before .before .before .before .before .before .before .before .before .before .before .before .before .before .before .before .before .before .before .before .before .before .before .before .before .before .before .before .before .before .before .before .before .before .before .before .caps) .result) (standing (c .before .before .before .before .before .before .before .before .before .before .before .before .before .before .before .before .before .before .before .before .before .before .before .before .before .before .before .before .before .before .before .before .before .before .before .before)) (free (c .before .before .before .before .before .before .before .before .before .before .before .before .before .before .before .before .before .before .before .before .before .before .before .before)) ((c .before .before .before .put2) .last .0) (flagOf ((c .before .before .before .before .before .before .before .before .before .before .before .before .before .before .before .before .before .before .before .before .before .before .before .before .before .before .act) .result .how) ∷ word (bitsOf ((c .before .before .before .before .before .before .before .before .before .before .before .before .before .before .before .before .before .before .before .before .before .before .before .before .before .before .act) .result .how) ((c .before .before .before .before .before .before .before .before .before .before .before .before .before .before .before .before .before .before .before .before .before .before .before .before .before .before .act) .result .value))) (logged (c .before .before .before .before .before .before .before .before .before .before .before .before .before .before .before .before .before .before .before .before .before .before .before .before)) (puts (c .before .before .before)) (no-call (getD ((c .before .before .before .before .before .before .before .before .before .before .before .before .before .before .before .before .before .before .before .before .before .before .before .before .before .before .before .before .before .before .before .before .before .before .before .before .before .before .before .before .before .before .before .before .before .before .before .before .before .before .before .before .before .before .before .before .row) .result) ((c .before .before .before .before .before .before .before .before .before .before .before .before .before .before .before .before .before .before .before .before .before .before .before .before .before .before .before .before .before .before .before .before .before .before .before .before .before .place) .result) noSlot .node) ((c .before .before .before .before .before .before .before .before .before .before .before .before .before .before .before .before .before .before .before .before .before .before .before .before .before .before .before .before .before .before .before .before .before .before .before .match) .keys2)) ((c .before .before .before .before .before .before .before .before .before .before .before .before .before .before .before .before .before .before .before .before .before .before .before .before .before .before .before .before .before .before .before .before .before .if6) .g) (nexts (c .before .before .before .before .before .before .before .before .before .before .before .before .before .before .before .before .before .before .before .before .before .before .before .before .before .before .before .before .before .before .before .before .before)) ((c .before .before .before .before .before .before .before .before .before .before .before .before .before .before .before .before .before .before .before .before .before .before .before .before .before .before .act) .result) (did (c .before .before .before .before .before .before .before .before .before .before .before .before .before .before .before .before .before .before .before .before .before .before .before .before)) ((c .before .before .before .before .before .before .before .before .before .before .before .before .before .before .before .before .before .before .before .before .before .before .before .before .if7) .left) (set (frameIn (framesOf ((c .before .before .before .before .before .before .before .before .before .before .before .before .before .before .before .before .before .before .before .before .before .before .before .before .before .before .before .before .before .before .before .before .before .before .before .before .before .before .before .before .before .before .before .before .before .loop) .procs) ((c .before .before .before .before .before .before .before .before .before .before .before .before .before .before .before .before .before .before .before .before .before .before .before .before .before .before .before .before .before .before .before .before .before .before .before .before .before .before .before .before .before .before .before .before .before .loop) .nodes) ((c .before .before .before .before .before .before .before .before .before .before .before .before .before .before .before .before .before .before .before .before .before .before .before .before .before .before .before .before .before .before .before .before .before .before .before .before .before .before .before .before .before .before .before .before .before .loop) .vars)) ((c .before .before .before .before .before .before .before .before .before .before .before .before .before .before .before .before .before .before .before .before .before .before .before .before .before .before .before .before .before .before .before .before .before .if6) .g) .vars) ((c .before .before .before .before .before .before .before .before .before .before .before .before .before .before .before .before .before .before .before .before .before .before .before .before .before .before .act) .result .var) ((c .before .before .before .before .before .before .before .before .before .before .before .before .before .before .before .before .before .before .before .before .before .before .before .before .before .before .act) .result .value)) refl ((c .before .before .before .before .before .before .before .before .before .before .before .before .before .before .before .before .before .before .before .before .before .if8) .z) ((c .before .before .before .before .before .before .before .before .before .before .before .before .before .settle) .last .0) (λ mm. walked (c .before .before .before .before .before .before .before .before .before .before .before .before .before .before .before .before .before .before .before .before .before) mm ∙ ap (λ (l : List ℤ). metOf ((c .before .before .before .before .before .before .before .before .before .before .before .before .before .before .before .before .before .before .before .before .before .before .before .before .before .before .before .before .before .before .before .before .before .before .before .before .before .before .before .before .before .before .before .before .before .before .before .before .before .before .before .before .before .before .before .before .before .before .before .args) .values .now) (withVars mm l) ((c .before .before .before .before .before .before .before .before .before .before .before .before .before .before .before .before .before .before .before .before .before .if8) .z)) (sym (left-is (c .before .before .before .before .before .before .before .before .before .before .before .before .before)))) (record { proc = 0; node = 0; vars = ((c .before .before .before .before .before .before .before .before .before .before .before .before .before .before .before .before .before .clear) .last .0) }) blank ((c .before .before .before .before .before .before .before .before .before .before .before .before .before .before .before .before .before .before .before .if11) .left) (en .gone) ∙ ap (λ (u : State). runFrom ((c .before .before .before .before .before .before .before .before .before .before .before .before .before .before .before .before .before .before .before .before .before .before .before .before .before .before .before .before .before .before .before .before .before .before .before .before .before .before .before .before .before .before .before .before .before .before .before .before .before .before .before .before .before .before .before .before .before .before .before .args) .t) (keptIn ((c .before .before .before .before .before .before .before .before .before .before .before .before .before .before .before .before .before .before .before .before .before .before .before .before .before .before .before .before .before .before .before .before .before .before .before .before .before .before .before .before .before .before .before .before .before .before .before .before .before .before .before .before .before .before .before .before .before .before .before .args) .t)) ((c .before .before .before .before .before .before .before .before .before .before .before .before .before .before .before .before .before .before .before .before .before .before .before .before .before .before .before .before .before .before .before .before .before .before .before .before .before .before .before .before .before .before .before .before .before .before .before .before .before .before .before .before .before .before .before .before .before .before .before .args) .most) ((c .before .before .before .before .before .before .before .before .before .before .before .before .before .before .before .before .before .before .before .before .before .before .before .before .before .before .before .before .before .before .before .before .before .before .before .before .before .before .before .before .before .before .before .before .before .before .before .before .before .before .before .before .before .before .before .before .before .before .before .args) .values .now) (take (length ((c .before .before .before .before .before .before .before .before .before .before .before .before .before .before .before .before .before .before .before .before .before .before .before .before .before .before .before .before .before .before .before .before .before .before .before .before .before .before .before .before .before .before .before .before .before .loop) .rest .now) - 1) (drop 1 ((c .before .before .before .before .before .before .before .before .before .before .before .before .before .before .before .before .before .before .before .before .before .before .before .before .before .before .before .before .before .before .before .before .before .before .before .before .before .before .before .before .before .before .before .before .before .loop) .rest .now))) ((c .before .before .before .before .before .before .before .before .before .before .before .before .before .before .before .before .before .before .before .before .before .before .before .before .before .before .before .before .before .before .before .before .before .before .before .before .before .before .before .before .before .before .before .before .before .loop) .n + 1) u (drop ((c .before .before .before .before .before .before .before .before .before .before .before .before .before .before .before .before .before .before .before .before .before .if8) .z .used) ((c .before .before .before .before .before .before .before .before .before .before .before .before .before .before .before .before .before .before .before .before .before .before .before .before .before .before .before .before .before .before .before .before .before .before .before .before .before .before .before .before .before .before .before .before .before .before .before .before .before .before .before .before .before .before .before .before .before .before .before .args) .values .now)) ((c .before .before .before .put2) .last .0)) e,
       (
-        stored-good ((c .before .before .before .before .before .before .before .before .before .before .before .before .before .before .before .before .before .before .before .before .before .before .before .before .before .before .before .before .before .before .before .before .before .before .before .before .before .before .before .before .before .args) .t1) ((c .before .before .before .before .before .before .before .before .before .before .before .before .before .before .before .before .before .before .before .before .before .before .before .before .before .before .before .before .before .before .before .before .before .before .before .before .before .before .before .before .before .args) .t2) ((c .before .before .before .before .before .before .before .before .before .before .before .before .before .before .before .before .before .before .before .before .before .before .before .before .before .before .before .before .before .before .before .before .before .before .before .before .before .before .before .before .before .pre) .0) ((c .before .before .before .before .before .before .before .before .before .before .before .before .before .before .before .before .before .before .before .before .before .before .before .before .before .before .before .before .before .before .before .before .before .before .before .before .before .before .before .before .before .args) .most) ((c .before .before .before .before .before .before .before .before .before .before .before .before .before .before .before .before .before .before .before .before .before .before .before .before .before .before .before .before .before .before .before .before .before .before .before .before .before .before .before .before .before .args) .values .now) ((c .before .before .before .before .before .before .before .before .before .before .before .before .before .before .before .before .before .before .before .before .before .before .before .before .before .before .before .before .before .before .before .before .before .before .before .before .before .loop) .rest .now) ((c .before .before .before .before .before .before .before .before .before .before .before .before .before .before .before .before .before .before .before .before .before .before .before .before .before .before .before .before .before .before .before .before .before .before .before .before .before .loop) .n) ((c .before .before .before .before .before .before .before .before .before .before .before .before .before .before .before .before .before .before .before .before .before .before .before .before .before .before .before .before .before .before .before .before .before .before .before .before .before .loop) .u) ((c .before .before .before .before .before .before .before .before .before .before .before .before .before .before .before .before .before .before .before .before .before .before .before .before .before .before .before .before .before .before .before .before .before .before .before .before .before .loop) .used) ((c .before .before .before .before .before .before .before .before .before .before .before .before .before .before .before .before .before .before .before .before .before .before .before .before .before .before .before .before .before .before .before .before .before .before .before .before .before .loop) .log) ((c .before .before .before .before .before .before .before .before .before .before .before .before .before .before .before .before .before .before .before .before .before .before .before .before .before .before .before .before .before .top-of) .result) (getD ((c .before .before .before .before .before .before .before .before .before .before .before .before .before .before .before .before .before .before .before .before .before .before .before .before .before .before .before .before .before .before .before .before .before .before .before .before .before .before .row) .result) ((c .before .before .before .before .before .before .before .before .before .before .before .before .before .before .before .before .before .before .before .before .before .before .before .before .before .before .before .place) .result) noSlot .node) ((c .before .before .before .before .before .before .before .before .before .before .before .before .before .before .before .before .before .before .before .before .before .before .before .before .beside) .result) (standing (c .before .before .before .before .before .before .before .before .before .before .before .before .before .before .before .before .before .before .before .before .before .before .before .before)) (free (c .before .before .before .before .before .before .before .before .before .before .before .before .before .before .before)) ((c .before .before .before .put2) .last .0) (showing ((c .before .before .before .before .before .before .before .before .before .before .before .before .before .before .before .before .before .act) .result .flag) ((c .before .before .before .before .before .before .before .before .before .before .before .before .before .before .before .before .before .act) .result .bits)) (logs ((c .before .before .before .before .before .before .before .before .before .before .before .before .before .before .before .before .before .before .before .before .before .before .before .before .before .before .before .before .before .before .before .before .before .before .before .before .before .before .before .before .before .args) .t1) ((c .before .before .before .before .before .before .before .before .before .before .before .before .before .before .before .before .before .before .before .before .before .before .before .before .before .before .before .before .before .before .before .before .before .before .before .before .before .before .before .before .before .args) .t2) ((c .before .before .before .before .before .before .before .before .before .before .before .before .before .before .before .before .before .before .before .before .before .before .before .before .before .before .before .before .before .before .before .before .before .before .before .before .before .before .before .before .before .pre) .0) ((c .before .before .before .before .before .before .before .before .before .before .before .before .before .before .before .before .before .before .before .before .before .before .before .before .before .before .before .before .before .before .before .before .before .before .before .before .before .before .before .before .before .args) .most) ((c .before .before .before .before .before .before .before .before .before .before .before .before .before .before .before .before .before .before .before .before .before .before .before .before .before .before .before .before .before .before .before .before .before .before .before .before .before .before .before .before .before .args) .values .now) ((c .before .before .before .before .before .before .before .before .before .before .before .before .before .before .before .before .before .before .before .before .before .before .before .before .before .before .before .before .before .before .before .before .before .before .before .before .before .loop) .rest .now) ((c .before .before .before .before .before .before .before .before .before .before .before .before .before .before .before .before .before .before .before .before .before .before .before .before .before .before .before .before .before .before .before .before .before .before .before .before .before .loop) .n) ((c .before .before .before .before .before .before .before .before .before .before .before .before .before .before .before .before .before .before .before .before .before .before .before .before .before .before .before .before .before .before .before .before .before .before .before .before .before .loop) .u) ((c .before .before .before .before .before .before .before .before .before .before .before .before .before .before .before .before .before .before .before .before .before .before .before .before .before .before .before .before .before .before .before .before .before .before .before .before .before .loop) .used) ((c .before .before .before .before .before .before .before .before .before .before .before .before .before .before .before .before .before .before .before .before .before .before .before .before .before .before .before .before .before .before .before .before .before .before .before .before .before .loop) .log) ((c .before .before .before .before .before .before .before .before .before .before .before .before .before .before .before .before .before .before .before .before .before .before .before .before .before .before .before .before .before .top-of) .result) (getD ((c .before .before .before .before .before .before .before .before .before .before .before .before .before .before .before .before .before .before .before .before .before .before .before .before .before .before .before .before .before .before .before .before .before .before .before .before .before .before .row) .result) ((c .before .before .before .before .before .before .before .before .before .before .before .before .before .before .before .before .before .before .before .before .before .before .before .before .before .before .before .place) .result) noSlot .node) ((c .before .before .before .before .before .before .before .before .before .before .before .before .before .before .before .before .before .before .before .before .before .before .before .before .beside) .result) (standing (c .before .before .before .before .before .before .before .before .before .before .before .before .before .before .before .before .before .before .before .before .before .before .before .before)) ((c .before .before .before .before .before .before .before .before .before .before .before .before .before .before .before .before .before .before .before .before .before .before .if6) .g) ((c .before .before .before .before .before .before .before .before .before .before .before .before .before .before .before .before .before .before .before .before .before .before .if6) .back) ((c .before .before .before .before .before .before .before .before .before .before .before .before .before .before .before .before .before .act) .result) (backs (c .before .before .before .before .before .before .before .before .before .before .before .before .before .before .before .before .before .before .before .before .before .before)) (tries (c .before .before .before .before .before .before .before .before .before .before .before .before .before .before .before .before .before)) (free (c .before .before .before .before .before .before .before .before .before .before .before .before .before .before .before)) (nexts (c .before .before .before .before .before .before .before .before .before .before .before .before .before .before .before .before .before .before .before .before .before .before))) ((c .before .before .before .put2) .ensures) (no-call (getD ((c .before .before .before .before .before .before .before .before .before .before .before .before .before .before .before .before .before .before .before .before .before .before .before .before .before .before .before .before .before .before .before .before .before .before .before .before .before .before .row) .result) ((c .before .before .before .before .before .before .before .before .before .before .before .before .before .before .before .before .before .before .before .before .before .before .before .before .before .before .before .place) .result) noSlot .node) ((c .before .before .before .before .before .before .before .before .before .before .before .before .before .before .before .before .before .before .before .before .before .before .before .before .before .match) .keys2)) ((c .before .before .before .before .before .before .before .before .before .before .before .before .before .before .before .before .before .before .before .before .before .before .if6) .g) (nexts (c .before .before .before .before .before .before .before .before .before .before .before .before .before .before .before .before .before .before .before .before .before .before)) (nodeAt ((c .before .before .before .before .before .before .before .before .before .before .before .before .before .before .before .before .before .before .before .before .before .before .before .before .before .before .before .before .before .before .before .before .before .before .before .before .before .before .before .before .before .args) .t1) ((frameIn ((c .before .before .before .before .before .before .before .before .before .before .before .before .before .before .before .before .before .before .before .before .before .before .before .before .before .before .before .before .before .before .before .before .before .before .before .before .before .loop) .u .frames) ((c .before .before .before .before .before .before .before .before .before .before .before .before .before .before .before .before .before .before .before .before .before .before .if6) .g)) .proc) ((frameIn ((c .before .before .before .before .before .before .before .before .before .before .before .before .before .before .before .before .before .before .before .before .before .before .before .before .before .before .before .before .before .before .before .before .before .before .before .before .before .loop) .u .frames) ((c .before .before .before .before .before .before .before .before .before .before .before .before .before .before .before .before .before .before .before .before .before .before .if6) .g)) .node)) refl ((c .before .before .before .before .before .before .before .before .before .before .before .before .before .before .before .before .before .act) .result) (acted ((c .before .before .before .before .before .before .before .before .before .before .before .before .before .before .before .before .before .before .before .before .before .before .before .before .before .before .before .before .before .before .before .before .before .before .before .before .before .before .before .before .before .args) .t1) ((c .before .before .before .before .before .before .before .before .before .before .before .before .before .before .before .before .before .before .before .before .before .before .before .before .before .before .before .before .before .before .before .before .before .before .before .before .before .before .before .before .before .args) .t2) ((c .before .before .before .before .before .before .before .before .before .before .before .before .before .before .before .before .before .before .before .before .before .before .before .before .before .before .before .before .before .before .before .before .before .before .before .before .before .before .before .before .before .pre) .0) ((c .before .before .before .before .before .before .before .before .before .before .before .before .before .before .before .before .before .before .before .before .before .before .before .before .before .before .before .before .before .before .before .before .before .before .before .before .before .before .before .before .before .args) .most) ((c .before .before .before .before .before .before .before .before .before .before .before .before .before .before .before .before .before .before .before .before .before .before .before .before .before .before .before .before .before .before .before .before .before .before .before .before .before .before .before .before .before .args) .values .now) ((c .before .before .before .before .before .before .before .before .before .before .before .before .before .before .before .before .before .before .before .before .before .before .before .before .before .before .before .before .before .before .before .before .before .before .before .before .before .loop) .rest .now) ((c .before .before .before .before .before .before .before .before .before .before .before .before .before .before .before .before .before .before .before .before .before .before .before .before .before .before .before .before .before .before .before .before .before .before .before .before .before .loop) .n) ((c .before .before .before .before .before .before .before .before .before .before .before .before .before .before .before .before .before .before .before .before .before .before .before .before .before .before .before .before .before .before .before .before .before .before .before .before .before .loop) .u) ((c .before .before .before .before .before .before .before .before .before .before .before .before .before .before .before .before .before .before .before .before .before .before .before .before .before .before .before .before .before .before .before .before .before .before .before .before .before .loop) .used) ((c .before .before .before .before .before .before .before .before .before .before .before .before .before .before .before .before .before .before .before .before .before .before .before .before .before .before .before .before .before .before .before .before .before .before .before .before .before .loop) .log) ((c .before .before .before .before .before .before .before .before .before .before .before .before .before .before .before .before .before .before .before .before .before .before .before .before .before .before .before .before .before .top-of) .result) (getD ((c .before .before .before .before .before .before .before .before .before .before .before .before .before .before .before .before .before .before .before .before .before .before .before .before .before .before .before .before .before .before .before .before .before .before .before .before .before .before .row) .result) ((c .before .before .before .before .before .before .before .before .before .before .before .before .before .before .before .before .before .before .before .before .before .before .before .before .before .before .before .place) .result) noSlot .node) ((c .before .before .before .before .before .before .before .before .before .before .before .before .before .before .before .before .before .before .before .before .before .before .before .before .beside) .result) (standing (c .before .before .before .before .before .before .before .before .before .before .before .before .before .before .before .before .before .before .before .before .before .before .before .before)) ((c .before .before .before .before .before .before .before .before .before .before .before .before .before .before .before .before .before .before .before .before .before .before .if6) .g) ((c .before .before .before .before .before .before .before .before .before .before .before .before .before .before .before .before .before .before .before .before .before .before .if6) .back) ((c .before .before .before .before .before .before .before .before .before .before .before .before .before .before .before .before .before .act) .result) (backs (c .before .before .before .before .before .before .before .before .before .before .before .before .before .before .before .before .before .before .before .before .before .before)) (tries (c .before .before .before .before .before .before .before .before .before .before .before .before .before .before .before .before .before)) (free (c .before .before .before .before .before .before .before .before .before .before .before .before .before .before .before))) ((c .before .before .before .before .before .before .before .before .before .before .before .before .before .before .before .if7) .left) ((c .before .before .before .before .before .before .before .before .before .before .before .before .set-var) .last .0) ((c .before .before .before .before .before .before .before .before .before .before .before .before .set-var) .ensures ∙ ap (set ((frameIn ((c .before .before .before .before .before .before .before .before .before .before .before .before .before .before .before .before .before .before .before .before .before .before .before .before .before .before .before .before .before .before .before .before .before .before .before .before .before .loop) .u .frames) ((c .before .before .before .before .before .before .before .before .before .before .before .before .before .before .before .before .before .before .before .before .before .before .if6) .g)) .vars) ((c .before .before .before .before .before .before .before .before .before .before .before .before .before .before .before .before .before .act) .result .var)) (toZ-ofZ {w = w32} (record { sfits = (c .before .before .before .before .before .before .before .before .before .before .before .before .before .struct-told) .given .1 .1 .0 .1 }))) ((c .before .before .before .before .before .before .before .before .before .if8) .z) ((c .before .before .before .before .before .before .before .before .before .before .before .loop2) .fv) (λ mm. (c .before .before .before .before .before .before .before .before .before .before .before .loop2) .inv .0 mm ∙ ends (c .before .before .before .before .before .before .before .before .before) .is mm) ((c .before .before .before .before .before .before .if12) .u) st ((frameIn ((c .before .before .before .before .before .before .before .before .before .before .before .before .before .before .before .before .before .before .before .before .before .before .before .before .before .before .before .before .before .before .before .before .before .before .before .before .before .loop) .u .frames) ((c .before .before .before .before .before .before .before .before .before .before .before .before .before .before .before .before .before .before .before .before .before .before .if6) .g)) .proc) refl ((c .before .before .before .before .before .before .before .before .before .before .before .loop2) .inv .1 .1) (en .place),
-        (en .within, (omega (arith, ln, (c .before .before .before .before .before .before .before .before .before .before .before .before .before .before .before .before .before .before .before .before .before .before .before .before .before .before .before .before .before .before .before .before .before .if3) .left, (c .before .before .before .before .before .before .before .before .before .before .before .before .before .before .before .before .before .before .before .before .before .before .before .before .before .before .before .before .before .before .before .before .before .before .before .before .before .loop) .inv .1), (ln ∙ (c .before .before .before .before .before .before .before .before .before .before .before .before .before .before .before .before .before .before .before .before .before .before .before .before .before .before .before .before .before .before .before .before .before .before .before .before .before .loop) .inv .1 .1 .1 .1 .0, omega (arith, ln, (c .before .before .before .before .before .before .before .before .before .before .before .before .before .before .before .before .before .before .before .before .before .before .before .before .before .before .before .before .before .before .before .before .before .before .before .before .before .loop) .inv .1)))),
+        subst (λ (u : State). Good ((c .before .before .before .before .before .before .before .before .before .before .before .before .before .before .before .before .before .before .before .before .before .before .before .before .before .before .before .before .before .before .before .before .before .before .before .before .before .before .before .before .before .before .before .before .before .before .before .before .before .before .before .before .before .before .before .before .before .before .before .args) .t) u) e (stored-good ((c .before .before .before .before .before .before .before .before .before .before .before .before .before .before .before .before .before .before .before .before .before .before .before .before .before .before .before .before .before .before .before .before .before .before .before .before .before .before .before .before .before .before .before .before .before .before .before .before .before .before .before .before .before .before .before .before .before .before .before .args) .t) ((c .before .before .before .before .before .before .before .before .before .before .before .before .before .before .before .before .before .before .before .before .before .before .before .before .before .before .before .before .before .before .before .before .before .before .before .before .before .before .before .before .before .before .before .before .before .before .before .before .before .before .before .before .before .before .before .before .before .before .before .args) .t2) ((c .before .before .before .before .before .before .before .before .before .before .before .before .before .before .before .before .before .before .before .before .before .before .before .before .before .before .before .before .before .before .before .before .before .before .before .before .before .before .before .before .before .before .before .before .before .before .before .before .before .before .before .before .before .before .before .before .before .before .before .pre) .0) ((c .before .before .before .before .before .before .before .before .before .before .before .before .before .before .before .before .before .before .before .before .before .before .before .before .before .before .before .before .before .before .before .before .before .before .before .before .before .before .before .before .before .before .before .before .before .before .before .before .before .before .before .before .before .before .before .before .before .before .before .args) .most) ((c .before .before .before .before .before .before .before .before .before .before .before .before .before .before .before .before .before .before .before .before .before .before .before .before .before .before .before .before .before .before .before .before .before .before .before .before .before .before .before .before .before .before .before .before .before .before .before .before .before .before .before .before .before .before .before .before .before .before .before .args) .values .now) ((c .before .before .before .before .before .before .before .before .before .before .before .before .before .before .before .before .before .before .before .before .before .before .before .before .before .before .before .before .before .before .before .before .before .before .before .before .before .before .before .before .before .before .before .before .before .loop) .rest .now) ((c .before .before .before .before .before .before .before .before .before .before .before .before .before .before .before .before .before .before .before .before .before .before .before .before .before .before .before .before .before .before .before .before .before .before .before .before .before .before .before .before .before .before .before .before .before .loop) .n) (stateOf ((c .before .before .before .before .before .before .before .before .before .before .before .before .before .before .before .before .before .before .before .before .before .before .before .before .before .before .before .before .before .before .before .before .before .before .before .before .before .before .before .before .before .before .before .before .before .loop) .depth) ((c .before .before .before .before .before .before .before .before .before .before .before .before .before .before .before .before .before .before .before .before .before .before .before .before .before .before .before .before .before .before .before .before .before .before .before .before .before .before .before .before .before .before .before .before .before .loop) .lost) ((c .before .before .before .before .before .before .before .before .before .before .before .before .before .before .before .before .before .before .before .before .before .before .before .before .before .before .before .before .before .before .before .before .before .before .before .before .before .before .before .before .before .before .before .before .before .loop) .procs) ((c .before .before .before .before .before .before .before .before .before .before .before .before .before .before .before .before .before .before .before .before .before .before .before .before .before .before .before .before .before .before .before .before .before .before .before .before .before .before .before .before .before .before .before .before .before .loop) .nodes) ((c .before .before .before .before .before .before .before .before .before .before .before .before .before .before .before .before .before .before .before .before .before .before .before .before .before .before .before .before .before .before .before .before .before .before .before .before .before .before .before .before .before .before .before .before .before .loop) .vars) ((c .before .before .before .before .before .before .before .before .before .before .before .before .before .before .before .before .before .before .before .before .before .before .before .before .before .before .before .before .before .before .before .before .before .before .before .before .before .before .before .before .before .before .before .before .before .loop) .sems) ((c .before .before .before .before .before .before .before .before .before .before .before .before .before .before .before .before .before .before .before .before .before .before .before .before .before .before .before .before .before .before .before .before .before .before .before .before .before .before .before .before .before .before .before .before .before .loop) .lens) ((c .before .before .before .before .before .before .before .before .before .before .before .before .before .before .before .before .before .before .before .before .before .before .before .before .before .before .before .before .before .before .before .before .before .before .before .before .before .before .before .before .before .before .before .before .before .loop) .items)) ((c .before .before .before .before .before .before .before .before .before .before .before .before .before .before .before .before .before .before .before .before .before .before .before .before .before .before .before .before .before .before .before .before .before .before .before .before .before .before .before .before .before .before .before .before .before .loop) .used) ((c .before .before .before .before .before .before .before .before .before .before .before .before .before .before .before .before .before .before .before .before .before .before .before .before .before .before .before .before .before .before .before .before .before .before .before .before .before .before .before .before .before .before .before .before .before .loop) .log) ((c .before .before .before .before .before .before .before .before .before .before .before .before .before .before .before .before .before .before .before .before .before .before .before .before .before .before .before .before .before .before .before .before .before .before .before .before .before .before .top-of) .result) (getD ((c .before .before .before .before .before .before .before .before .before .before .before .before .before .before .before .before .before .before .before .before .before .before .before .before .before .before .before .before .before .before .before .before .before .before .before .before .before .before .before .before .before .before .before .before .before .before .before .before .before .before .before .before .before .before .before .before .row) .result) ((c .before .before .before .before .before .before .before .before .before .before .before .before .before .before .before .before .before .before .before .before .before .before .before .before .before .before .before .before .before .before .before .before .before .before .before .before .before .place) .result) noSlot .node) ((c .before .before .before .before .before .before .before .before .before .before .before .before .before .before .before .before .before .before .before .before .before .before .before .before .before .before .before .before .before .before .before .before .before .before .before .before .before .before .before .before .before .before .before .before .before .loop) .lens) ((c .before .before .before .before .before .before .before .before .before .before .before .before .before .before .before .before .before .before .before .before .before .before .before .before .before .before .before .before .before .before .before .before .before .before .before .before .before .before .before .before .before .before .before .before .before .loop) .items) ((c .before .before .before .before .before .before .before .before .before .before .before .before .before .before .before .before .before .before .before .before .before .before .before .before .before .before .before .before .before .before .before .before .before .before .before .before .before .before .before .before .before .before .before .before .before .before .before .before .before .before .before .before .before .before .before .caps) .result) (standing (c .before .before .before .before .before .before .before .before .before .before .before .before .before .before .before .before .before .before .before .before .before .before .before .before .before .before .before .before .before .before .before .before .before .before .before .before)) (free (c .before .before .before .before .before .before .before .before .before .before .before .before .before .before .before .before .before .before .before .before .before .before .before .before)) ((c .before .before .before .put2) .last .0) (flagOf ((c .before .before .before .before .before .before .before .before .before .before .before .before .before .before .before .before .before .before .before .before .before .before .before .before .before .before .act) .result .how) ∷ word (bitsOf ((c .before .before .before .before .before .before .before .before .before .before .before .before .before .before .before .before .before .before .before .before .before .before .before .before .before .before .act) .result .how) ((c .before .before .before .before .before .before .before .before .before .before .before .before .before .before .before .before .before .before .before .before .before .before .before .before .before .before .act) .result .value))) (logged (c .before .before .before .before .before .before .before .before .before .before .before .before .before .before .before .before .before .before .before .before .before .before .before .before)) (puts (c .before .before .before)) (no-call (getD ((c .before .before .before .before .before .before .before .before .before .before .before .before .before .before .before .before .before .before .before .before .before .before .before .before .before .before .before .before .before .before .before .before .before .before .before .before .before .before .before .before .before .before .before .before .before .before .before .before .before .before .before .before .before .before .before .before .row) .result) ((c .before .before .before .before .before .before .before .before .before .before .before .before .before .before .before .before .before .before .before .before .before .before .before .before .before .before .before .before .before .before .before .before .before .before .before .before .before .place) .result) noSlot .node) ((c .before .before .before .before .before .before .before .before .before .before .before .before .before .before .before .before .before .before .before .before .before .before .before .before .before .before .before .before .before .before .before .before .before .before .before .match) .keys2)) ((c .before .before .before .before .before .before .before .before .before .before .before .before .before .before .before .before .before .before .before .before .before .before .before .before .before .before .before .before .before .before .before .before .before .if6) .g) (nexts (c .before .before .before .before .before .before .before .before .before .before .before .before .before .before .before .before .before .before .before .before .before .before .before .before .before .before .before .before .before .before .before .before .before)) ((c .before .before .before .before .before .before .before .before .before .before .before .before .before .before .before .before .before .before .before .before .before .before .before .before .before .before .act) .result) (did (c .before .before .before .before .before .before .before .before .before .before .before .before .before .before .before .before .before .before .before .before .before .before .before .before)) ((c .before .before .before .before .before .before .before .before .before .before .before .before .before .before .before .before .before .before .before .before .before .before .before .before .if7) .left) (set (frameIn (framesOf ((c .before .before .before .before .before .before .before .before .before .before .before .before .before .before .before .before .before .before .before .before .before .before .before .before .before .before .before .before .before .before .before .before .before .before .before .before .before .before .before .before .before .before .before .before .before .loop) .procs) ((c .before .before .before .before .before .before .before .before .before .before .before .before .before .before .before .before .before .before .before .before .before .before .before .before .before .before .before .before .before .before .before .before .before .before .before .before .before .before .before .before .before .before .before .before .before .loop) .nodes) ((c .before .before .before .before .before .before .before .before .before .before .before .before .before .before .before .before .before .before .before .before .before .before .before .before .before .before .before .before .before .before .before .before .before .before .before .before .before .before .before .before .before .before .before .before .before .loop) .vars)) ((c .before .before .before .before .before .before .before .before .before .before .before .before .before .before .before .before .before .before .before .before .before .before .before .before .before .before .before .before .before .before .before .before .before .if6) .g) .vars) ((c .before .before .before .before .before .before .before .before .before .before .before .before .before .before .before .before .before .before .before .before .before .before .before .before .before .before .act) .result .var) ((c .before .before .before .before .before .before .before .before .before .before .before .before .before .before .before .before .before .before .before .before .before .before .before .before .before .before .act) .result .value)) refl ((c .before .before .before .before .before .before .before .before .before .before .before .before .before .before .before .before .before .before .before .before .before .if8) .z) ((c .before .before .before .before .before .before .before .before .before .before .before .before .before .settle) .last .0) (λ mm. walked (c .before .before .before .before .before .before .before .before .before .before .before .before .before .before .before .before .before .before .before .before .before) mm ∙ ap (λ (l : List ℤ). metOf ((c .before .before .before .before .before .before .before .before .before .before .before .before .before .before .before .before .before .before .before .before .before .before .before .before .before .before .before .before .before .before .before .before .before .before .before .before .before .before .before .before .before .before .before .before .before .before .before .before .before .before .before .before .before .before .before .before .before .before .before .args) .values .now) (withVars mm l) ((c .before .before .before .before .before .before .before .before .before .before .before .before .before .before .before .before .before .before .before .before .before .if8) .z)) (sym (left-is (c .before .before .before .before .before .before .before .before .before .before .before .before .before)))) (record { proc = 0; node = 0; vars = ((c .before .before .before .before .before .before .before .before .before .before .before .before .before .before .before .before .before .clear) .last .0) }) bg (ap length (left-is (c .before .before .before .before .before .before .before .before .before .before .before .before .before)) ∙ (c .before .before .before .before .before .before .before .before .before .before .before .before .before .before .before .before .before .before .before .before .before .before .before .loop2) .inv .1 .1) (en .place)),
+        (
+          (let sh = shape-after (shape-set (shape-set ((c .before .before .before .before .before .before .before .before .before .before .before .before .before .before .before .before .before .before .before .before .before .before .before .before .before .before .before .before .before .before .before .before .before .before .before .before .before .before .before .before .before .before .before .before .before .loop) .inv .1 .1 .0) ((c .before .before .before .before .before .before .before .before .before .before .before .before .before .before .before .before .before .before .before .before .before .before .before .before .before .before .before .before .before .before .before .before .before .before .before .before .before .before .top-of) .result) 0 0 ((c .before .before .before .before .before .before .before .before .before .before .before .before .before .before .before .before .before .clear) .last .0)) ((c .before .before .before .before .before .before .before .before .before .before .before .before .before .before .before .before .before .before .before .before .before .before .before .before .before .before .before .before .before .before .before .before .before .if6) .g) (getD ((c .before .before .before .before .before .before .before .before .before .before .before .before .before .before .before .before .before .before .before .before .before .before .before .before .before .before .before .before .before .before .before .before .before .before .before .before .before .before .before .before .before .before .before .before .before .loop) .procs) ((c .before .before .before .before .before .before .before .before .before .before .before .before .before .before .before .before .before .before .before .before .before .before .before .before .before .before .before .before .before .before .before .before .before .if6) .g) 0) ((c .before .before .before .before .before .before .before .before .before .before .before .before .before .before .before .before .before .before .before .before .before .if8) .z .node) ((c .before .before .before .before .before .before .before .before .before .before .before .before .before .settle) .last .0)) ((c .before .before .before .before .before .before .before .before .before .before .before .before .before .before .before .before .before .before .before .before .before .before .before .before .before .before .act) .result .how) ((c .before .before .before .before .before .before .before .before .before .before .before .before .before .before .before .before .before .before .before .before .before .before .before .before .before .before .act) .result .at) ((c .before .before .before .before .before .before .before .before .before .before .before .before .before .before .before .before .before .before .before .before .before .before .before .before .before .before .act) .result .count) ((c .before .before .before .before .before .before .before .before .before .before .before .before .before .before .before .before .before .before .before .before .before .before .before .before .before .before .act) .result .value) (at-lt (c .before .before .before .before .before .before .before .before .before .before .before .before .before .before .before .before .before .before .before .before .before .before .before .before)) in subst (λ (p : List ℕ × List (List ℤ)). Shape (set (set ((c .before .before .before .before .before .before .before .before .before .before .before .before .before .before .before .before .before .before .before .before .before .before .before .before .before .before .before .before .before .before .before .before .before .before .before .before .before .before .before .before .before .before .before .before .before .loop) .procs) ((c .before .before .before .before .before .before .before .before .before .before .before .before .before .before .before .before .before .before .before .before .before .before .before .before .before .before .before .before .before .before .before .before .before .before .before .before .before .before .top-of) .result) 0) ((c .before .before .before .before .before .before .before .before .before .before .before .before .before .before .before .before .before .before .before .before .before .before .before .before .before .before .before .before .before .before .before .before .before .if6) .g) (getD ((c .before .before .before .before .before .before .before .before .before .before .before .before .before .before .before .before .before .before .before .before .before .before .before .before .before .before .before .before .before .before .before .before .before .before .before .before .before .before .before .before .before .before .before .before .before .loop) .procs) ((c .before .before .before .before .before .before .before .before .before .before .before .before .before .before .before .before .before .before .before .before .before .before .before .before .before .before .before .before .before .before .before .before .before .if6) .g) 0)) (set (set ((c .before .before .before .before .before .before .before .before .before .before .before .before .before .before .before .before .before .before .before .before .before .before .before .before .before .before .before .before .before .before .before .before .before .before .before .before .before .before .before .before .before .before .before .before .before .loop) .nodes) ((c .before .before .before .before .before .before .before .before .before .before .before .before .before .before .before .before .before .before .before .before .before .before .before .before .before .before .before .before .before .before .before .before .before .before .before .before .before .before .top-of) .result) 0) ((c .before .before .before .before .before .before .before .before .before .before .before .before .before .before .before .before .before .before .before .before .before .before .before .before .before .before .before .before .before .before .before .before .before .if6) .g) ((c .before .before .before .before .before .before .before .before .before .before .before .before .before .before .before .before .before .before .before .before .before .if8) .z .node)) (set (set ((c .before .before .before .before .before .before .before .before .before .before .before .before .before .before .before .before .before .before .before .before .before .before .before .before .before .before .before .before .before .before .before .before .before .before .before .before .before .before .before .before .before .before .before .before .before .loop) .vars) ((c .before .before .before .before .before .before .before .before .before .before .before .before .before .before .before .before .before .before .before .before .before .before .before .before .before .before .before .before .before .before .before .before .before .before .before .before .before .before .top-of) .result) ((c .before .before .before .before .before .before .before .before .before .before .before .before .before .before .before .before .before .clear) .last .0)) ((c .before .before .before .before .before .before .before .before .before .before .before .before .before .before .before .before .before .before .before .before .before .before .before .before .before .before .before .before .before .before .before .before .before .if6) .g) ((c .before .before .before .before .before .before .before .before .before .before .before .before .before .settle) .last .0)) (p .0) (p .1)) (λ i. (el i, ei i)) sh),
+          (en .within, next-room ((c .before .before .before .before .before .before .before .before .before .before .before .before .before .before .before .before .before .before .before .before .before .before .before .before .before .before .before .before .before .before .before .before .before .before .before .before .before .before .before .before .before .before .before .before .before .loop) .n) (length ((c .before .before .before .before .before .before .before .before .before .before .before .before .before .before .before .before .before .before .before .before .before .before .before .before .before .before .before .before .before .before .before .before .before .before .before .before .before .before .before .before .before .before .before .before .before .loop) .log)) _ (length ((c .before .before .before .before .before .before .before .before .before .before .before .before .before .before .before .before .before .before .before .before .before .before .before .before .before .before .before .before .before .before .before .before .before .before .before .before .before .before .before .before .before .before .before .before .before .before .before .before .before .before .before .before .before .before .before .before .before .before .before .args) .log .now)) ln ((c .before .before .before .before .before .before .before .before .before .before .before .before .before .before .before .before .before .before .before .before .before .before .before .before .before .before .before .before .before .before .before .before .before .before .before .before .before .before .before .before .if3) .left) (((c .before .before .before .before .before .before .before .before .before .before .before .before .before .before .before .before .before .before .before .before .before .before .before .before .before .before .before .before .before .before .before .before .before .before .before .before .before .before .before .before .before .before .before .before .before .loop) .inv .1 .1 .1) .1)),
+        ),
       ),
     )
-
-same-length : tie.Need-same-length Inv-loop2 μ-loop2 Inv-loop μ-loop
-same-length c = (c .before .loop) .inv .1 .1 .1 .1 .0
-
-returns : tie.Need-returns Inv-loop2 μ-loop2 Inv-loop μ-loop
-returns c = answered ((c .before .before .before .before .before .args) .t1) ((c .before .before .before .before .before .args) .most) ((c .before .before .before .before .before .args) .values .now) ((c .before .loop) .n) ((c .before .loop) .u) ((c .before .loop) .used) ((c .before .loop) .log) (runFrom ((c .before .before .before .before .before .args) .t1) (keptIn ((c .before .before .before .before .before .args) .t1)) ((c .before .before .before .before .before .args) .most) ((c .before .before .before .before .before .args) .values .now) ((c .before .before .before .before .before .args) .schedule .now) 0 ((c .before .before .before .before .before .args) .s) (drop ((c .before .before .before .before .before .args) .before) ((c .before .before .before .before .before .args) .values .now)) ((c .before .before .before .before .before .args) .log .now)) 0 ((c .before .loop) .inv .1 .1 .0) ((c .before .loop) .inv .0 ∙ at-end ((c .before .before .before .before .before .args) .t1) ((c .before .before .before .before .before .args) .most) ((c .before .before .before .before .before .args) .values .now) ((c .before .loop) .n) ((c .before .loop) .u) ((c .before .loop) .used) ((c .before .loop) .log) ((c .before .loop) .rest .now) ((c .if1) .taken))
-
-same-length-2 : tie.Need-same-length-2 Inv-loop2 μ-loop2 Inv-loop μ-loop
-same-length-2 c = (c .before .before .before .loop) .inv .1 .1 .1 .1 .0
-
-returns-2 : tie.Need-returns-2 Inv-loop2 μ-loop2 Inv-loop μ-loop
-returns-2 c = answered ((c .before .before .before .before .before .before .before .args) .t1) ((c .before .before .before .before .before .before .before .args) .most) ((c .before .before .before .before .before .before .before .args) .values .now) ((c .before .before .before .loop) .n) ((c .before .before .before .loop) .u) ((c .before .before .before .loop) .used) ((c .before .before .before .loop) .log) (runFrom ((c .before .before .before .before .before .before .before .args) .t1) (keptIn ((c .before .before .before .before .before .before .before .args) .t1)) ((c .before .before .before .before .before .before .before .args) .most) ((c .before .before .before .before .before .before .before .args) .values .now) ((c .before .before .before .before .before .before .before .args) .schedule .now) 0 ((c .before .before .before .before .before .before .before .args) .s) (drop ((c .before .before .before .before .before .before .before .args) .before) ((c .before .before .before .before .before .before .before .args) .values .now)) ((c .before .before .before .before .before .before .before .args) .log .now)) 10 ((c .before .before .before .loop) .inv .1 .1 .0) ((c .before .before .before .loop) .inv .0 ∙ stop-none ((c .before .before .before .before .before .before .before .args) .t1) ((c .before .before .before .before .before .before .before .args) .t2) ((c .before .before .before .before .before .before .before .pre) .0) ((c .before .before .before .before .before .before .before .args) .most) ((c .before .before .before .before .before .before .before .args) .values .now) ((c .before .before .before .loop) .rest .now) ((c .before .before .before .loop) .n) ((c .before .before .before .loop) .u) ((c .before .before .before .loop) .used) ((c .before .before .before .loop) .log) ((c .before .before .if1) .left) ((c .if2) .taken))
-
-same-length-3 : tie.Need-same-length-3 Inv-loop2 μ-loop2 Inv-loop μ-loop
-same-length-3 c = (c .before .before .before .before .loop) .inv .1 .1 .1 .1 .0
-
-returns-3 : tie.Need-returns-3 Inv-loop2 μ-loop2 Inv-loop μ-loop
-returns-3 c = answered ((c .before .before .before .before .before .before .before .before .args) .t1) ((c .before .before .before .before .before .before .before .before .args) .most) ((c .before .before .before .before .before .before .before .before .args) .values .now) ((c .before .before .before .before .loop) .n) ((c .before .before .before .before .loop) .u) ((c .before .before .before .before .loop) .used) ((c .before .before .before .before .loop) .log) (runFrom ((c .before .before .before .before .before .before .before .before .args) .t1) (keptIn ((c .before .before .before .before .before .before .before .before .args) .t1)) ((c .before .before .before .before .before .before .before .before .args) .most) ((c .before .before .before .before .before .before .before .before .args) .values .now) ((c .before .before .before .before .before .before .before .before .args) .schedule .now) 0 ((c .before .before .before .before .before .before .before .before .args) .s) (drop ((c .before .before .before .before .before .before .before .before .args) .before) ((c .before .before .before .before .before .before .before .before .args) .values .now)) ((c .before .before .before .before .before .before .before .before .args) .log .now)) 11 ((c .before .before .before .before .loop) .inv .1 .1 .0) ((c .before .before .before .before .loop) .inv .0 ∙ stop-full ((c .before .before .before .before .before .before .before .before .args) .t1) ((c .before .before .before .before .before .before .before .before .args) .t2) ((c .before .before .before .before .before .before .before .before .pre) .0) ((c .before .before .before .before .before .before .before .before .args) .most) ((c .before .before .before .before .before .before .before .before .args) .values .now) ((c .before .before .before .before .loop) .rest .now) ((c .before .before .before .before .loop) .n) ((c .before .before .before .before .loop) .u) ((c .before .before .before .before .loop) .used) ((c .before .before .before .before .loop) .log) ((c .before .before .before .if1) .left) ((c .before .if2) .left) ((c .if3) .taken))
-
-same-length-4 : tie.Need-same-length-4 Inv-loop2 μ-loop2 Inv-loop μ-loop
-same-length-4 c = (c .before .before .before .before .before .before .loop) .inv .1 .1 .1 .1 .0
-
-returns-4 : tie.Need-returns-4 Inv-loop2 μ-loop2 Inv-loop μ-loop
-returns-4 c = answered ((c .before .before .before .before .before .before .before .before .before .before .args) .t1) ((c .before .before .before .before .before .before .before .before .before .before .args) .most) ((c .before .before .before .before .before .before .before .before .before .before .args) .values .now) ((c .before .before .before .before .before .before .loop) .n) ((c .before .before .before .before .before .before .loop) .u) ((c .before .before .before .before .before .before .loop) .used) ((c .before .before .before .before .before .before .loop) .log) (runFrom ((c .before .before .before .before .before .before .before .before .before .before .args) .t1) (keptIn ((c .before .before .before .before .before .before .before .before .before .before .args) .t1)) ((c .before .before .before .before .before .before .before .before .before .before .args) .most) ((c .before .before .before .before .before .before .before .before .before .before .args) .values .now) ((c .before .before .before .before .before .before .before .before .before .before .args) .schedule .now) 0 ((c .before .before .before .before .before .before .before .before .before .before .args) .s) (drop ((c .before .before .before .before .before .before .before .before .before .before .args) .before) ((c .before .before .before .before .before .before .before .before .before .before .args) .values .now)) ((c .before .before .before .before .before .before .before .before .before .before .args) .log .now)) 12 ((c .before .before .before .before .before .before .loop) .inv .1 .1 .0) ((c .before .before .before .before .before .before .loop) .inv .0 ∙ stop-lost ((c .before .before .before .before .before .before .before .before .before .before .args) .t1) ((c .before .before .before .before .before .before .before .before .before .before .args) .t2) ((c .before .before .before .before .before .before .before .before .before .before .pre) .0) ((c .before .before .before .before .before .before .before .before .before .before .args) .most) ((c .before .before .before .before .before .before .before .before .before .before .args) .values .now) ((c .before .before .before .before .before .before .loop) .rest .now) ((c .before .before .before .before .before .before .loop) .n) ((c .before .before .before .before .before .before .loop) .u) ((c .before .before .before .before .before .before .loop) .used) ((c .before .before .before .before .before .before .loop) .log) ((c .before .before .before .before .before .if1) .left) ((c .before .before .before .if2) .left) ((c .before .before .if3) .left) ((c .if4) .taken))
-
-same-length-5 : tie.Need-same-length-5 Inv-loop2 μ-loop2 Inv-loop μ-loop
-same-length-5 c = (c .before .before .before .before .before .before .before .before .before .before .before .before .before .before .before .loop) .inv .1 .1 .1 .1 .0
-
-returns-5 : tie.Need-returns-5 Inv-loop2 μ-loop2 Inv-loop μ-loop
-returns-5 c = answered ((c .before .before .before .before .before .before .before .before .before .before .before .before .before .before .before .before .before .before .before .args) .t1) ((c .before .before .before .before .before .before .before .before .before .before .before .before .before .before .before .before .before .before .before .args) .most) ((c .before .before .before .before .before .before .before .before .before .before .before .before .before .before .before .before .before .before .before .args) .values .now) ((c .before .before .before .before .before .before .before .before .before .before .before .before .before .before .before .loop) .n) ((c .before .before .before .before .before .before .before .before .before .before .before .before .before .before .before .loop) .u) ((c .before .before .before .before .before .before .before .before .before .before .before .before .before .before .before .loop) .used) ((c .before .before .before .before .before .before .before .before .before .before .before .before .before .before .before .loop) .log) (runFrom ((c .before .before .before .before .before .before .before .before .before .before .before .before .before .before .before .before .before .before .before .args) .t1) (keptIn ((c .before .before .before .before .before .before .before .before .before .before .before .before .before .before .before .before .before .before .before .args) .t1)) ((c .before .before .before .before .before .before .before .before .before .before .before .before .before .before .before .before .before .before .before .args) .most) ((c .before .before .before .before .before .before .before .before .before .before .before .before .before .before .before .before .before .before .before .args) .values .now) ((c .before .before .before .before .before .before .before .before .before .before .before .before .before .before .before .before .before .before .before .args) .schedule .now) 0 ((c .before .before .before .before .before .before .before .before .before .before .before .before .before .before .before .before .before .before .before .args) .s) (drop ((c .before .before .before .before .before .before .before .before .before .before .before .before .before .before .before .before .before .before .before .args) .before) ((c .before .before .before .before .before .before .before .before .before .before .before .before .before .before .before .before .before .before .before .args) .values .now)) ((c .before .before .before .before .before .before .before .before .before .before .before .before .before .before .before .before .before .before .before .args) .log .now)) 13 ((c .before .before .before .before .before .before .before .before .before .before .before .before .before .before .before .loop) .inv .1 .1 .0) ((c .before .before .before .before .before .before .before .before .before .before .before .before .before .before .before .loop) .inv .0 ∙ stop-call ((c .before .before .before .before .before .before .before .before .before .before .before .before .before .before .before .before .before .before .before .args) .t1) ((c .before .before .before .before .before .before .before .before .before .before .before .before .before .before .before .before .before .before .before .args) .t2) ((c .before .before .before .before .before .before .before .before .before .before .before .before .before .before .before .before .before .before .before .pre) .0) ((c .before .before .before .before .before .before .before .before .before .before .before .before .before .before .before .before .before .before .before .args) .most) ((c .before .before .before .before .before .before .before .before .before .before .before .before .before .before .before .before .before .before .before .args) .values .now) ((c .before .before .before .before .before .before .before .before .before .before .before .before .before .before .before .loop) .rest .now) ((c .before .before .before .before .before .before .before .before .before .before .before .before .before .before .before .loop) .n) ((c .before .before .before .before .before .before .before .before .before .before .before .before .before .before .before .loop) .u) ((c .before .before .before .before .before .before .before .before .before .before .before .before .before .before .before .loop) .used) ((c .before .before .before .before .before .before .before .before .before .before .before .before .before .before .before .loop) .log) ((c .before .before .before .before .before .before .before .top-of) .result) (getD ((c .before .before .before .before .before .before .before .before .before .before .before .before .before .before .before .before .row) .result) ((c .before .before .before .before .before .place) .result) noSlot .node) (sidesOf (getD ((c .before .before .before .before .before .before .before .before .before .before .before .before .before .before .before .before .row) .result) ((c .before .before .before .before .before .place) .result) noSlot .node)) (standing0 (c .before .before .before .before)) ((c .before .before .x) .given .0 .0) ((c .before .before .x) .given .0 .1 .0) ((c .before .before .x) .given .0 .1 .1 .0) ((c .before .before .x) .given .1) ((c .if5) .taken))
-
-same-length-6 : tie.Need-same-length-6 Inv-loop2 μ-loop2 Inv-loop μ-loop
-same-length-6 c = (c .before .before .before .before .before .before .before .before .before .before .before .before .before .before .before .before .before .before .before .before .before .before .loop) .inv .1 .1 .1 .1 .0
-
-returns-6 : tie.Need-returns-6 Inv-loop2 μ-loop2 Inv-loop μ-loop
-returns-6 c = answered ((c .before .before .before .before .before .before .before .before .before .before .before .before .before .before .before .before .before .before .before .before .before .before .before .before .before .before .args) .t1) ((c .before .before .before .before .before .before .before .before .before .before .before .before .before .before .before .before .before .before .before .before .before .before .before .before .before .before .args) .most) ((c .before .before .before .before .before .before .before .before .before .before .before .before .before .before .before .before .before .before .before .before .before .before .before .before .before .before .args) .values .now) ((c .before .before .before .before .before .before .before .before .before .before .before .before .before .before .before .before .before .before .before .before .before .before .loop) .n) ((c .before .before .before .before .before .before .before .before .before .before .before .before .before .before .before .before .before .before .before .before .before .before .loop) .u) ((c .before .before .before .before .before .before .before .before .before .before .before .before .before .before .before .before .before .before .before .before .before .before .loop) .used) ((c .before .before .before .before .before .before .before .before .before .before .before .before .before .before .before .before .before .before .before .before .before .before .loop) .log) (runFrom ((c .before .before .before .before .before .before .before .before .before .before .before .before .before .before .before .before .before .before .before .before .before .before .before .before .before .before .args) .t1) (keptIn ((c .before .before .before .before .before .before .before .before .before .before .before .before .before .before .before .before .before .before .before .before .before .before .before .before .before .before .args) .t1)) ((c .before .before .before .before .before .before .before .before .before .before .before .before .before .before .before .before .before .before .before .before .before .before .before .before .before .before .args) .most) ((c .before .before .before .before .before .before .before .before .before .before .before .before .before .before .before .before .before .before .before .before .before .before .before .before .before .before .args) .values .now) ((c .before .before .before .before .before .before .before .before .before .before .before .before .before .before .before .before .before .before .before .before .before .before .before .before .before .before .args) .schedule .now) 0 ((c .before .before .before .before .before .before .before .before .before .before .before .before .before .before .before .before .before .before .before .before .before .before .before .before .before .before .args) .s) (drop ((c .before .before .before .before .before .before .before .before .before .before .before .before .before .before .before .before .before .before .before .before .before .before .before .before .before .before .args) .before) ((c .before .before .before .before .before .before .before .before .before .before .before .before .before .before .before .before .before .before .before .before .before .before .before .before .before .before .args) .values .now)) ((c .before .before .before .before .before .before .before .before .before .before .before .before .before .before .before .before .before .before .before .before .before .before .before .before .before .before .args) .log .now)) ((c .before .before .act) .result .stop) ((c .before .before .before .before .before .before .before .before .before .before .before .before .before .before .before .before .before .before .before .before .before .before .loop) .inv .1 .1 .0) ((c .before .before .before .before .before .before .before .before .before .before .before .before .before .before .before .before .before .before .before .before .before .before .loop) .inv .0 ∙ stop-tried ((c .before .before .before .before .before .before .before .before .before .before .before .before .before .before .before .before .before .before .before .before .before .before .before .before .before .before .args) .t1) ((c .before .before .before .before .before .before .before .before .before .before .before .before .before .before .before .before .before .before .before .before .before .before .before .before .before .before .args) .t2) ((c .before .before .before .before .before .before .before .before .before .before .before .before .before .before .before .before .before .before .before .before .before .before .before .before .before .before .pre) .0) ((c .before .before .before .before .before .before .before .before .before .before .before .before .before .before .before .before .before .before .before .before .before .before .before .before .before .before .args) .most) ((c .before .before .before .before .before .before .before .before .before .before .before .before .before .before .before .before .before .before .before .before .before .before .before .before .before .before .args) .values .now) ((c .before .before .before .before .before .before .before .before .before .before .before .before .before .before .before .before .before .before .before .before .before .before .loop) .rest .now) ((c .before .before .before .before .before .before .before .before .before .before .before .before .before .before .before .before .before .before .before .before .before .before .loop) .n) ((c .before .before .before .before .before .before .before .before .before .before .before .before .before .before .before .before .before .before .before .before .before .before .loop) .u) ((c .before .before .before .before .before .before .before .before .before .before .before .before .before .before .before .before .before .before .before .before .before .before .loop) .used) ((c .before .before .before .before .before .before .before .before .before .before .before .before .before .before .before .before .before .before .before .before .before .before .loop) .log) ((c .before .before .before .before .before .before .before .before .before .before .before .before .before .before .top-of) .result) (getD ((c .before .before .before .before .before .before .before .before .before .before .before .before .before .before .before .before .before .before .before .before .before .before .before .row) .result) ((c .before .before .before .before .before .before .before .before .before .before .before .before .place) .result) noSlot .node) ((c .before .before .before .before .before .before .before .before .before .beside) .result) (standing (c .before .before .before .before .before .before .before .before .before)) ((c .before .before .before .before .before .before .before .if6) .g) ((c .before .before .before .before .before .before .before .if6) .back) ((c .before .before .act) .result) (backs (c .before .before .before .before .before .before .before)) (tries (c .before .before)) (λ fr. stop-acting ((c .before .before .before .before .before .before .before .before .before .before .before .before .before .before .before .before .before .before .before .before .before .before .before .before .before .before .args) .t1) ((c .before .before .before .before .before .before .before .before .before .before .before .before .before .before .before .before .before .before .before .before .before .before .before .before .before .before .args) .t2) ((c .before .before .before .before .before .before .before .before .before .before .before .before .before .before .before .before .before .before .before .before .before .before .before .before .before .before .pre) .0) ((c .before .before .before .before .before .before .before .before .before .before .before .before .before .before .before .before .before .before .before .before .before .before .before .before .before .before .args) .most) ((c .before .before .before .before .before .before .before .before .before .before .before .before .before .before .before .before .before .before .before .before .before .before .before .before .before .before .args) .values .now) ((c .before .before .before .before .before .before .before .before .before .before .before .before .before .before .before .before .before .before .before .before .before .before .loop) .rest .now) ((c .before .before .before .before .before .before .before .before .before .before .before .before .before .before .before .before .before .before .before .before .before .before .loop) .n) ((c .before .before .before .before .before .before .before .before .before .before .before .before .before .before .before .before .before .before .before .before .before .before .loop) .u) ((c .before .before .before .before .before .before .before .before .before .before .before .before .before .before .before .before .before .before .before .before .before .before .loop) .used) ((c .before .before .before .before .before .before .before .before .before .before .before .before .before .before .before .before .before .before .before .before .before .before .loop) .log) ((c .before .before .before .before .before .before .before .before .before .before .before .before .before .before .top-of) .result) (getD ((c .before .before .before .before .before .before .before .before .before .before .before .before .before .before .before .before .before .before .before .before .before .before .before .row) .result) ((c .before .before .before .before .before .before .before .before .before .before .before .before .place) .result) noSlot .node) ((c .before .before .before .before .before .before .before .before .before .beside) .result) (standing (c .before .before .before .before .before .before .before .before .before)) fr (sets ((c .before .before .before .before .before .before .before .before .before .before .before .before .before .before .before .before .before .before .before .before .before .before .loop) .log) (8 * (c .before .before .before .before .before .before .before .before .before .before .before .before .before .before .before .before .before .before .before .before .before .before .loop) .n) ((getD ((c .before .before .before .before .before .before .before .before .before .before .before .before .before .before .before .before .before .before .before .before .before .before .loop) .rest .now) 0 0) ∷ (frameIn ((c .before .before .before .before .before .before .before .before .before .before .before .before .before .before .before .before .before .before .before .before .before .before .loop) .u .frames) ((c .before .before .before .before .before .before .before .before .before .before .before .before .before .before .top-of) .result)) .proc ∷ (frameIn ((c .before .before .before .before .before .before .before .before .before .before .before .before .before .before .before .before .before .before .before .before .before .before .loop) .u .frames) ((c .before .before .before .before .before .before .before .before .before .before .before .before .before .before .top-of) .result)) .node ∷ (c .before .before .act) .result .flag ∷ word ((c .before .before .act) .result .bits))) (showing ((c .before .before .act) .result .flag) ((c .before .before .act) .result .bits)) (logs ((c .before .before .before .before .before .before .before .before .before .before .before .before .before .before .before .before .before .before .before .before .before .before .before .before .before .before .args) .t1) ((c .before .before .before .before .before .before .before .before .before .before .before .before .before .before .before .before .before .before .before .before .before .before .before .before .before .before .args) .t2) ((c .before .before .before .before .before .before .before .before .before .before .before .before .before .before .before .before .before .before .before .before .before .before .before .before .before .before .pre) .0) ((c .before .before .before .before .before .before .before .before .before .before .before .before .before .before .before .before .before .before .before .before .before .before .before .before .before .before .args) .most) ((c .before .before .before .before .before .before .before .before .before .before .before .before .before .before .before .before .before .before .before .before .before .before .before .before .before .before .args) .values .now) ((c .before .before .before .before .before .before .before .before .before .before .before .before .before .before .before .before .before .before .before .before .before .before .loop) .rest .now) ((c .before .before .before .before .before .before .before .before .before .before .before .before .before .before .before .before .before .before .before .before .before .before .loop) .n) ((c .before .before .before .before .before .before .before .before .before .before .before .before .before .before .before .before .before .before .before .before .before .before .loop) .u) ((c .before .before .before .before .before .before .before .before .before .before .before .before .before .before .before .before .before .before .before .before .before .before .loop) .used) ((c .before .before .before .before .before .before .before .before .before .before .before .before .before .before .before .before .before .before .before .before .before .before .loop) .log) ((c .before .before .before .before .before .before .before .before .before .before .before .before .before .before .top-of) .result) (getD ((c .before .before .before .before .before .before .before .before .before .before .before .before .before .before .before .before .before .before .before .before .before .before .before .row) .result) ((c .before .before .before .before .before .before .before .before .before .before .before .before .place) .result) noSlot .node) ((c .before .before .before .before .before .before .before .before .before .beside) .result) (standing (c .before .before .before .before .before .before .before .before .before)) ((c .before .before .before .before .before .before .before .if6) .g) ((c .before .before .before .before .before .before .before .if6) .back) ((c .before .before .act) .result) (backs (c .before .before .before .before .before .before .before)) (tries (c .before .before)) fr (nexts (c .before .before .before .before .before .before .before))) refl (no-call (getD ((c .before .before .before .before .before .before .before .before .before .before .before .before .before .before .before .before .before .before .before .before .before .before .before .row) .result) ((c .before .before .before .before .before .before .before .before .before .before .before .before .place) .result) noSlot .node) ((c .before .before .before .before .before .before .before .before .before .before .match) .keys2)) ((c .before .before .before .before .before .before .before .if6) .g) (nexts (c .before .before .before .before .before .before .before)) (nodeAt ((c .before .before .before .before .before .before .before .before .before .before .before .before .before .before .before .before .before .before .before .before .before .before .before .before .before .before .args) .t1) ((frameIn ((c .before .before .before .before .before .before .before .before .before .before .before .before .before .before .before .before .before .before .before .before .before .before .loop) .u .frames) ((c .before .before .before .before .before .before .before .if6) .g)) .proc) ((frameIn ((c .before .before .before .before .before .before .before .before .before .before .before .before .before .before .before .before .before .before .before .before .before .before .loop) .u .frames) ((c .before .before .before .before .before .before .before .if6) .g)) .node)) refl ((c .before .before .act) .result) (acted ((c .before .before .before .before .before .before .before .before .before .before .before .before .before .before .before .before .before .before .before .before .before .before .before .before .before .before .args) .t1) ((c .before .before .before .before .before .before .before .before .before .before .before .before .before .before .before .before .before .before .before .before .before .before .before .before .before .before .args) .t2) ((c .before .before .before .before .before .before .before .before .before .before .before .before .before .before .before .before .before .before .before .before .before .before .before .before .before .before .pre) .0) ((c .before .before .before .before .before .before .before .before .before .before .before .before .before .before .before .before .before .before .before .before .before .before .before .before .before .before .args) .most) ((c .before .before .before .before .before .before .before .before .before .before .before .before .before .before .before .before .before .before .before .before .before .before .before .before .before .before .args) .values .now) ((c .before .before .before .before .before .before .before .before .before .before .before .before .before .before .before .before .before .before .before .before .before .before .loop) .rest .now) ((c .before .before .before .before .before .before .before .before .before .before .before .before .before .before .before .before .before .before .before .before .before .before .loop) .n) ((c .before .before .before .before .before .before .before .before .before .before .before .before .before .before .before .before .before .before .before .before .before .before .loop) .u) ((c .before .before .before .before .before .before .before .before .before .before .before .before .before .before .before .before .before .before .before .before .before .before .loop) .used) ((c .before .before .before .before .before .before .before .before .before .before .before .before .before .before .before .before .before .before .before .before .before .before .loop) .log) ((c .before .before .before .before .before .before .before .before .before .before .before .before .before .before .top-of) .result) (getD ((c .before .before .before .before .before .before .before .before .before .before .before .before .before .before .before .before .before .before .before .before .before .before .before .row) .result) ((c .before .before .before .before .before .before .before .before .before .before .before .before .place) .result) noSlot .node) ((c .before .before .before .before .before .before .before .before .before .beside) .result) (standing (c .before .before .before .before .before .before .before .before .before)) ((c .before .before .before .before .before .before .before .if6) .g) ((c .before .before .before .before .before .before .before .if6) .back) ((c .before .before .act) .result) (backs (c .before .before .before .before .before .before .before)) (tries (c .before .before)) fr) ((c .if7) .taken)))
-
-same-length-7 : tie.Need-same-length-7 Inv-loop2 μ-loop2 Inv-loop μ-loop
-same-length-7 c = (c .before .before .before .before .before .before .before .before .before .before .before .before .before .before .before .before .before .before .before .before .before .before .before .before .before .before .before .before .before .before .loop) .inv .1 .1 .1 .1 .0
-
-returns-7 : tie.Need-returns-7 Inv-loop2 μ-loop2 Inv-loop μ-loop
-returns-7 c = answered ((c .before .before .before .before .before .before .before .before .before .before .before .before .before .before .before .before .before .before .before .before .before .before .before .before .before .before .before .before .before .before .before .before .before .before .args) .t1) ((c .before .before .before .before .before .before .before .before .before .before .before .before .before .before .before .before .before .before .before .before .before .before .before .before .before .before .before .before .before .before .before .before .before .before .args) .most) ((c .before .before .before .before .before .before .before .before .before .before .before .before .before .before .before .before .before .before .before .before .before .before .before .before .before .before .before .before .before .before .before .before .before .before .args) .values .now) ((c .before .before .before .before .before .before .before .before .before .before .before .before .before .before .before .before .before .before .before .before .before .before .before .before .before .before .before .before .before .before .loop) .n) ((c .before .before .before .before .before .before .before .before .before .before .before .before .before .before .before .before .before .before .before .before .before .before .before .before .before .before .before .before .before .before .loop) .u) ((c .before .before .before .before .before .before .before .before .before .before .before .before .before .before .before .before .before .before .before .before .before .before .before .before .before .before .before .before .before .before .loop) .used) ((c .before .before .before .before .before .before .before .before .before .before .before .before .before .before .before .before .before .before .before .before .before .before .before .before .before .before .before .before .before .before .loop) .log) (runFrom ((c .before .before .before .before .before .before .before .before .before .before .before .before .before .before .before .before .before .before .before .before .before .before .before .before .before .before .before .before .before .before .before .before .before .before .args) .t1) (keptIn ((c .before .before .before .before .before .before .before .before .before .before .before .before .before .before .before .before .before .before .before .before .before .before .before .before .before .before .before .before .before .before .before .before .before .before .args) .t1)) ((c .before .before .before .before .before .before .before .before .before .before .before .before .before .before .before .before .before .before .before .before .before .before .before .before .before .before .before .before .before .before .before .before .before .before .args) .most) ((c .before .before .before .before .before .before .before .before .before .before .before .before .before .before .before .before .before .before .before .before .before .before .before .before .before .before .before .before .before .before .before .before .before .before .args) .values .now) ((c .before .before .before .before .before .before .before .before .before .before .before .before .before .before .before .before .before .before .before .before .before .before .before .before .before .before .before .before .before .before .before .before .before .before .args) .schedule .now) 0 ((c .before .before .before .before .before .before .before .before .before .before .before .before .before .before .before .before .before .before .before .before .before .before .before .before .before .before .before .before .before .before .before .before .before .before .args) .s) (drop ((c .before .before .before .before .before .before .before .before .before .before .before .before .before .before .before .before .before .before .before .before .before .before .before .before .before .before .before .before .before .before .before .before .before .before .args) .before) ((c .before .before .before .before .before .before .before .before .before .before .before .before .before .before .before .before .before .before .before .before .before .before .before .before .before .before .before .before .before .before .before .before .before .before .args) .values .now)) ((c .before .before .before .before .before .before .before .before .before .before .before .before .before .before .before .before .before .before .before .before .before .before .before .before .before .before .before .before .before .before .before .before .before .before .args) .log .now)) ((c .before .before .if8) .z .stop) ((c .before .before .before .before .before .before .before .before .before .before .before .before .before .before .before .before .before .before .before .before .before .before .before .before .before .before .before .before .before .before .loop) .inv .1 .1 .0) ((c .before .before .before .before .before .before .before .before .before .before .before .before .before .before .before .before .before .before .before .before .before .before .before .before .before .before .before .before .before .before .loop) .inv .0 ∙ stop-walking ((c .before .before .before .before .before .before .before .before .before .before .before .before .before .before .before .before .before .before .before .before .before .before .before .before .before .before .before .before .before .before .before .before .before .before .args) .t1) ((c .before .before .before .before .before .before .before .before .before .before .before .before .before .before .before .before .before .before .before .before .before .before .before .before .before .before .before .before .before .before .before .before .before .before .args) .t2) ((c .before .before .before .before .before .before .before .before .before .before .before .before .before .before .before .before .before .before .before .before .before .before .before .before .before .before .before .before .before .before .before .before .before .before .pre) .0) ((c .before .before .before .before .before .before .before .before .before .before .before .before .before .before .before .before .before .before .before .before .before .before .before .before .before .before .before .before .before .before .before .before .before .before .args) .most) ((c .before .before .before .before .before .before .before .before .before .before .before .before .before .before .before .before .before .before .before .before .before .before .before .before .before .before .before .before .before .before .before .before .before .before .args) .values .now) ((c .before .before .before .before .before .before .before .before .before .before .before .before .before .before .before .before .before .before .before .before .before .before .before .before .before .before .before .before .before .before .loop) .rest .now) ((c .before .before .before .before .before .before .before .before .before .before .before .before .before .before .before .before .before .before .before .before .before .before .before .before .before .before .before .before .before .before .loop) .n) ((c .before .before .before .before .before .before .before .before .before .before .before .before .before .before .before .before .before .before .before .before .before .before .before .before .before .before .before .before .before .before .loop) .u) ((c .before .before .before .before .before .before .before .before .before .before .before .before .before .before .before .before .before .before .before .before .before .before .before .before .before .before .before .before .before .before .loop) .used) ((c .before .before .before .before .before .before .before .before .before .before .before .before .before .before .before .before .before .before .before .before .before .before .before .before .before .before .before .before .before .before .loop) .log) ((c .before .before .before .before .before .before .before .before .before .before .before .before .before .before .before .before .before .before .before .before .before .before .top-of) .result) (getD ((c .before .before .before .before .before .before .before .before .before .before .before .before .before .before .before .before .before .before .before .before .before .before .before .before .before .before .before .before .before .before .before .row) .result) ((c .before .before .before .before .before .before .before .before .before .before .before .before .before .before .before .before .before .before .before .before .place) .result) noSlot .node) ((c .before .before .before .before .before .before .before .before .before .before .before .before .before .before .before .before .before .beside) .result) (standing (c .before .before .before .before .before .before .before .before .before .before .before .before .before .before .before .before .before)) (free (c .before .before .before .before .before .before .before .before)) (sets ((c .before .before .before .before .before .before .before .before .before .before .before .before .before .before .before .before .before .before .before .before .before .before .before .before .before .before .before .before .before .before .loop) .log) (8 * (c .before .before .before .before .before .before .before .before .before .before .before .before .before .before .before .before .before .before .before .before .before .before .before .before .before .before .before .before .before .before .loop) .n) ((getD ((c .before .before .before .before .before .before .before .before .before .before .before .before .before .before .before .before .before .before .before .before .before .before .before .before .before .before .before .before .before .before .loop) .rest .now) 0 0) ∷ (frameIn ((c .before .before .before .before .before .before .before .before .before .before .before .before .before .before .before .before .before .before .before .before .before .before .before .before .before .before .before .before .before .before .loop) .u .frames) ((c .before .before .before .before .before .before .before .before .before .before .before .before .before .before .before .before .before .before .before .before .before .before .top-of) .result)) .proc ∷ (frameIn ((c .before .before .before .before .before .before .before .before .before .before .before .before .before .before .before .before .before .before .before .before .before .before .before .before .before .before .before .before .before .before .loop) .u .frames) ((c .before .before .before .before .before .before .before .before .before .before .before .before .before .before .before .before .before .before .before .before .before .before .top-of) .result)) .node ∷ (c .before .before .before .before .before .before .before .before .before .before .act) .result .flag ∷ word ((c .before .before .before .before .before .before .before .before .before .before .act) .result .bits))) (showing ((c .before .before .before .before .before .before .before .before .before .before .act) .result .flag) ((c .before .before .before .before .before .before .before .before .before .before .act) .result .bits)) (logs ((c .before .before .before .before .before .before .before .before .before .before .before .before .before .before .before .before .before .before .before .before .before .before .before .before .before .before .before .before .before .before .before .before .before .before .args) .t1) ((c .before .before .before .before .before .before .before .before .before .before .before .before .before .before .before .before .before .before .before .before .before .before .before .before .before .before .before .before .before .before .before .before .before .before .args) .t2) ((c .before .before .before .before .before .before .before .before .before .before .before .before .before .before .before .before .before .before .before .before .before .before .before .before .before .before .before .before .before .before .before .before .before .before .pre) .0) ((c .before .before .before .before .before .before .before .before .before .before .before .before .before .before .before .before .before .before .before .before .before .before .before .before .before .before .before .before .before .before .before .before .before .before .args) .most) ((c .before .before .before .before .before .before .before .before .before .before .before .before .before .before .before .before .before .before .before .before .before .before .before .before .before .before .before .before .before .before .before .before .before .before .args) .values .now) ((c .before .before .before .before .before .before .before .before .before .before .before .before .before .before .before .before .before .before .before .before .before .before .before .before .before .before .before .before .before .before .loop) .rest .now) ((c .before .before .before .before .before .before .before .before .before .before .before .before .before .before .before .before .before .before .before .before .before .before .before .before .before .before .before .before .before .before .loop) .n) ((c .before .before .before .before .before .before .before .before .before .before .before .before .before .before .before .before .before .before .before .before .before .before .before .before .before .before .before .before .before .before .loop) .u) ((c .before .before .before .before .before .before .before .before .before .before .before .before .before .before .before .before .before .before .before .before .before .before .before .before .before .before .before .before .before .before .loop) .used) ((c .before .before .before .before .before .before .before .before .before .before .before .before .before .before .before .before .before .before .before .before .before .before .before .before .before .before .before .before .before .before .loop) .log) ((c .before .before .before .before .before .before .before .before .before .before .before .before .before .before .before .before .before .before .before .before .before .before .top-of) .result) (getD ((c .before .before .before .before .before .before .before .before .before .before .before .before .before .before .before .before .before .before .before .before .before .before .before .before .before .before .before .before .before .before .before .row) .result) ((c .before .before .before .before .before .before .before .before .before .before .before .before .before .before .before .before .before .before .before .before .place) .result) noSlot .node) ((c .before .before .before .before .before .before .before .before .before .before .before .before .before .before .before .before .before .beside) .result) (standing (c .before .before .before .before .before .before .before .before .before .before .before .before .before .before .before .before .before)) ((c .before .before .before .before .before .before .before .before .before .before .before .before .before .before .before .if6) .g) ((c .before .before .before .before .before .before .before .before .before .before .before .before .before .before .before .if6) .back) ((c .before .before .before .before .before .before .before .before .before .before .act) .result) (backs (c .before .before .before .before .before .before .before .before .before .before .before .before .before .before .before)) (tries (c .before .before .before .before .before .before .before .before .before .before)) (free (c .before .before .before .before .before .before .before .before)) (nexts (c .before .before .before .before .before .before .before .before .before .before .before .before .before .before .before))) refl (no-call (getD ((c .before .before .before .before .before .before .before .before .before .before .before .before .before .before .before .before .before .before .before .before .before .before .before .before .before .before .before .before .before .before .before .row) .result) ((c .before .before .before .before .before .before .before .before .before .before .before .before .before .before .before .before .before .before .before .before .place) .result) noSlot .node) ((c .before .before .before .before .before .before .before .before .before .before .before .before .before .before .before .before .before .before .match) .keys2)) ((c .before .before .before .before .before .before .before .before .before .before .before .before .before .before .before .if6) .g) (nexts (c .before .before .before .before .before .before .before .before .before .before .before .before .before .before .before)) (nodeAt ((c .before .before .before .before .before .before .before .before .before .before .before .before .before .before .before .before .before .before .before .before .before .before .before .before .before .before .before .before .before .before .before .before .before .before .args) .t1) ((frameIn ((c .before .before .before .before .before .before .before .before .before .before .before .before .before .before .before .before .before .before .before .before .before .before .before .before .before .before .before .before .before .before .loop) .u .frames) ((c .before .before .before .before .before .before .before .before .before .before .before .before .before .before .before .if6) .g)) .proc) ((frameIn ((c .before .before .before .before .before .before .before .before .before .before .before .before .before .before .before .before .before .before .before .before .before .before .before .before .before .before .before .before .before .before .loop) .u .frames) ((c .before .before .before .before .before .before .before .before .before .before .before .before .before .before .before .if6) .g)) .node)) refl ((c .before .before .before .before .before .before .before .before .before .before .act) .result) (acted ((c .before .before .before .before .before .before .before .before .before .before .before .before .before .before .before .before .before .before .before .before .before .before .before .before .before .before .before .before .before .before .before .before .before .before .args) .t1) ((c .before .before .before .before .before .before .before .before .before .before .before .before .before .before .before .before .before .before .before .before .before .before .before .before .before .before .before .before .before .before .before .before .before .before .args) .t2) ((c .before .before .before .before .before .before .before .before .before .before .before .before .before .before .before .before .before .before .before .before .before .before .before .before .before .before .before .before .before .before .before .before .before .before .pre) .0) ((c .before .before .before .before .before .before .before .before .before .before .before .before .before .before .before .before .before .before .before .before .before .before .before .before .before .before .before .before .before .before .before .before .before .before .args) .most) ((c .before .before .before .before .before .before .before .before .before .before .before .before .before .before .before .before .before .before .before .before .before .before .before .before .before .before .before .before .before .before .before .before .before .before .args) .values .now) ((c .before .before .before .before .before .before .before .before .before .before .before .before .before .before .before .before .before .before .before .before .before .before .before .before .before .before .before .before .before .before .loop) .rest .now) ((c .before .before .before .before .before .before .before .before .before .before .before .before .before .before .before .before .before .before .before .before .before .before .before .before .before .before .before .before .before .before .loop) .n) ((c .before .before .before .before .before .before .before .before .before .before .before .before .before .before .before .before .before .before .before .before .before .before .before .before .before .before .before .before .before .before .loop) .u) ((c .before .before .before .before .before .before .before .before .before .before .before .before .before .before .before .before .before .before .before .before .before .before .before .before .before .before .before .before .before .before .loop) .used) ((c .before .before .before .before .before .before .before .before .before .before .before .before .before .before .before .before .before .before .before .before .before .before .before .before .before .before .before .before .before .before .loop) .log) ((c .before .before .before .before .before .before .before .before .before .before .before .before .before .before .before .before .before .before .before .before .before .before .top-of) .result) (getD ((c .before .before .before .before .before .before .before .before .before .before .before .before .before .before .before .before .before .before .before .before .before .before .before .before .before .before .before .before .before .before .before .row) .result) ((c .before .before .before .before .before .before .before .before .before .before .before .before .before .before .before .before .before .before .before .before .place) .result) noSlot .node) ((c .before .before .before .before .before .before .before .before .before .before .before .before .before .before .before .before .before .beside) .result) (standing (c .before .before .before .before .before .before .before .before .before .before .before .before .before .before .before .before .before)) ((c .before .before .before .before .before .before .before .before .before .before .before .before .before .before .before .if6) .g) ((c .before .before .before .before .before .before .before .before .before .before .before .before .before .before .before .if6) .back) ((c .before .before .before .before .before .before .before .before .before .before .act) .result) (backs (c .before .before .before .before .before .before .before .before .before .before .before .before .before .before .before)) (tries (c .before .before .before .before .before .before .before .before .before .before)) (free (c .before .before .before .before .before .before .before .before))) ((c .before .before .before .before .before .before .before .before .if7) .left) ((c .before .before .before .before .before .set-var) .last .0) ((c .before .before .before .before .before .set-var) .ensures ∙ ap (set ((frameIn ((c .before .before .before .before .before .before .before .before .before .before .before .before .before .before .before .before .before .before .before .before .before .before .before .before .before .before .before .before .before .before .loop) .u .frames) ((c .before .before .before .before .before .before .before .before .before .before .before .before .before .before .before .if6) .g)) .vars) ((c .before .before .before .before .before .before .before .before .before .before .act) .result .var)) (toZ-ofZ {w = w32} (record { sfits = (c .before .before .before .before .before .before .struct-told) .given .1 .1 .0 .1 }))) ((c .before .before .if8) .z) ((c .before .before .before .before .loop2) .fv) (λ mm. (c .before .before .before .before .loop2) .inv .0 mm ∙ ends (c .before .before) .is mm) ((c .if11) .taken))
 
 pub run-from-spec : {M : Type 1} → statement M
 run-from-spec =
@@ -464,28 +581,53 @@ run-from-spec =
     Inv-loop
     μ-loop
     row-requires
+    caps-requires
+    procs-requires
+    nodes-requires
+    vars-requires
+    lens-requires
+    items-requires
     loop-holds
+    running-requires
+    same-length
+    returns
     shared-slice-read-k
+    running-requires-2
+    same-length-2
+    returns-2
     mul-at
     sub-if3
+    running-requires-3
+    same-length-3
+    returns-3
     cast-i
-    element-copy-out-if4
-    element-copy-out-d
+    array-read-if4
+    running-requires-4
+    same-length-4
+    returns-4
+    array-read-d
     top-of-requires
-    mul-top
-    element-copy-out-top
+    array-read-tp
+    array-read-tn
     place-requires
     mul-sl
     array-copy-out-sl
     enum-known-x
-    mul-cf
-    element-copy-out-cf
+    running-requires-5
+    same-length-5
+    returns-5
+    mul-enter
+    index-1-enter
     enter-requires
-    add-t82
-    mul-t87
-    element-set-from-u
-    add-u
-    element-write-u
+    add-vars
+    mul-vars
+    array-set-from-vars
+    add-procs
+    array-write-procs
+    add-nodes
+    array-write-nodes
+    add-depth
+    array-write-depth
     put-requires
     at-most-requires
     add-n
@@ -494,71 +636,62 @@ run-from-spec =
     part-rest-end
     loop-less
     loop-again
-    beside-requires
-    element-copy-out-c
+    closes-requires
     under-requires
-    mul-bf
-    element-copy-out-bf
+    array-read-place
+    array-read-place-2
     place-requires-2
     mul-cl
     array-copy-out-cl
     arc-to-requires
-    mul-q
-    element-copy-out-q
-    mul-qc
-    element-copy-out-qc
-    array-copy-out-first
-    mul-fr
-    element-copy-out-fr
+    array-read-p
+    mul-act
+    index-1-act
     act-requires
-    set-var-requires
+    running-requires-6
+    same-length-6
+    returns-6
     cast-pi
     mul-kp
     array-read-kp
     loop2-holds
     arrive-requires
     halted-requires
+    mul-ahead
+    index-1-ahead
+    ahead-requires
     place-requires-3
     mul-dl
     array-copy-out-dl
     pass-requires
     halted-requires-2
-    set-var-requires-2
+    set-var-requires
     sub-m
     loop2-less
     loop2-again
-    no-frame-requires
-    mul-t134
-    element-set-from-u-2
-    mul-qe
-    element-copy-out-qe
-    queue-after-requires
-    mul-t134-2
-    element-set-from-u-3
-    mul-t65
-    element-set-from-u-4
-    sub-u
-    element-write-u-2
-    element-write-u-3
-    element-write-u-4
+    running-requires-7
+    same-length-7
+    returns-7
+    mul-clear
+    index-1-clear
+    clear-requires
+    mul-settle
+    index-1-settle
+    settle-requires
+    array-write-procs-2
+    array-write-procs-3
+    array-write-nodes-2
+    array-write-nodes-3
+    sub-depth
+    array-write-depth-2
+    array-write-lost
+    affect-requires
+    flag-requires
+    bits-requires
     put-requires-2
     add-n-2
     sub-rest-2
     part-rest-start-2
     part-rest-end-2
     loop-less-2
-    loop-again-2
-    same-length
-    returns
-    same-length-2
-    returns-2
-    same-length-3
-    returns-3
-    same-length-4
-    returns-4
-    same-length-5
-    returns-5
-    same-length-6
-    returns-6
-    same-length-7
-    returns-7)
+    loop-again-2)

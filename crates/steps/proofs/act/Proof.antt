@@ -1,19 +1,20 @@
 use borrow.Author.Needs.{needs}
 use native.Mathlib.Omega.{arith}
-use mathlib.Core.Path.{_≡_, refl, sym, ap, _∙_}
-use Prim.Native.Nat.{ℕ, suc, _+_, _-_, _*_, _/_, _%_, _^_, _≤_, _<_}
-use lib.ListN.{length, getD, set, length-set, List·getD-eq-default}
+use mathlib.Core.Path.{_≡_, refl, sym, ap, _∙_, subst}
+use mathlib.Core.Bool.{Bool, true, false}
+use mathlib.Core.List.{List, _∷_, []}
+use Prim.Native.Nat.{ℕ, suc, _+_, _-_, _≤_, _<_}
+use lib.ListN.{length, getD, set, length-set}
 use lib.Seq.{set-out}
+use lib.Dec.{eqb, leb}
 use lib.IntN.{ℤ, pos}
 use mir.Syntax.{w32}
 use mir.Val.{ofZ}
-use borrow.Author.Tests.{le-leb, lt-leb, lt-ltb, le-ltb, eq-eqb, ne-eqb}
-use Rattle.table.specs.Mask.{pick, members, membersFrom}
-use Rattle.steps.specs.Cut.{goesTo, haltsAt, actOf, sidesOf, stuckOf, shownOf, showing}
-use Rattle.steps.proofs.Leaves.{again, twice, holds-no, holds-yes, bit-here, bit-past, bit-off, bit-none, toss-spent, toss-none, toss-goes, entering-is, popped-is, put-is, queue-sends, queue-takes, queue-stays}
+use borrow.Author.Tests.{le-leb, lt-leb, eq-eqb, ne-eqb}
+use Rattle.table.specs.Mask.{pick}
 use Rattle.table.specs.Values.{apply, holds}
-use lib.Dec.{eqb, leb}
-use Rattle.steps.specs.Cut.{logsTo, unless}
+use Rattle.steps.specs.Cut.{goesTo, doesTo, haltsAt, unless, showsTo, Within, actOf, stuckOf, passOf, backOf, semsAfter, lensAfter, itemsAfter, shiftedOf}
+use Rattle.steps.proofs.Leaves.{again, twice, popped-is, entering-is}
 use Rattle.steps.proofs.act.Statement.{statement}
 use Rattle.steps.proofs.act.Tie as tie
 
@@ -77,11 +78,23 @@ call-requires c κs = search needs
 enum-known-x-5 : tie.Need-enum-known-x-5
 enum-known-x-5 c = search needs
 
+cast-i : tie.Need-cast-i
+cast-i c = search needs
+
+element-copy-out-wait : tie.Need-element-copy-out-wait
+element-copy-out-wait c = subst Within ((c .before .x5) .given .1) ((c .before .before .before .pre) .0)
+
 wait-requires : tie.Need-wait-requires
 wait-requires c κs = search needs
 
 enum-known-x-6 : tie.Need-enum-known-x-6
 enum-known-x-6 c = search needs
+
+cast-i-2 : tie.Need-cast-i-2
+cast-i-2 c = search needs
+
+element-copy-out-signal : tie.Need-element-copy-out-signal
+element-copy-out-signal c = subst Within ((c .before .x6) .given .1) ((c .before .before .before .pre) .0)
 
 signal-requires : tie.Need-signal-requires
 signal-requires c κs = search needs
@@ -89,8 +102,17 @@ signal-requires c κs = search needs
 enum-known-x-7 : tie.Need-enum-known-x-7
 enum-known-x-7 c = search needs
 
+cast-i-3 : tie.Need-cast-i-3
+cast-i-3 c = search needs
+
 var-at-requires : tie.Need-var-at-requires
 var-at-requires c κs = search needs
+
+element-copy-out-send : tie.Need-element-copy-out-send
+element-copy-out-send c = subst Within ((c .before .before .x7) .given .1) ((c .before .before .before .before .pre) .0)
+
+element-copy-out-send-2 : tie.Need-element-copy-out-send-2
+element-copy-out-send-2 c = subst Within ((c .before .before .before .x7) .given .1) ((c .before .before .before .before .before .pre) .0)
 
 send-requires : tie.Need-send-requires
 send-requires c κs = search needs
@@ -98,26 +120,35 @@ send-requires c κs = search needs
 enum-known-x-8 : tie.Need-enum-known-x-8
 enum-known-x-8 c = search needs
 
+cast-i-4 : tie.Need-cast-i-4
+cast-i-4 c = search needs
+
+mul-receive : tie.Need-mul-receive
+mul-receive c = record { fits = let h = subst Within ((c .before .x8) .given .1) ((c .before .before .before .pre) .0) in omega (arith, h) }
+
+index-1-receive : tie.Need-index-1-receive
+index-1-receive c = subst Within ((c .before .x8) .given .1) ((c .before .before .before .pre) .0)
+
+index-2-receive : tie.Need-index-2-receive
+index-2-receive c = search needs
+
+element-copy-out-receive : tie.Need-element-copy-out-receive
+element-copy-out-receive c = subst Within ((c .before .before .x8) .given .1) ((c .before .before .before .before .pre) .0)
+
 receive-requires : tie.Need-receive-requires
 receive-requires c κs = search needs
 
 enum-known-x-9 : tie.Need-enum-known-x-9
 enum-known-x-9 c = search needs
 
-show-var-requires : tie.Need-show-var-requires
-show-var-requires c κs = search needs
-
-logs-requires : tie.Need-logs-requires
-logs-requires c κs = search needs
+show-requires : tie.Need-show-requires
+show-requires c κs = search needs
 
 enum-known-x-10 : tie.Need-enum-known-x-10
 enum-known-x-10 c = search needs
 
-show-var-requires-2 : tie.Need-show-var-requires-2
-show-var-requires-2 c κs = search needs
-
-logs-requires-2 : tie.Need-logs-requires-2
-logs-requires-2 c κs = search needs
+show-requires-2 : tie.Need-show-requires-2
+show-requires-2 c κs = search needs
 
 enum-told-3 : tie.Need-enum-told-3
 enum-told-3 c = search needs
@@ -135,11 +166,11 @@ returns-2 c = rw ((c .before .before .x) .given .1) ((c .goes2) .ensures)
 
 returns-3 : tie.Need-returns-3
 unfolding actOf stuckOf
-returns-3 c = rw ((c .before .before .before .before .before .x2) .given .1) ((c .goes3) .ensures ∙ ap (λ (z : ℤ). goesTo ((c .before .before .before .before .before .x2) .given .0 .0) z ((c .before .before .before .before .before .before .before .args) .used) ((c .before .before .before .before .before .x2) .given .0 .1 .1 .1 .1 .0) ((c .before .before .before .before .before .before .before .args) .count)) (again ((c .before .apply) .result) (record { sfits = (c .before .apply) .ok }) ∙ (c .before .apply) .ensures ∙ twice (apply ((c .before .before .before .before .before .x2) .given .0 .1 .0)) ((c .before .before .before .operand) .result) ((c .before .before .operand2) .result) (record { sfits = (c .before .before .before .operand) .ok }) (record { sfits = (c .before .before .operand2) .ok }) ((c .before .before .before .operand) .ensures) ((c .before .before .operand2) .ensures)))
+returns-3 c = rw ((c .before .before .before .before .before .x2) .given .1) ((c .goes3) .ensures ∙ ap (λ (z : ℤ). goesTo ((c .before .before .before .before .before .x2) .given .0 .0) z ((c .before .before .before .before .before .before .before .args) .used) ((c .before .before .before .before .before .x2) .given .0 .1 .1 .1 .1 .0)) (again ((c .before .apply) .result) (record { sfits = (c .before .apply) .ok }) ∙ (c .before .apply) .ensures ∙ twice (apply ((c .before .before .before .before .before .x2) .given .0 .1 .0)) ((c .before .before .before .operand) .result) ((c .before .before .operand2) .result) (record { sfits = (c .before .before .before .operand) .ok }) (record { sfits = (c .before .before .operand2) .ok }) ((c .before .before .before .operand) .ensures) ((c .before .before .operand2) .ensures)))
 
 returns-4 : tie.Need-returns-4
 unfolding actOf stuckOf
-returns-4 c = rw ((c .before .before .before .before .before .before .x3) .given .1) ((c .goes4) .ensures ∙ ap (λ (a : ℕ). goesTo 255 (pos 0) ((c .before .before .before .before .before .before .before .before .args) .used) a ((c .before .before .before .before .before .before .before .before .args) .count)) ((c .before .branch) .ensures ∙ ap (λ (z : ℤ). pick (holds z) ((c .before .before .before .before .before .before .x3) .given .0 .1 .1 .1 .0) ((c .before .before .before .before .before .before .x3) .given .0 .1 .1 .1 .1 .0)) (again ((c .before .before .apply2) .result) (record { sfits = (c .before .before .apply2) .ok }) ∙ (c .before .before .apply2) .ensures ∙ twice (apply ((c .before .before .before .before .before .before .x3) .given .0 .0)) ((c .before .before .before .before .operand3) .result) ((c .before .before .before .operand4) .result) (record { sfits = (c .before .before .before .before .operand3) .ok }) (record { sfits = (c .before .before .before .operand4) .ok }) ((c .before .before .before .before .operand3) .ensures) ((c .before .before .before .operand4) .ensures))))
+returns-4 c = rw ((c .before .before .before .before .before .before .x3) .given .1) ((c .goes4) .ensures ∙ ap (λ (a : ℕ). goesTo 255 (pos 0) ((c .before .before .before .before .before .before .before .before .args) .used) a) ((c .before .branch) .ensures ∙ ap (λ (z : ℤ). pick (holds z) ((c .before .before .before .before .before .before .x3) .given .0 .1 .1 .1 .0) ((c .before .before .before .before .before .before .x3) .given .0 .1 .1 .1 .1 .0)) (again ((c .before .before .apply2) .result) (record { sfits = (c .before .before .apply2) .ok }) ∙ (c .before .before .apply2) .ensures ∙ twice (apply ((c .before .before .before .before .before .before .x3) .given .0 .0)) ((c .before .before .before .before .operand3) .result) ((c .before .before .before .operand4) .result) (record { sfits = (c .before .before .before .before .operand3) .ok }) (record { sfits = (c .before .before .before .operand4) .ok }) ((c .before .before .before .before .operand3) .ensures) ((c .before .before .before .operand4) .ensures))))
 
 returns-5 : tie.Need-returns-5
 unfolding actOf stuckOf
@@ -151,27 +182,27 @@ returns-6 c = rw ((c .before .enum-told2) .given .1) ((c .call) .ensures)
 
 returns-7 : tie.Need-returns-7
 unfolding actOf stuckOf
-returns-7 c = rw ((c .before .before .x5) .given .1) ((c .wait) .ensures)
+returns-7 c = rw ((c .before .before .before .x5) .given .1) ((c .wait) .ensures)
 
 returns-8 : tie.Need-returns-8
 unfolding actOf stuckOf
-returns-8 c = rw ((c .before .before .x6) .given .1) ((c .signal) .ensures)
+returns-8 c = rw ((c .before .before .before .x6) .given .1) ((c .signal) .ensures)
 
 returns-9 : tie.Need-returns-9
 unfolding actOf stuckOf
-returns-9 c = rw ((c .before .before .before .x7) .given .1) ((c .send) .ensures ∙ ap (λ (z : ℤ). unless (leb ((c .before .before .before .before .before .args) .cap) ((c .before .before .before .before .before .args) .len)) ((c .before .before .before .before .before .args) .used) ((c .before .before .before .before .before .args) .count) (goesTo 255 z ((c .before .before .before .before .before .args) .used) ((c .before .before .before .x7) .given .0 .1 .1 .0) ((c .before .before .before .before .before .args) .count))) (again ((c .before .var-at) .result) (record { sfits = (c .before .var-at) .ok }) ∙ (c .before .var-at) .ensures))
+returns-9 c = rw ((c .before .before .before .before .before .x7) .given .1) ((c .send) .ensures ∙ ap (λ (z : ℤ). unless (leb (getD ((c .before .before .before .before .before .before .before .args) .caps .now) ((c .before .before .before .before .before .x7) .given .0 .0) 0) (getD ((c .before .before .before .before .before .before .before .args) .lens .now) ((c .before .before .before .before .before .x7) .given .0 .0) 0)) ((c .before .before .before .before .before .before .before .args) .used) (doesTo 255 z ((c .before .before .before .before .before .before .before .args) .used) ((c .before .before .before .before .before .x7) .given .0 .1 .1 .0) 1 ((c .before .before .before .before .before .x7) .given .0 .0) (getD ((c .before .before .before .before .before .before .before .args) .lens .now) ((c .before .before .before .before .before .x7) .given .0 .0) 0 + 1))) (again ((c .before .before .before .var-at) .result) (record { sfits = (c .before .before .before .var-at) .ok }) ∙ (c .before .before .before .var-at) .ensures))
 
 returns-10 : tie.Need-returns-10
 unfolding actOf stuckOf
-returns-10 c = rw ((c .before .before .x8) .given .1) ((c .receive) .ensures ∙ ap (λ (z : ℤ). unless (eqb ((c .before .before .before .before .args) .len) 0) ((c .before .before .before .before .args) .used) ((c .before .before .before .before .args) .count) (goesTo ((c .before .before .x8) .given .0 .1 .0) z ((c .before .before .before .before .args) .used) ((c .before .before .x8) .given .0 .1 .1 .0) ((c .before .before .before .before .args) .count))) (again ((c .before .before .before .before .args) .first) ((c .before .before .before .before .fits) .first)))
+returns-10 c = rw ((c .before .before .before .before .x8) .given .1) ((c .receive) .ensures ∙ ap (λ (z : ℤ). unless (eqb (getD ((c .before .before .before .before .before .before .args) .lens .now) ((c .before .before .before .before .x8) .given .0 .0) 0) 0) ((c .before .before .before .before .before .before .args) .used) (doesTo ((c .before .before .before .before .x8) .given .0 .1 .0) z ((c .before .before .before .before .before .before .args) .used) ((c .before .before .before .before .x8) .given .0 .1 .1 .0) 2 ((c .before .before .before .before .x8) .given .0 .0) (getD ((c .before .before .before .before .before .before .args) .lens .now) ((c .before .before .before .before .x8) .given .0 .0) 0 - 1))) (again _ (record { sfits = (c .before .before .receive-arg) .given })))
 
 returns-11 : tie.Need-returns-11
 unfolding actOf stuckOf
-returns-11 c = rw ((c .before .before .before .x9) .given .1) ((c .logs) .ensures ∙ ap (logsTo ((c .before .before .before .before .before .args) .used) ((c .before .before .before .x9) .given .0 .1 .0) ((c .before .before .before .before .before .args) .count)) ((c .before .show-var) .ensures))
+returns-11 c = rw ((c .before .before .x9) .given .1) ((c .show) .ensures)
 
 returns-12 : tie.Need-returns-12
 unfolding actOf stuckOf
-returns-12 c = rw ((c .before .before .before .x10) .given .1) ((c .logs2) .ensures ∙ ap (logsTo ((c .before .before .before .before .before .args) .used) ((c .before .before .before .x10) .given .0 .1 .0) ((c .before .before .before .before .before .args) .count)) ((c .before .show-var2) .ensures))
+returns-12 c = rw ((c .before .before .x10) .given .1) ((c .show2) .ensures)
 
 returns-13 : tie.Need-returns-13
 unfolding actOf stuckOf
@@ -201,20 +232,30 @@ act-spec =
     enum-told-2
     call-requires
     enum-known-x-5
+    cast-i
+    element-copy-out-wait
     wait-requires
     enum-known-x-6
+    cast-i-2
+    element-copy-out-signal
     signal-requires
     enum-known-x-7
+    cast-i-3
     var-at-requires
+    element-copy-out-send
+    element-copy-out-send-2
     send-requires
     enum-known-x-8
+    cast-i-4
+    mul-receive
+    index-1-receive
+    index-2-receive
+    element-copy-out-receive
     receive-requires
     enum-known-x-9
-    show-var-requires
-    logs-requires
+    show-requires
     enum-known-x-10
-    show-var-requires-2
-    logs-requires-2
+    show-requires-2
     enum-told-3
     give-back-requires
     returns

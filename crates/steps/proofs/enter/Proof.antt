@@ -1,16 +1,20 @@
 use borrow.Author.Needs.{needs}
 use native.Mathlib.Omega.{arith}
-use mathlib.Core.Path.{_≡_, refl, sym, ap, _∙_}
-use Prim.Native.Nat.{ℕ, suc, _+_, _-_, _*_, _/_, _%_, _^_, _≤_, _<_}
-use lib.ListN.{length, getD, set, length-set, List·getD-eq-default}
+use mathlib.Core.Path.{_≡_, refl, sym, ap, _∙_, subst}
+use mathlib.Core.Bool.{Bool, true, false}
+use mathlib.Core.List.{List, _∷_, []}
+use Prim.Native.Nat.{ℕ, suc, _+_, _-_, _≤_, _<_}
+use lib.ListN.{length, getD, set, length-set}
 use lib.Seq.{set-out}
+use lib.Dec.{eqb, leb}
 use lib.IntN.{ℤ, pos}
 use mir.Syntax.{w32}
 use mir.Val.{ofZ}
-use borrow.Author.Tests.{le-leb, lt-leb, lt-ltb, le-ltb, eq-eqb, ne-eqb}
-use Rattle.table.specs.Mask.{pick, members, membersFrom}
-use Rattle.steps.specs.Cut.{goesTo, haltsAt, actOf, sidesOf, stuckOf, shownOf, showing}
-use Rattle.steps.proofs.Leaves.{again, twice, holds-no, holds-yes, bit-here, bit-past, bit-off, bit-none, toss-spent, toss-none, toss-goes, entering-is, shift-is, put-is, queue-sends, queue-takes, queue-stays}
+use borrow.Author.Tests.{le-leb, lt-leb, eq-eqb, ne-eqb}
+use Rattle.table.specs.Mask.{pick}
+use Rattle.table.specs.Values.{apply, holds}
+use Rattle.steps.specs.Cut.{goesTo, doesTo, haltsAt, unless, showsTo, Within, actOf, stuckOf, passOf, backOf, semsAfter, lensAfter, itemsAfter, shiftedOf}
+use Rattle.steps.proofs.Leaves.{again, twice, popped-is, entering-is}
 use Rattle.steps.proofs.enter.Statement.{statement}
 use Rattle.steps.proofs.enter.Tie as tie
 
@@ -32,4 +36,9 @@ returns c = entering-is (c .before .before .before .before .before .before .befo
 pub enter-spec : {M : Type 1} → statement M
 enter-spec =
     tie.close
-    (tie.spec passed-requires passed-requires-2 passed-requires-3 passed-requires-4 returns)
+    (tie.spec
+    passed-requires
+    passed-requires-2
+    passed-requires-3
+    passed-requires-4
+    returns)

@@ -1,16 +1,20 @@
 use borrow.Author.Needs.{needs}
 use native.Mathlib.Omega.{arith}
-use mathlib.Core.Path.{_≡_, refl, sym, ap, _∙_}
-use Prim.Native.Nat.{ℕ, suc, _+_, _-_, _*_, _/_, _%_, _^_, _≤_, _<_}
-use lib.ListN.{length, getD, set, length-set, List·getD-eq-default}
+use mathlib.Core.Path.{_≡_, refl, sym, ap, _∙_, subst}
+use mathlib.Core.Bool.{Bool, true, false}
+use mathlib.Core.List.{List, _∷_, []}
+use Prim.Native.Nat.{ℕ, suc, _+_, _-_, _≤_, _<_}
+use lib.ListN.{length, getD, set, length-set}
 use lib.Seq.{set-out}
+use lib.Dec.{eqb, leb}
 use lib.IntN.{ℤ, pos}
 use mir.Syntax.{w32}
 use mir.Val.{ofZ}
-use borrow.Author.Tests.{le-leb, lt-leb, lt-ltb, le-ltb, eq-eqb, ne-eqb}
-use Rattle.table.specs.Mask.{pick, members, membersFrom}
-use Rattle.steps.specs.Cut.{goesTo, haltsAt, actOf, sidesOf, stuckOf, shownOf, showing}
-use Rattle.steps.proofs.Leaves.{again, twice, holds-no, holds-yes, bit-here, bit-past, bit-off, bit-none, toss-spent, toss-none, toss-goes, entering-is, popped-is, put-is, queue-sends, queue-takes, queue-stays}
+use borrow.Author.Tests.{le-leb, lt-leb, eq-eqb, ne-eqb}
+use Rattle.table.specs.Mask.{pick}
+use Rattle.table.specs.Values.{apply, holds}
+use Rattle.steps.specs.Cut.{goesTo, doesTo, haltsAt, unless, showsTo, Within, actOf, stuckOf, passOf, backOf, semsAfter, lensAfter, itemsAfter, shiftedOf}
+use Rattle.steps.proofs.Leaves.{again, twice, popped-is, entering-is}
 use Rattle.steps.proofs.give_back.Statement.{statement}
 use Rattle.steps.proofs.give_back.Tie as tie
 
@@ -27,4 +31,10 @@ returns-2 : tie.Need-returns-2
 returns-2 c = (c .goes) .ensures ∙ rw (lt-leb ((c .before .before .args) .depth) 1 ((c .before .if1) .left)) refl
 
 pub give-back-spec : {M : Type 1} → statement M
-give-back-spec = tie.close (tie.spec halts-requires returns goes-requires returns-2)
+give-back-spec =
+    tie.close
+    (tie.spec
+    halts-requires
+    returns
+    goes-requires
+    returns-2)

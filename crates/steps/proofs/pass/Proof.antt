@@ -1,11 +1,20 @@
 use borrow.Author.Needs.{needs}
-use mathlib.Core.Path.{_≡_, refl, ap, _∙_}
-use Prim.Native.Nat.{ℕ}
+use native.Mathlib.Omega.{arith}
+use mathlib.Core.Path.{_≡_, refl, sym, ap, _∙_, subst}
+use mathlib.Core.Bool.{Bool, true, false}
+use mathlib.Core.List.{List, _∷_, []}
+use Prim.Native.Nat.{ℕ, suc, _+_, _-_, _≤_, _<_}
+use lib.ListN.{length, getD, set, length-set}
+use lib.Seq.{set-out}
+use lib.Dec.{eqb, leb}
 use lib.IntN.{ℤ, pos}
+use mir.Syntax.{w32}
+use mir.Val.{ofZ}
+use borrow.Author.Tests.{le-leb, lt-leb, eq-eqb, ne-eqb}
 use Rattle.table.specs.Mask.{pick}
 use Rattle.table.specs.Values.{apply, holds}
-use Rattle.steps.specs.Cut.{goesTo, passOf}
-use Rattle.steps.proofs.Leaves.{again, twice}
+use Rattle.steps.specs.Cut.{goesTo, doesTo, haltsAt, unless, showsTo, Within, actOf, stuckOf, passOf, backOf, semsAfter, lensAfter, itemsAfter, shiftedOf}
+use Rattle.steps.proofs.Leaves.{again, twice, popped-is, entering-is}
 use Rattle.steps.proofs.pass.Statement.{statement}
 use Rattle.steps.proofs.pass.Tie as tie
 
@@ -118,11 +127,11 @@ returns-2 c = rw ((c .before .enum-told2) .given .1) ((c .goes2) .ensures)
 
 returns-3 : tie.Need-returns-3
 unfolding passOf
-returns-3 c = rw ((c .before .before .before .before .before .x) .given .1) ((c .goes3) .ensures ∙ ap (λ (z : ℤ). goesTo ((c .before .before .before .before .before .x) .given .0 .0) z ((c .before .before .before .before .before .before .before .args) .used) ((c .before .before .before .before .before .x) .given .0 .1 .1 .1 .1 .0) 0) (again ((c .before .apply) .result) (record { sfits = (c .before .apply) .ok }) ∙ (c .before .apply) .ensures ∙ twice (apply ((c .before .before .before .before .before .x) .given .0 .1 .0)) ((c .before .before .before .operand) .result) ((c .before .before .operand2) .result) (record { sfits = (c .before .before .before .operand) .ok }) (record { sfits = (c .before .before .operand2) .ok }) ((c .before .before .before .operand) .ensures) ((c .before .before .operand2) .ensures)))
+returns-3 c = rw ((c .before .before .before .before .before .x) .given .1) ((c .goes3) .ensures ∙ ap (λ (z : ℤ). goesTo ((c .before .before .before .before .before .x) .given .0 .0) z ((c .before .before .before .before .before .before .before .args) .used) ((c .before .before .before .before .before .x) .given .0 .1 .1 .1 .1 .0)) (again ((c .before .apply) .result) (record { sfits = (c .before .apply) .ok }) ∙ (c .before .apply) .ensures ∙ twice (apply ((c .before .before .before .before .before .x) .given .0 .1 .0)) ((c .before .before .before .operand) .result) ((c .before .before .operand2) .result) (record { sfits = (c .before .before .before .operand) .ok }) (record { sfits = (c .before .before .operand2) .ok }) ((c .before .before .before .operand) .ensures) ((c .before .before .operand2) .ensures)))
 
 returns-4 : tie.Need-returns-4
 unfolding passOf
-returns-4 c = rw ((c .before .before .before .before .before .before .x2) .given .1) ((c .goes4) .ensures ∙ ap (λ (a : ℕ). goesTo 255 (pos 0) ((c .before .before .before .before .before .before .before .before .args) .used) a 0) ((c .before .branch) .ensures ∙ ap (λ (z : ℤ). pick (holds z) ((c .before .before .before .before .before .before .x2) .given .0 .1 .1 .1 .0) ((c .before .before .before .before .before .before .x2) .given .0 .1 .1 .1 .1 .0)) (again ((c .before .before .apply2) .result) (record { sfits = (c .before .before .apply2) .ok }) ∙ (c .before .before .apply2) .ensures ∙ twice (apply ((c .before .before .before .before .before .before .x2) .given .0 .0)) ((c .before .before .before .before .operand3) .result) ((c .before .before .before .operand4) .result) (record { sfits = (c .before .before .before .before .operand3) .ok }) (record { sfits = (c .before .before .before .operand4) .ok }) ((c .before .before .before .before .operand3) .ensures) ((c .before .before .before .operand4) .ensures))))
+returns-4 c = rw ((c .before .before .before .before .before .before .x2) .given .1) ((c .goes4) .ensures ∙ ap (λ (a : ℕ). goesTo 255 (pos 0) ((c .before .before .before .before .before .before .before .before .args) .used) a) ((c .before .branch) .ensures ∙ ap (λ (z : ℤ). pick (holds z) ((c .before .before .before .before .before .before .x2) .given .0 .1 .1 .1 .0) ((c .before .before .before .before .before .before .x2) .given .0 .1 .1 .1 .1 .0)) (again ((c .before .before .apply2) .result) (record { sfits = (c .before .before .apply2) .ok }) ∙ (c .before .before .apply2) .ensures ∙ twice (apply ((c .before .before .before .before .before .before .x2) .given .0 .0)) ((c .before .before .before .before .operand3) .result) ((c .before .before .before .operand4) .result) (record { sfits = (c .before .before .before .before .operand3) .ok }) (record { sfits = (c .before .before .before .operand4) .ok }) ((c .before .before .before .before .operand3) .ensures) ((c .before .before .before .operand4) .ensures))))
 
 returns-5 : tie.Need-returns-5
 unfolding passOf

@@ -1,0 +1,55 @@
+use borrow.Author.Needs.{needs}
+use native.Mathlib.Omega.{arith}
+use mathlib.Core.Path.{_≡_, refl, sym, ap, _∙_}
+use mathlib.Core.List.{List, _∷_, []}
+use Prim.Native.Nat.{ℕ, zero, suc, _+_, _-_, _≤_, _<_}
+use lib.ListN.{length, getD, set, List·getD-map}
+use Rattle.table.specs.Table.{queueAt}
+use lib.IntN.{ℤ, pos}
+use Rattle.machine.specs.declared.Frame.{Frame}
+use Rattle.machine.specs.declared.Entries.{Entries}
+use Rattle.columns.specs.Columns.{framesOf, queuesOf, procsOf, nodesOf, varsOf, lensOf, itemsOf}
+use Rattle.columns.specs.ColumnLaws.{frame-at, queue-at, Filled, fill, full, length-map, length-frames, length-queues, Rows, rows-none, rows-set, eight}
+use Rattle.columns.proofs.caps.Statement.{statement}
+use Rattle.columns.proofs.caps.Tie as tie
+
+element-copy-out-t5 : tie.Need-element-copy-out-t5
+element-copy-out-t5 c = search needs
+
+element-copy-out-t8 : tie.Need-element-copy-out-t8
+element-copy-out-t8 c = search needs
+
+element-copy-out-t11 : tie.Need-element-copy-out-t11
+element-copy-out-t11 c = search needs
+
+element-copy-out-t14 : tie.Need-element-copy-out-t14
+element-copy-out-t14 c = search needs
+
+element-copy-out-t17 : tie.Need-element-copy-out-t17
+element-copy-out-t17 c = search needs
+
+element-copy-out-t20 : tie.Need-element-copy-out-t20
+element-copy-out-t20 c = search needs
+
+element-copy-out-t23 : tie.Need-element-copy-out-t23
+element-copy-out-t23 c = search needs
+
+element-copy-out-t26 : tie.Need-element-copy-out-t26
+element-copy-out-t26 c = search needs
+
+returns : tie.Need-returns
+returns c = eight (λ q. queueAt ((c .before .args) .t) q .cap)
+
+pub caps-spec : {M : Type 1} → statement M
+caps-spec =
+    tie.close
+    (tie.spec
+    element-copy-out-t5
+    element-copy-out-t8
+    element-copy-out-t11
+    element-copy-out-t14
+    element-copy-out-t17
+    element-copy-out-t20
+    element-copy-out-t23
+    element-copy-out-t26
+    returns)

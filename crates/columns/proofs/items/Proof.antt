@@ -1,0 +1,70 @@
+use borrow.Author.Needs.{needs}
+use native.Mathlib.Omega.{arith}
+use mathlib.Core.Path.{_≡_, refl, sym, ap, _∙_}
+use mathlib.Core.List.{List, _∷_, []}
+use Prim.Native.Nat.{ℕ, zero, suc, _+_, _-_, _≤_, _<_}
+use lib.ListN.{length, getD, set, List·getD-map}
+use Rattle.table.specs.Table.{queueAt}
+use lib.IntN.{ℤ, pos}
+use Rattle.machine.specs.declared.Frame.{Frame}
+use Rattle.machine.specs.declared.Entries.{Entries}
+use Rattle.columns.specs.Columns.{framesOf, queuesOf, procsOf, nodesOf, varsOf, lensOf, itemsOf}
+use Rattle.columns.specs.ColumnLaws.{frame-at, queue-at, Filled, fill, full, length-map, length-frames, length-queues, Rows, rows-none, rows-set, eight}
+use Rattle.columns.proofs.items.Statement.{statement}
+use Rattle.columns.proofs.items.Tie as tie
+
+abbrev Inv-loop : tie.InvT-loop
+Inv-loop queues r₀ i₀ r i = (i ≤ 8) × (Filled [] (itemsOf queues) r i × Rows r)
+
+abbrev μ-loop : tie.MeasureT-loop
+μ-loop queues r₀ i₀ r i = 8 - i
+
+queues-8 : (c : tie.Start Inv-loop μ-loop) → length ((c .args) .t1) ≡ 8
+queues-8 c = search needs
+
+loop-holds : tie.Need-loop-holds Inv-loop μ-loop
+loop-holds c = (omega arith, ((sym (length-map (λ (e : Entries). e .items) ((c .args) .t1) ∙ queues-8 c), λ j h. absurd (omega arith)), rows-none))
+
+mul-e : tie.Need-mul-e Inv-loop μ-loop
+mul-e c = search needs
+
+array-copy-out-e : tie.Need-array-copy-out-e Inv-loop μ-loop
+array-copy-out-e c = search needs
+
+row-requires : tie.Need-row-requires Inv-loop μ-loop
+row-requires c κs = search needs
+
+mul-r : tie.Need-mul-r Inv-loop μ-loop
+mul-r c = search needs
+
+array-set-from-r : tie.Need-array-set-from-r Inv-loop μ-loop
+array-set-from-r c = search needs
+
+add-i : tie.Need-add-i Inv-loop μ-loop
+add-i c = search needs
+
+loop-less : tie.Need-loop-less Inv-loop μ-loop
+loop-less c = search needs
+
+loop-again : tie.Need-loop-again Inv-loop μ-loop
+loop-again c = (omega arith, (fill [] (itemsOf ((c .before .before .before .before .args) .t1)) ((c .before .before .before .loop) .r) ((c .before .before .before .loop) .i) ((c .row) .result) (let h : 8 ≡ length (itemsOf ((c .before .before .before .before .args) .t1)) = sym (length-map (λ (e : Entries). e .items) ((c .before .before .before .before .args) .t1) ∙ queues-8 (c .before .before .before .before)) in omega arith) ((c .row) .ensures .0 ∙ sym (List·getD-map (λ (e : Entries). e .items) ((c .before .before .before .before .args) .t1) ((c .before .before .before .loop) .i) (record { len = 0; items = [] }))) ((c .before .before .before .loop) .inv .1 .0), rows-set ((c .before .before .before .loop) .r) ((c .before .before .before .loop) .i) ((c .row) .result) ((c .row) .ensures .1) ((c .before .before .before .loop) .inv .1 .1)))
+
+returns : tie.Need-returns Inv-loop μ-loop
+returns c = let e = full [] (itemsOf ((c .before .before .args) .t1)) ((c .before .loop) .r) ((c .before .loop) .i) (let h : length (itemsOf ((c .before .before .args) .t1)) ≡ 8 = length-map (λ (e : Entries). e .items) ((c .before .before .args) .t1) ∙ queues-8 (c .before .before) in omega arith) ((c .before .loop) .inv .1 .0) in (e, (ap length e ∙ length-map (λ (e : Entries). e .items) ((c .before .before .args) .t1) ∙ queues-8 (c .before .before), (c .before .loop) .inv .1 .1))
+
+pub items-spec : {M : Type 1} → statement M
+items-spec =
+    tie.close
+    (tie.spec
+    Inv-loop
+    μ-loop
+    loop-holds
+    mul-e
+    array-copy-out-e
+    row-requires
+    mul-r
+    array-set-from-r
+    add-i
+    loop-less
+    loop-again
+    returns)

@@ -1,0 +1,31 @@
+use borrow.Author.Needs.{needs}
+use native.Mathlib.Omega.{arith}
+use mathlib.Core.Path.{_≡_, refl, sym, ap, _∙_}
+use mathlib.Core.List.{List, _∷_, []}
+use Prim.Native.Nat.{ℕ, zero, suc, _+_, _-_, _≤_, _<_}
+use lib.ListN.{length, getD, set, List·getD-map}
+use Rattle.table.specs.Table.{queueAt}
+use lib.IntN.{ℤ, pos}
+use Rattle.machine.specs.declared.Frame.{Frame}
+use Rattle.machine.specs.declared.Entries.{Entries}
+use Rattle.columns.specs.Columns.{framesOf, queuesOf, procsOf, nodesOf, varsOf, lensOf, itemsOf}
+use Rattle.columns.specs.ColumnLaws.{frame-at, queue-at, Filled, fill, full, length-map, length-frames, length-queues, Rows, rows-none, rows-set, eight}
+use Rattle.columns.proofs.running.Statement.{statement}
+use Rattle.columns.proofs.running.Tie as tie
+
+frames-requires : tie.Need-frames-requires
+frames-requires c κs = ((c .pre) .procs, ((c .pre) .nodes, (c .pre) .vars))
+
+queues-requires : tie.Need-queues-requires
+queues-requires c κs = ((c .before .pre) .lens, (c .before .pre) .items)
+
+returns : tie.Need-returns
+returns c = let f = (c .before .frames) .ensures in let q = (c .queues) .ensures in λ i. record { steps = (c .before .before .args) .steps; used = (c .before .before .args) .used; stop = (c .before .before .args) .stop; state = record { depth = (c .before .before .args) .depth; lost = (c .before .before .args) .lost; frames = f i; sems = (c .before .before .args) .sems; queues = q i } }
+
+pub running-spec : {M : Type 1} → statement M
+running-spec =
+    tie.close
+    (tie.spec
+    frames-requires
+    queues-requires
+    returns)

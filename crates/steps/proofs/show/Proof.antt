@@ -1,0 +1,44 @@
+use borrow.Author.Needs.{needs}
+use native.Mathlib.Omega.{arith}
+use mathlib.Core.Path.{_≡_, refl, sym, ap, _∙_, subst}
+use mathlib.Core.Bool.{Bool, true, false}
+use mathlib.Core.List.{List, _∷_, []}
+use Prim.Native.Nat.{ℕ, suc, _+_, _-_, _≤_, _<_}
+use lib.ListN.{length, getD, set, length-set}
+use lib.Seq.{set-out}
+use lib.Dec.{eqb, leb}
+use lib.IntN.{ℤ, pos}
+use mir.Syntax.{w32}
+use mir.Val.{ofZ}
+use borrow.Author.Tests.{le-leb, lt-leb, eq-eqb, ne-eqb}
+use Rattle.table.specs.Mask.{pick}
+use Rattle.table.specs.Values.{apply, holds}
+use Rattle.steps.specs.Cut.{goesTo, doesTo, haltsAt, unless, showsTo, Within, actOf, stuckOf, passOf, backOf, semsAfter, lensAfter, itemsAfter, shiftedOf}
+use Rattle.steps.proofs.Leaves.{again, twice, popped-is, entering-is}
+use Rattle.steps.proofs.show.Statement.{statement}
+use Rattle.steps.proofs.show.Tie as tie
+
+goes-requires : tie.Need-goes-requires
+goes-requires c κs = search needs
+
+returns : tie.Need-returns
+returns c = (c .goes) .ensures ∙ rw (eq-eqb ((c .before .before .args) .v) 255 ((c .before .if1) .taken)) refl
+
+var-at-requires : tie.Need-var-at-requires
+var-at-requires c κs = search needs
+
+does-requires : tie.Need-does-requires
+does-requires c κs = search needs
+
+returns-2 : tie.Need-returns-2
+returns-2 c = (c .does) .ensures ∙ ap (λ (z : ℤ). doesTo 255 z ((c .before .before .before .args) .used) ((c .before .before .before .args) .to) 4 0 0) (again ((c .before .var-at) .result) (record { sfits = (c .before .var-at) .ok }) ∙ (c .before .var-at) .ensures) ∙ rw (ne-eqb ((c .before .before .before .args) .v) 255 ((c .before .before .if1) .left)) refl
+
+pub show-spec : {M : Type 1} → statement M
+show-spec =
+    tie.close
+    (tie.spec
+    goes-requires
+    returns
+    var-at-requires
+    does-requires
+    returns-2)
