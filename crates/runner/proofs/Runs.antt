@@ -1,16 +1,15 @@
 -- A step as the code goes: what is tested before it, the kept node executed, the state stored.
-use mathlib.Core.Path.{_≡_, refl, sym, _∙_, ap, subst}
+use mathlib.Core.Path.{_≡_, refl, sym, _∙_, ap}
 use mathlib.Core.Bool.{Bool, true, false}
 use mathlib.Core.List.{List, [], _∷_}
 use mathlib.Core.Option.{Option, none, some}
 use Prim.Native.Nat.{ℕ, zero, suc, _+_, _-_, _*_, _<_, _≤_}
 use native.Mathlib.Omega.{arith}
-use native.Mathlib.Numerals.{add-one}
-use lib.ListN.{length, getD, set, take, drop, length-drop, length-set}
+use lib.ListN.{length, getD, set, take, drop, length-drop}
 use lib.Seq.{sets, take-all, set-out, set-getD, set-set}
-use lib.Dec.{eqb, leb, ltb}
+use lib.Dec.{eqb, leb}
 use lib.IntN.{ℤ, pos}
-use borrow.Author.Tests.{le-leb, lt-leb, lt-ltb, le-ltb, ltb-true, ltb-false, leb-true, leb-false, eqb-true, eqb-false, eq-eqb, ne-eqb}
+use borrow.Author.Tests.{lt-ltb, le-ltb}
 use Rattle.table.specs.Mask.{pick}
 use Rattle.table.specs.Table.{queueAt, nodeAt, arcTo}
 use Rattle.table.specs.declared.Args.{Args}
@@ -23,13 +22,13 @@ use Rattle.machine.specs.declared.State.{State}
 use Rattle.machine.specs.declared.Running.{Running}
 use Rattle.machine.specs.State.{noFrame, openFrames, isLost, place, frameAt, topmost, semCount, entriesAt, varAt, standsBefore, firstState, Begun, begun, blockedAt, blocked}
 use Rattle.machine.specs.State as First
-use Rattle.machine.specs.Step.{Stop, noTask, logFull, taskLost, taskBlocked, stopNumber, Memory, valueOf, assign, appended, oldest, shortened, Did, stops, goes, exec, keptIn, Walk, halts, arrives, onward, walk, Flow, flow, Entry, shown, Step, stopped, stepped, landed, settled, entering, called, closed, memory, flowed, entryOf, stepOf, before, step}
+use Rattle.machine.specs.Step.{noTask, logFull, taskLost, taskBlocked, stopNumber, Memory, valueOf, assign, appended, oldest, shortened, Did, stops, goes, exec, keptIn, Walk, halts, arrives, onward, walk, flow, Entry, shown, Step, stopped, stepped, landed, settled, entering, called, closed, memory, flowed, entryOf, stepOf, before, step}
 use Rattle.machine.specs.Run.{word, flagged, entryBytes, Ran, ended, turn, afterStep, runFrom, runBegun}
-use Rattle.steps.specs.Cut.{stopOf, Within, goesTo, haltsAt, showsTo, readAt, stuckOf, actOf, backOf, semsAfter, lensAfter, itemsAfter, flagOf, bitsOf}
+use Rattle.steps.specs.Cut.{stopOf, Within, goesTo, haltsAt, showsTo, stuckOf, actOf, backOf, semsAfter, lensAfter, itemsAfter, flagOf, bitsOf}
 use Rattle.steps.specs.declared.Acted.{Acted}
 use Rattle.columns.specs.Columns.{queuesOf}
 use Rattle.columns.specs.ColumnLaws.{queue-at, queue-set}
-use Rattle.runner.proofs.Walks.{Met, halted, arrived, met, withVars, didOf, read-did}
+use Rattle.runner.proofs.Walks.{halted, arrived, met, didOf, read-did}
 
 pub true-false : _≡_ {A = Bool} true false → ⊥
 true-false e = let y : _≡_ {A = ℕ} 0 1 = cc in omega arith

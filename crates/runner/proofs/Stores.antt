@@ -2,9 +2,9 @@
 use mathlib.Core.Path.{_≡_, refl, sym, _∙_, ap}
 use mathlib.Core.Bool.{Bool, true, false}
 use mathlib.Core.List.{List, [], _∷_, _++_}
-use Prim.Native.Nat.{ℕ, zero, suc, _+_, _-_, _<_, _≤_}
+use Prim.Native.Nat.{ℕ, suc, _<_}
 use native.Mathlib.Omega.{arith}
-use lib.ListN.{length, getD, set, drop, length-set}
+use lib.ListN.{length, getD, set, length-set}
 use lib.Seq.{set-getD, getD-set-other}
 use lib.Dec.{eqb}
 use lib.IntN.{ℤ, pos}
@@ -12,13 +12,12 @@ use borrow.Author.Tests.{eqb-true, eqb-false}
 use Rattle.table.specs.Mask.{pick}
 use Rattle.table.specs.declared.Table.{Table}
 use Rattle.machine.specs.declared.Frame.{Frame}
-use Rattle.machine.specs.declared.Entries.{Entries}
 use Rattle.machine.specs.declared.State.{State}
 use Rattle.machine.specs.State.{noVars, noFrame}
-use Rattle.steps.specs.Cut.{semsAfter, lensAfter, itemsAfter, shiftedOf}
+use Rattle.steps.specs.Cut.{lensAfter, itemsAfter, shiftedOf}
 use Rattle.starts.specs.Begins.{frameIn, Good}
 use Rattle.starts.specs.GoodLaws.{FrameGood}
-use Rattle.columns.specs.Columns.{framesOf, queuesOf, stateOf, procsOf, nodesOf, varsOf, lensOf, itemsOf, Shape}
+use Rattle.columns.specs.Columns.{framesOf, stateOf, procsOf, nodesOf, varsOf, lensOf, itemsOf, Shape}
 use Rattle.columns.specs.ColumnLaws.{frames-back, frame-at, frame-set, queues-back, length-map, Rows, rows-set}
 
 -- ---- the columns of a state

@@ -1,9 +1,9 @@
 -- One turn of the runner's loop, in the code's own places and numbers.
-use mathlib.Core.Path.{_≡_, refl, sym, _∙_, ap, subst}
+use mathlib.Core.Path.{_≡_, refl, sym, _∙_, ap}
 use mathlib.Core.Bool.{Bool, true, false}
 use mathlib.Core.List.{List, [], _∷_}
 use mathlib.Core.Option.{Option, none, some}
-use Prim.Native.Nat.{ℕ, zero, suc, _+_, _-_, _*_, _<_, _≤_}
+use Prim.Native.Nat.{ℕ, suc, _+_, _-_, _*_, _<_, _≤_}
 use native.Mathlib.Omega.{arith}
 use native.Mathlib.Numerals.{add-one}
 use lib.ListN.{length, getD, set, take, drop}
@@ -23,21 +23,19 @@ use Rattle.table.specs.declared.Slot.{Slot}
 use Rattle.table.specs.declared.Table.{Table}
 use Rattle.text.specs.Reader.{concat}
 use Rattle.machine.specs.declared.Frame.{Frame}
-use Rattle.machine.specs.declared.Entries.{Entries}
 use Rattle.machine.specs.declared.State.{State}
-use Rattle.machine.specs.State.{noFrame, openFrames, isLost, place, frameAt, topmost, semCount, entriesAt, standsBefore, withFrames, blockedAt, blocked}
-use Rattle.machine.specs.Step.{noTask, logFull, taskLost, taskBlocked, stopNumber, Memory, assign, valueOf, shown, Choice, choose, Did, keptIn, Walk, along, onward, walk, Step, stopped, settled, called, entering, memory, entryOf, landed}
+use Rattle.machine.specs.State.{noFrame, openFrames, isLost, place, topmost, standsBefore, withFrames, blockedAt, blocked}
+use Rattle.machine.specs.Step.{noTask, logFull, taskLost, taskBlocked, stopNumber, Memory, valueOf, shown, Choice, Did, keptIn, Walk, along, onward, walk, Step, stopped, settled, called, entering, memory, entryOf}
 use Rattle.machine.specs.Run.{word, flagged, entryBytes, Ran, runFrom}
-use Rattle.steps.specs.Cut.{stopOf, Named, choiceOf, Sound, Arrived, halting, Within, goesTo, haltsAt, showsTo, stuckOf, actOf, triedOf, passOf, backOf, flagOf, bitsOf, underOf}
+use Rattle.steps.specs.Cut.{Named, Sound, Arrived, halting, Within, goesTo, haltsAt, showsTo, stuckOf, actOf, triedOf, passOf, backOf, flagOf, bitsOf, underOf}
 use Rattle.steps.specs.declared.Acted.{Acted}
 use Rattle.steps.specs.declared.Chosen.{Chosen}
-use Rattle.columns.specs.Columns.{framesOf, queuesOf, stateOf, Shape}
-use Rattle.columns.specs.ColumnLaws.{frame-at, frame-set}
+use Rattle.columns.specs.Columns.{queuesOf}
 use Rattle.starts.specs.Ready.{Placed, Ready}
 use Rattle.starts.specs.Begins.{Row, frameIn, Good}
 use Rattle.starts.specs.GoodLaws.{FrameGood, good-frame, good-depth}
-use Rattle.runner.proofs.Walks.{Met, halted, arrived, met, metOf, withVars, walking, heading, walk-over, walk-spent, walk-halts, walk-goes, act-named, named-stop}
-use Rattle.runner.proofs.Runs.{stuck-is, doing, storedIn, didIn, doing-is, true-false, back-free, logged-is, unshown, closes, opens, step-calls, goesOn, step-goes, storedAs, landed-is, runs, stopsAt, at-end, after, runs-turn, turn-none, turn-full, turn-lost, turn-blocked, turn-goes, after-halted, after-arrived}
+use Rattle.runner.proofs.Walks.{Met, halted, met, metOf, withVars, walking, heading, walk-over, walk-spent, walk-halts, walk-goes, act-named, named-stop}
+use Rattle.runner.proofs.Runs.{stuck-is, doing, storedIn, didIn, doing-is, back-free, logged-is, unshown, closes, opens, step-calls, goesOn, step-goes, storedAs, landed-is, runs, stopsAt, after, runs-turn, turn-none, turn-full, turn-lost, turn-blocked, turn-goes, after-halted, after-arrived}
 
 -- ---- the small numbers that go with a node
 

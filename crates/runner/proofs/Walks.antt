@@ -1,25 +1,25 @@
 -- The walk over dropped nodes, as the code goes: an answer of an arc, a node executed, the next arc.
-use mathlib.Core.Path.{_≡_, refl, sym, _∙_, ap, subst}
+use mathlib.Core.Path.{_≡_, refl, sym, _∙_, ap}
 use mathlib.Core.Bool.{Bool, true, false}
-use mathlib.Core.List.{List, [], _∷_}
+use mathlib.Core.List.{List, []}
 use mathlib.Core.Option.{Option, none, some}
-use Prim.Native.Nat.{ℕ, zero, suc, _+_, _-_, _*_, _<_, _≤_}
+use Prim.Native.Nat.{ℕ, zero, suc, _+_, _-_, _<_, _≤_}
 use native.Mathlib.Omega.{arith}
-use lib.ListN.{length, getD, set, drop, drop-of-length-le}
+use lib.ListN.{length, getD, drop, drop-of-length-le}
 use lib.Seq.{drop-cons, set-out}
 use lib.Dec.{eqb, leb}
 use lib.IntN.{ℤ, pos}
-use borrow.Author.Tests.{le-leb, lt-leb, leb-true, leb-false, eqb-true, eqb-false, eq-eqb, ne-eqb}
+use borrow.Author.Tests.{leb-true, leb-false, eqb-false, eq-eqb, ne-eqb}
 use Rattle.table.specs.Mask.{pick, bit}
-use Rattle.table.specs.Table.{nodeAt, uses, Keeping, always, never, ifClean, keeping}
+use Rattle.table.specs.Table.{nodeAt, uses, Keeping, always, keeping}
 use Rattle.table.specs.Values.{apply, holds}
 use Rattle.table.specs.declared.Node.{Node}
 use Rattle.table.specs.declared.Node.the-variants.{Absent, Start, Set, Test, Read, Call, Wait, Signal, Send, Recv, Assert, Out, Return}
 use Rattle.table.specs.declared.Table.{Table}
 use Rattle.closing.specs.Dirty.{Fact}
 use Rattle.closing.specs.Closing.{dirty, keptBy, kept}
-use Rattle.machine.specs.Step.{Stop, tooMany, stopNumber, Memory, operandIn, valueOf, assign, Did, stops, goes, exec, Choice, nowhere, node, bad, choose, keptOf, keptIn, Walk, halts, arrives, along, onward, noting, walk}
-use Rattle.steps.specs.Cut.{stopOf, Named, choiceOf, overIn, Sound, halting, goesTo, haltsAt, showsTo, readAt, stuckOf, actOf, triedOf, passOf}
+use Rattle.machine.specs.Step.{stopNumber, Memory, operandIn, valueOf, assign, Did, stops, goes, exec, nowhere, node, bad, choose, keptOf, keptIn, Walk, halts, arrives, along, onward, noting, walk}
+use Rattle.steps.specs.Cut.{stopOf, Named, choiceOf, Sound, halting, goesTo, haltsAt, showsTo, readAt, stuckOf, actOf, triedOf, passOf}
 use Rattle.steps.specs.declared.Chosen.{Chosen}
 use Rattle.steps.specs.declared.Acted.{Acted}
 use Rattle.starts.specs.Ready.{Ready}

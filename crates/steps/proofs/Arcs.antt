@@ -3,22 +3,22 @@ use mathlib.Core.Path.{_≡_, refl, sym, _∙_, ap, subst}
 use mathlib.Core.Bool.{Bool, true, false}
 use mathlib.Core.List.{List, [], _∷_}
 use mathlib.Core.Option.{Option, none, some}
-use Prim.Native.Nat.{ℕ, zero, suc, _+_, _-_, _*_, _/_, _%_, _^_, _<_, _≤_}
+use Prim.Native.Nat.{ℕ, zero, suc, _+_, _-_, _/_, _%_, _^_, _<_, _≤_}
 use native.Mathlib.Omega.{arith}
-use native.Mathlib.Nat.{pow-suc, div-lt-iff-lt-mul, div-div-eq-div-mul, lt-of-lt-of-le, div-one}
+use native.Mathlib.Nat.{pow-suc, div-lt-iff-lt-mul, div-div-eq-div-mul, div-one}
 use lib.Count.{trailingZeros, under}
-use lib.Pow.{pow-pos, pow-mono, shr-lt, shr-shr}
+use lib.Pow.{pow-pos, shr-lt}
 use lib.ListN.{length, getD, getElem?, drop, drop-of-length-le, List·getD-eq-default}
 use lib.Seq.{drop-cons}
 use lib.Dec.{eqb, leb}
 use lib.IntN.{ℤ, pos, negsuc}
 use mir.Syntax.{w32}
 use mir.Val.{SFits, ofZ}
-use borrow.Author.Tests.{le-leb, lt-leb, leb-true, leb-false, eqb-true, eqb-false, eq-eqb, ne-eqb}
+use borrow.Author.Tests.{leb-true, leb-false, eqb-true, eqb-false, eq-eqb}
 use Rattle.table.specs.Mask.{pick, bit, also, membersFrom, members}
 use Rattle.table.specs.MaskLaws.{bit-above}
-use Rattle.machine.specs.Step.{Stop, stopNumber, spent, badToss, Choice, nowhere, node, bad, tossed as tossedTo, toss, chooseFrom, choose}
-use Rattle.steps.specs.Cut.{stopOf, choiceOf, overIn, halting, meeting, targetAt, tossed, Arrived}
+use Rattle.machine.specs.Step.{stopNumber, spent, badToss, node, bad, tossed as tossedTo, toss, chooseFrom, choose}
+use Rattle.steps.specs.Cut.{halting, meeting, targetAt, tossed, Arrived}
 use Rattle.steps.specs.declared.Chosen.{Chosen}
 
 half : (m k : ℕ) → m / 2 ^ suc k ≡ m / 2 ^ k / 2

@@ -1,18 +1,18 @@
 -- What the proofs of the small functions lean on.
-use mathlib.Core.Path.{_≡_, refl, sym, _∙_, ap}
+use mathlib.Core.Path.{_≡_, refl, _∙_, ap}
 use mathlib.Core.Bool.{Bool, true, false}
 use mathlib.Core.List.{List, [], _∷_, _++_}
-use Prim.Native.Nat.{ℕ, zero, suc, _+_, _-_, _*_, _/_, _%_, _^_, _<_, _≤_}
+use Prim.Native.Nat.{ℕ, zero, suc, _+_, _-_, _/_, _%_, _^_, _<_, _≤_}
 use native.Mathlib.Omega.{arith}
 use native.Mathlib.Numerals.{add-one}
 use lib.ListN.{length, getD, set, drop}
 use lib.Seq.{sets}
-use lib.Dec.{eqb, ltb, leb}
+use lib.Dec.{ltb}
 use lib.IntN.{ℤ, pos, negsuc}
 use mir.Syntax.{w32}
 use mir.Val.{SFits, toZ, ofZ}
 use mir.Facts.{toZ-ofZ}
-use borrow.Author.Tests.{le-leb, lt-leb, lt-ltb, le-ltb, eq-eqb, ne-eqb}
+use borrow.Author.Tests.{le-leb, lt-leb, le-ltb, eq-eqb, ne-eqb}
 use Rattle.table.specs.Mask.{pick, bit, also, membersFrom, members}
 use Rattle.table.specs.Values.{holds}
 use Rattle.table.specs.declared.Args.{Args}
@@ -20,7 +20,6 @@ use Rattle.text.specs.Reader.{concat}
 use Rattle.machine.specs.State.{varAt}
 use Rattle.machine.specs.Step.{entering}
 use Rattle.steps.specs.Cut.{halting, meeting, targetAt, tossed, shiftedOf}
-use Rattle.steps.specs.declared.Chosen.{Chosen}
 
 -- a value that went through its bits
 pub again : (x : ℤ) → SFits w32 x → toZ w32 (ofZ w32 x) ≡ x

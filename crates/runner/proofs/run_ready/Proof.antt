@@ -1,10 +1,9 @@
 use borrow.Author.Needs.{needs}
-use native.Mathlib.Omega.{arith}
-use mathlib.Core.Path.{_≡_, sym, ap, _∙_, subst}
-use mathlib.Core.Bool.{Bool, true, false}
+use mathlib.Core.Path.{sym, ap, _∙_}
+use mathlib.Core.Bool.{Bool}
 use lib.ListN.{drop}
 use Rattle.table.specs.Mask.{pick}
-use Rattle.machine.specs.State.{Begun, begun, begin, firstState}
+use Rattle.machine.specs.State.{begun, begin, firstState}
 use Rattle.machine.specs.State as First
 use Rattle.runner.proofs.Runs.{begun-spent, begun-goes}
 use Rattle.runner.proofs.run_ready.Statement.{statement}
