@@ -14,7 +14,7 @@ use Rattle.table.specs.declared.Node.{Node}
 use Rattle.table.specs.declared.Node.the-variants.{Absent, Start, Set, Test, Read, Call, Wait, Signal, Send, Recv, Assert, Out, Return}
 use Rattle.text.specs.declared.Fault.the-variants.{Index}
 use Rattle.text.specs.Fault.{number}
-use Rattle.text.specs.Value.{Sort, start, set, test, read, call, wait, signal, send, recv, assert, out, return, Kind, sort, operation, operand, variable, arguments, oneOf, check}
+use Rattle.text.specs.Value.{NodeKind, start, set, test, read, call, wait, signal, send, recv, assert, out, return, ValueKind, kind, operation, operand, variable, arguments, oneOf, check}
 use Rattle.text.specs.Line.{Line, end, field, Vals, lineFault}
 use Rattle.text.specs.Format.{Scope, targets, nodeLine, fields, nameOf, argNames, Described, noLine, described, describe}
 use Rattle.text.specs.Structure.{numbered}
@@ -38,43 +38,43 @@ abbrev pub readNumber : Bool → ℕ → ℕ
 readNumber true j = 2
 readNumber false j = afterNumber j
 
-abbrev sortNumber : Bool → ℕ → Sort → ℕ
-sortNumber c j start = startNumber j
-sortNumber c j set = afterNumber j
-sortNumber c j test = afterNumber j
-sortNumber c j read = readNumber c j
-sortNumber c j call = afterNumber j
-sortNumber c j wait = afterNumber j
-sortNumber c j signal = afterNumber j
-sortNumber c j send = afterNumber j
-sortNumber c j recv = afterNumber j
-sortNumber c j assert = afterNumber j
-sortNumber c j out = afterNumber j
-sortNumber c j return = afterNumber j
+abbrev kindNumber : Bool → ℕ → NodeKind → ℕ
+kindNumber c j start = startNumber j
+kindNumber c j set = afterNumber j
+kindNumber c j test = afterNumber j
+kindNumber c j read = readNumber c j
+kindNumber c j call = afterNumber j
+kindNumber c j wait = afterNumber j
+kindNumber c j signal = afterNumber j
+kindNumber c j send = afterNumber j
+kindNumber c j recv = afterNumber j
+kindNumber c j assert = afterNumber j
+kindNumber c j out = afterNumber j
+kindNumber c j return = afterNumber j
 
-sort-zero : (c : Bool) (k : Sort) → numbered (check (sort c 0) k) ≡ sortNumber c 0 k
+kind-zero : (c : Bool) (k : NodeKind) → numbered (check (kind c 0) k) ≡ kindNumber c 0 k
 unfolding check number
-sort-zero c k = elim k [ start ↦ refl | set ↦ refl | test ↦ refl | read ↦ go c | call ↦ refl | wait ↦ refl | signal ↦ refl | send ↦ refl | recv ↦ refl | assert ↦ refl | out ↦ refl | return ↦ refl ]
+kind-zero c k = elim k [ start ↦ refl | set ↦ refl | test ↦ refl | read ↦ go c | call ↦ refl | wait ↦ refl | signal ↦ refl | send ↦ refl | recv ↦ refl | assert ↦ refl | out ↦ refl | return ↦ refl ]
   where
-    go : (c : Bool) → numbered (check (sort c 0) read) ≡ readNumber c 0
+    go : (c : Bool) → numbered (check (kind c 0) read) ≡ readNumber c 0
     go true = refl
     go false = refl
 
-sort-suc : (c : Bool) (j : ℕ) (k : Sort) → numbered (check (sort c (suc j)) k) ≡ sortNumber c (suc j) k
+kind-suc : (c : Bool) (j : ℕ) (k : NodeKind) → numbered (check (kind c (suc j)) k) ≡ kindNumber c (suc j) k
 unfolding check number
-sort-suc c j k = elim k [ start ↦ refl | set ↦ refl | test ↦ refl | read ↦ go c | call ↦ refl | wait ↦ refl | signal ↦ refl | send ↦ refl | recv ↦ refl | assert ↦ refl | out ↦ refl | return ↦ refl ]
+kind-suc c j k = elim k [ start ↦ refl | set ↦ refl | test ↦ refl | read ↦ go c | call ↦ refl | wait ↦ refl | signal ↦ refl | send ↦ refl | recv ↦ refl | assert ↦ refl | out ↦ refl | return ↦ refl ]
   where
-    go : (c : Bool) → numbered (check (sort c (suc j)) read) ≡ readNumber c (suc j)
+    go : (c : Bool) → numbered (check (kind c (suc j)) read) ≡ readNumber c (suc j)
     go true = refl
     go false = refl
 
-sort-is : (c : Bool) (j : ℕ) (k : Sort) → numbered (check (sort c j) k) ≡ sortNumber c j k
-sort-is c zero k = sort-zero c k
-sort-is c (suc j) k = sort-suc c j k
+kind-is : (c : Bool) (j : ℕ) (k : NodeKind) → numbered (check (kind c j) k) ≡ kindNumber c j k
+kind-is c zero k = kind-zero c k
+kind-is c (suc j) k = kind-suc c j k
 
 -- ---- lines
 
-due-is : (j : ℕ) → check (Kind.number j (suc j) Index) j ≡ none
+due-is : (j : ℕ) → check (ValueKind.number j (suc j) Index) j ≡ none
 unfolding check
 due-is j = rw (le-leb j j (omega arith), lt-ltb j (suc j) (omega arith))
 
@@ -86,10 +86,10 @@ placeNumber c j (described k w) = numbered (lineFault (nodeLine c j (suc j)) (j,
 unfoldable pub nodeNumber : Scope → ℕ → Node → ℕ
 nodeNumber c j x = placeNumber c j (describe c x)
 
-line-is : (c : Scope) (j : ℕ) (k : Sort) (w : Vals (fields c k))
-    → numbered (lineFault (nodeLine c j (suc j)) (j, (k, w))) ≡ firstNumber (sortNumber (c .closed) j k) (numbered (lineFault (fields c k) w))
+line-is : (c : Scope) (j : ℕ) (k : NodeKind) (w : Vals (fields c k))
+    → numbered (lineFault (nodeLine c j (suc j)) (j, (k, w))) ≡ firstNumber (kindNumber (c .closed) j k) (numbered (lineFault (fields c k) w))
 unfolding lineFault
-line-is c j k w = rw (due-is j, numbered-else (check (sort (c .closed) j) k) (lineFault (fields c k) w), sort-is (c .closed) j k)
+line-is c j k w = rw (due-is j, numbered-else (check (kind (c .closed) j) k) (lineFault (fields c k) w), kind-is (c .closed) j k)
 
 -- ---- each kind
 

@@ -9,8 +9,8 @@ use Rattle.scan.specs.declared.Number.{Number}
 use Rattle.scan.specs.declared.Number.the-variants.{Is as IsNumber, Not as NotNumber}
 use Rattle.words.specs.declared.Choice.{Choice}
 use Rattle.words.specs.declared.Choice.the-variants.{Is as IsChoice, Not as NotChoice}
-use Rattle.words.specs.declared.Kind.{Kind as SortAnswer}
-use Rattle.words.specs.declared.Kind.the-variants.{Is as IsSort, Not as NotSort}
+use Rattle.words.specs.declared.Kind.{Kind as KindAnswer}
+use Rattle.words.specs.declared.Kind.the-variants.{Is as IsKind, Not as NotKind}
 use Rattle.words.specs.declared.Operation.{Operation}
 use Rattle.words.specs.declared.Operation.the-variants.{Is as IsOp, Not as NotOp}
 use Rattle.scan.specs.declared.Operand.{Operand as OperandAnswer}
@@ -55,9 +55,9 @@ abbrev pub endFault : Ended → Fault
 endFault (Fed e) = Fault.Form
 endFault (Unfed f) = f
 
-abbrev pub sortFault : SortAnswer → Fault
-sortFault (IsSort k e) = Fault.Form
-sortFault (NotSort f) = f
+abbrev pub kindFault : KindAnswer → Fault
+kindFault (IsKind k e) = Fault.Form
+kindFault (NotKind f) = f
 
 abbrev pub opFault : Operation → Fault
 opFault (IsOp o e) = Fault.Form

@@ -10,7 +10,7 @@ use Rattle.table.specs.declared.Operand.{Operand}
 use Rattle.table.specs.declared.Args.{Args}
 use Rattle.text.specs.declared.Fault.{Fault}
 use Rattle.text.specs.Number.{bytes}
-use Rattle.text.specs.Value.{Kind, Of, number, choice, sort, operation, operand, variable, ascending, arguments}
+use Rattle.text.specs.Value.{ValueKind, Of, number, choice, kind, operation, operand, variable, ascending, arguments}
 use Rattle.text.specs.ValueLaws.{no}
 use Rattle.text.specs.Line.{Line, end, field, Vals, Outcome, took, refused, onto, fieldOf, line}
 use Rattle.text.specs.Format.{variableOf, setOf, argsOf}
@@ -21,9 +21,9 @@ use Rattle.words.specs.declared.Choice.the-variants.{Is as IsChoice, Not as Not
 use Rattle.scan.specs.declared.Ended.{Ended}
 use Rattle.scan.specs.declared.Ended.the-variants.{Is as Fed, Not as Unfed}
 use Rattle.scan.specs.Place.{FeedAt}
-use Rattle.words.specs.declared.Sort.{Sort as Word}
-use Rattle.words.specs.declared.Kind.{Kind as SortAnswer}
-use Rattle.words.specs.declared.Kind.the-variants.{Is as IsSort, Not as NotSort}
+use Rattle.words.specs.declared.NodeKind.{NodeKind as Word}
+use Rattle.words.specs.declared.Kind.{Kind as KindAnswer}
+use Rattle.words.specs.declared.Kind.the-variants.{Is as IsKind, Not as NotKind}
 use Rattle.words.specs.declared.Operation.{Operation}
 use Rattle.words.specs.declared.Operation.the-variants.{Is as IsOp, Not as NotOp}
 use Rattle.scan.specs.declared.Operand.{Operand as OperandAnswer}
@@ -34,16 +34,16 @@ use Rattle.lists.specs.declared.Passed.{Passed}
 use Rattle.lists.specs.declared.Passed.the-variants.{Is as IsArgs, Not as NotArgs}
 use Rattle.scan.specs.Answer.{NumberAt, OperandAt, mapped, VariableAt}
 use Rattle.scan.specs.ValueLaws.{mapped-took, mapped-refused}
-use Rattle.words.specs.Answer.{ChoiceAt, sortOf, SortAt, OpAt}
+use Rattle.words.specs.Answer.{ChoiceAt, kindOf, KindAt, OpAt}
 use Rattle.lists.specs.Sets.{SetAt}
 use Rattle.lists.specs.Passing.{PassedAt}
-use Rattle.fields.specs.Answer.{Answer, got, not, LineAt, numberFault, choiceFault, endFault, sortFault, opFault, operandFault, setFault, argsFault}
+use Rattle.fields.specs.Answer.{Answer, got, not, LineAt, numberFault, choiceFault, endFault, kindFault, opFault, operandFault, setFault, argsFault}
 
 -- the value that a place's field has, or its fault
-abbrev FieldIs : List ℕ → (k : Kind) → List ℕ → ℕ → Of k → ℕ → Type 0
+abbrev FieldIs : List ℕ → (k : ValueKind) → List ℕ → ℕ → Of k → ℕ → Type 0
 FieldIs key k s at v e = (l : ℕ) → fieldOf key k l (drop at s) ≡ took v l (drop e s)
 
-abbrev FieldNot : List ℕ → Kind → List ℕ → ℕ → Fault → Type 0
+abbrev FieldNot : List ℕ → ValueKind → List ℕ → ℕ → Fault → Type 0
 FieldNot key k s at f = (l : ℕ) → fieldOf key k l (drop at s) ≡ refused f l
 
 pub onto-onto : {A B C : Type 0} (o : Outcome A) (f : A → ℕ → List ℕ → Outcome B) (g : B → ℕ → List ℕ → Outcome C)
@@ -51,7 +51,7 @@ pub onto-onto : {A B C : Type 0} (o : Outcome A) (f : A → ℕ → List ℕ →
 onto-onto (took v l r) f g = refl
 onto-onto (refused f l) g h = refl
 
-module _ {A : Type 0} {key : List ℕ} {k : Kind} {next : Of k → Line} {g : Vals (field key k next) → A} {s : List ℕ} {at : ℕ} where
+module _ {A : Type 0} {key : List ℕ} {k : ValueKind} {next : Of k → Line} {g : Vals (field key k next) → A} {s : List ℕ} {at : ℕ} where
   goes-on : {v : Of k} {e : ℕ} → FieldIs key k s at v e → {r : Answer A} → LineAt (next v) (λ w. g (v, w)) s e r → LineAt (field key k next) g s at r
   unfolding line
   goes-on {v} {e} m u = record {
@@ -77,7 +77,7 @@ onto-got (took a l s) h e = (a, cc, cc)
 onto-got (refused f l) h e = no (cc)
 
 -- a value that another stands for, as a set for a list
-module _ {A B : Type 0} {key : List ℕ} {k : Kind} {next : Of k → Line} {g : Vals (field key k next) → A} {s : List ℕ} {at : ℕ} (h : Of k → B) where
+module _ {A B : Type 0} {key : List ℕ} {k : ValueKind} {next : Of k → Line} {g : Vals (field key k next) → A} {s : List ℕ} {at : ℕ} (h : Of k → B) where
   goes-by : {v : B} {e : ℕ} → ((l : ℕ) → mapped h (fieldOf key k l (drop at s)) ≡ took v l (drop e s)) → {r : Answer A}
       → ((x : Of k) → h x ≡ v → LineAt (next x) (λ w. g (x, w)) s e r) → LineAt (field key k next) g s at r
   unfolding line
@@ -119,19 +119,19 @@ module _ {A : Type 0} {a b key s : List ℕ} {at : ℕ} {r : Choice} {next : Boo
   pub choice-stop : {x y : Fault} → r ≡ NotChoice x → y ≡ choiceFault r → LineAt (field key (choice a b) next) g s at (not y)
   choice-stop q p = rw (p, q) (stops {g = g} (λ l. sym (m .same l) ∙ rw q))
 
--- ---- sort
-module _ {c : Bool} {j : ℕ} {s : List ℕ} {at : ℕ} {r : SortAnswer} (m : SortAt c j s at r) where
-  pub sort-within : {v : Word} {e : ℕ} → r ≡ IsSort v e → e ≤ length s
-  sort-within {v} {e} q = let h : e < length s = rw q at (m .within) in omega arith
+-- ---- kind
+module _ {c : Bool} {j : ℕ} {s : List ℕ} {at : ℕ} {r : KindAnswer} (m : KindAt c j s at r) where
+  pub kind-within : {v : Word} {e : ℕ} → r ≡ IsKind v e → e ≤ length s
+  kind-within {v} {e} q = let h : e < length s = rw q at (m .within) in omega arith
 
-module _ {A : Type 0} {c : Bool} {j : ℕ} {s : List ℕ} {at : ℕ} {r : SortAnswer} {next : Of (sort c j) → Line}
-    {g : Vals (field (bytes " kind=") (sort c j) next) → A} (m : SortAt c j s at r) where
-  pub sort-next : {v : Word} {e : ℕ} → r ≡ IsSort v e → {o : Answer A} → LineAt (next (sortOf v)) (λ w. g (sortOf v, w)) s e o
-      → LineAt (field (bytes " kind=") (sort c j) next) g s at o
-  sort-next q u = goes-on {g = g} (λ l. sym (m .same l) ∙ rw q) u
+module _ {A : Type 0} {c : Bool} {j : ℕ} {s : List ℕ} {at : ℕ} {r : KindAnswer} {next : Of (kind c j) → Line}
+    {g : Vals (field (bytes " kind=") (kind c j) next) → A} (m : KindAt c j s at r) where
+  pub kind-next : {v : Word} {e : ℕ} → r ≡ IsKind v e → {o : Answer A} → LineAt (next (kindOf v)) (λ w. g (kindOf v, w)) s e o
+      → LineAt (field (bytes " kind=") (kind c j) next) g s at o
+  kind-next q u = goes-on {g = g} (λ l. sym (m .same l) ∙ rw q) u
 
-  pub sort-stop : {x y : Fault} → r ≡ NotSort x → y ≡ sortFault r → LineAt (field (bytes " kind=") (sort c j) next) g s at (not y)
-  sort-stop q p = rw (p, q) (stops {g = g} (λ l. sym (m .same l) ∙ rw q))
+  pub kind-stop : {x y : Fault} → r ≡ NotKind x → y ≡ kindFault r → LineAt (field (bytes " kind=") (kind c j) next) g s at (not y)
+  kind-stop q p = rw (p, q) (stops {g = g} (λ l. sym (m .same l) ∙ rw q))
 
 -- ---- op
 module _ {t : Bool} {s : List ℕ} {at : ℕ} {r : Operation} (m : OpAt t s at r) where

@@ -1,6 +1,6 @@
 // The refusals of fields that were not read.
 ghost use mathlib.Core.Path.{_≡_};
-ghost use Rattle.fields.specs.Answer.{numberFault, choiceFault, endFault, sortFault, opFault, operandFault, setFault, argsFault};
+ghost use Rattle.fields.specs.Answer.{numberFault, choiceFault, endFault, kindFault, opFault, operandFault, setFault, argsFault};
 
 pub fn number_fault(n: scan::Number) -> text::Fault
     ensures { λ r. ⌜ r ≡ numberFault n ⌝ }
@@ -29,8 +29,8 @@ pub fn end_fault(n: scan::Ended) -> text::Fault
     }
 }
 
-pub fn sort_fault(n: words::Kind) -> text::Fault
-    ensures { λ r. ⌜ r ≡ sortFault n ⌝ }
+pub fn kind_fault(n: words::Kind) -> text::Fault
+    ensures { λ r. ⌜ r ≡ kindFault n ⌝ }
 {
     match n {
         words::Kind::Is(_, _) => text::Fault::Form,

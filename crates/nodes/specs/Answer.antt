@@ -8,7 +8,7 @@ use Rattle.table.specs.declared.Operand.{Operand}
 use Rattle.table.specs.declared.Node.{Node}
 use Rattle.text.specs.declared.Fault.{Fault}
 use Rattle.text.specs.Number.{bytes}
-use Rattle.text.specs.Value.{Sort, ascending, operand}
+use Rattle.text.specs.Value.{NodeKind, ascending, operand}
 use Rattle.text.specs.Line.{Line, end, field, Vals, line}
 use Rattle.text.specs.Format.{Scope as Judged, targets, toField, fields, nodeLine, setOf, nodeOf}
 use Rattle.text.specs.Reader.{Numbered}
@@ -57,7 +57,7 @@ bodyFault (IsBody x e) = Fault.Form
 bodyFault (NotBody f) = f
 
 -- what stands behind a node's kind
-pub record BodyAt (c : Judged) (k : Sort) (s : List ℕ) (at : ℕ) (r : Body) : Type 0 where
+pub record BodyAt (c : Judged) (k : NodeKind) (s : List ℕ) (at : ℕ) (r : Body) : Type 0 where
   pub is : LineAt (fields c k) (nodeOf c k) s at (bodyIn r)
 
 -- behind a set node's operation, and behind a test's first operand

@@ -7,7 +7,7 @@ ghost use Rattle.text.specs.Value.{start, set, test, read, call, wait, signal, 
 ghost use Rattle.scan.specs.Answer.{NumberAt};
 ghost use Rattle.fields.specs.Answer.{LineAt};
 ghost use Rattle.nodes.specs.Answer.{toFault, bodyFault, lastLine, lastSet, toIn, scopeIn, Fits, bodyIn, setLine, setNode, testLine, testNode, BodyAt, NodeAt};
-ghost use Rattle.words.specs.Answer.{sortOf};
+ghost use Rattle.words.specs.Answer.{kindOf};
 
 // The form of a table and the counts of declared items, by which a node line's references are judged.
 pub struct Scope {
@@ -296,23 +296,23 @@ fn return_node(s: &[u8], at: usize, c: Scope) -> Body
 }
 
 // What stands behind the kind.
-fn node_body(s: &[u8], at: usize, c: Scope, k: words::Sort) -> Body
+fn node_body(s: &[u8], at: usize, c: Scope, k: words::NodeKind) -> Body
     requires { ⌜ (at ≤ length (now s)) × Fits c ⌝ }
-    ensures { λ r. ⌜ BodyAt (scopeIn c) (sortOf k) (now (s .entry)) at r ⌝ }
+    ensures { λ r. ⌜ BodyAt (scopeIn c) (kindOf k) (now (s .entry)) at r ⌝ }
 {
     match k {
-        words::Sort::Start => start_node(s, at, c),
-        words::Sort::Set => set_node(s, at, c),
-        words::Sort::Test => test_node(s, at, c),
-        words::Sort::Read => read_node(s, at, c),
-        words::Sort::Call => call_node(s, at, c),
-        words::Sort::Wait => wait_node(s, at, c),
-        words::Sort::Signal => signal_node(s, at, c),
-        words::Sort::Send => send_node(s, at, c),
-        words::Sort::Recv => recv_node(s, at, c),
-        words::Sort::Assert => assert_node(s, at, c),
-        words::Sort::Out => out_node(s, at, c),
-        words::Sort::Return => return_node(s, at, c),
+        words::NodeKind::Start => start_node(s, at, c),
+        words::NodeKind::Set => set_node(s, at, c),
+        words::NodeKind::Test => test_node(s, at, c),
+        words::NodeKind::Read => read_node(s, at, c),
+        words::NodeKind::Call => call_node(s, at, c),
+        words::NodeKind::Wait => wait_node(s, at, c),
+        words::NodeKind::Signal => signal_node(s, at, c),
+        words::NodeKind::Send => send_node(s, at, c),
+        words::NodeKind::Recv => recv_node(s, at, c),
+        words::NodeKind::Assert => assert_node(s, at, c),
+        words::NodeKind::Out => out_node(s, at, c),
+        words::NodeKind::Return => return_node(s, at, c),
     }
 }
 
@@ -337,9 +337,9 @@ pub fn node_line(s: &[u8], at: usize, line: usize, c: Scope, lo: u64, below: u64
     let scan::Number::Is(j, p) = index else {
         return Line::Refused(fields::number_fault(index), line);
     };
-    let word = words::sort_field(s, p, c.closed, j);
+    let word = words::kind_field(s, p, c.closed, j);
     let words::Kind::Is(k, q) = word else {
-        return Line::Refused(fields::sort_fault(word), line);
+        return Line::Refused(fields::kind_fault(word), line);
     };
     let body = node_body(s, q, c, k);
     let Body::Is(node, e) = body else {

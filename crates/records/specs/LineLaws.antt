@@ -15,7 +15,7 @@ use Rattle.text.specs.declared.Fault.{Fault}
 use Rattle.text.specs.declared.Fault.the-variants.{Index, Range}
 use Rattle.text.specs.Number.{bytes}
 use Rattle.text.specs.NumberLaws.{cases}
-use Rattle.text.specs.Value.{Kind, Of, said, check, ascending, within}
+use Rattle.text.specs.Value.{ValueKind, Of, said, check, ascending, within}
 use Rattle.text.specs.ValueLaws.{no}
 use Rattle.text.specs.Line.{took, After, at as stands, differs, broken, after, run, verdict, judged, valueOf, afterKey, fieldOf}
 use Rattle.text.specs.Format.{elem, setOf}
@@ -35,7 +35,7 @@ use Rattle.fields.specs.FieldLaws.{number-next}
 
 -- ---- a value that was read has no fault
 
-judged-check : (k : Kind) (o : Option (Of k)) (l : ℕ) (s : List ℕ) {v : Of k} {l′ : ℕ} {r : List ℕ} → judged k o l s ≡ took v l′ r → check k v ≡ none
+judged-check : (k : ValueKind) (o : Option (Of k)) (l : ℕ) (s : List ℕ) {v : Of k} {l′ : ℕ} {r : List ℕ} → judged k o l s ≡ took v l′ r → check k v ≡ none
 judged-check k none l s e = no (cc)
 judged-check k (some x) l s {v} {l′} {r} e = go (check k x) refl e
   where
@@ -43,14 +43,14 @@ judged-check k (some x) l s {v} {l′} {r} e = go (check k x) refl e
     go none q e = let p : x ≡ v = cc in rw (← p) q
     go (some f) q e = no (cc)
 
-key-check : (k : Kind) (o : After) (l : ℕ) {v : Of k} {l′ : ℕ} {r : List ℕ} → afterKey o (valueOf k) l ≡ took v l′ r → check k v ≡ none
+key-check : (k : ValueKind) (o : After) (l : ℕ) {v : Of k} {l′ : ℕ} {r : List ℕ} → afterKey o (valueOf k) l ≡ took v l′ r → check k v ≡ none
 key-check k (stands s) l e = cases (ltb (run s) (length s))
     (λ q. judged-check k (said k (take (run s) s)) l (drop (run s) s) (rw q at e))
     (λ q. no (cc (rw q at e)))
 key-check k differs l e = no (cc)
 key-check k broken l e = no (cc)
 
-field-check : (key : List ℕ) (k : Kind) (l : ℕ) (s : List ℕ) {v : Of k} {l′ : ℕ} {r : List ℕ} → fieldOf key k l s ≡ took v l′ r → check k v ≡ none
+field-check : (key : List ℕ) (k : ValueKind) (l : ℕ) (s : List ℕ) {v : Of k} {l′ : ℕ} {r : List ℕ} → fieldOf key k l s ≡ took v l′ r → check k v ≡ none
 unfolding fieldOf
 field-check key k l s e = key-check k (after key s) l e
 

@@ -83,8 +83,8 @@ pub record Judged (kind : Option ℕ → Option Operand) (n x e : ℕ) (r : Oper
 abbrev pub skip : ℕ → ℕ
 skip b = pick (eqb b 118) 1 (pick (eqb b 45) 1 0)
 
-abbrev pub kindOf : ℕ → Option ℕ → Option Operand
-kindOf b = pick (eqb b 118) asVar (pick (eqb b 45) asNegative asConst)
+abbrev pub operandKind : ℕ → Option ℕ → Option Operand
+operandKind b = pick (eqb b 118) asVar (pick (eqb b 45) asNegative asConst)
 
 -- the answer for the digits at a place
 abbrev pub valueAs : (Option ℕ → Option Operand) → ℕ → Parser Operand

@@ -42,7 +42,7 @@ use Rattle.scan.specs.declared.Operand.{Operand as OperandAnswer}
 use Rattle.scan.specs.declared.Operand.the-variants.{Is as IsOperand, Not as NotOperand}
 use Rattle.scan.specs.Place.{AfterKey, RunEnd, ValueAt, NumeralTo, NumeralAt, ShortTo, refusalOf}
 use Rattle.scan.specs.PlaceLaws.{count-more, value-ends, value-within}
-use Rattle.scan.specs.Answer.{operandEnds, operandWithin, OperandJudged, skip, kindOf, Judged, valueAs, OperandAs, OperandIn, OperandAt, mapped, variableEnds, variableWithin, VariableSaid, VariableIn, VariableAt}
+use Rattle.scan.specs.Answer.{operandEnds, operandWithin, OperandJudged, skip, operandKind, Judged, valueAs, OperandAs, OperandIn, OperandAt, mapped, variableEnds, variableWithin, VariableSaid, VariableIn, VariableAt}
 
 -- ---- signed numbers
 pub positive-is : (x : ℕ) → x ≤ 2147483647 → toZ w32 x ≡ pos x
@@ -196,7 +196,7 @@ operand-plain {n} {s} {at} h p g a =
     record { same = λ l. rw d at (a .same l); within = a .within }
 
 -- by the first byte
-operand-by : {n : ℕ} (s : List ℕ) (at b : ℕ) {r : OperandAnswer} → at < length s → b ≡ getD s at 0 → OperandAs (kindOf b) n s (at + skip b) r → OperandIn n s at r
+operand-by : {n : ℕ} (s : List ℕ) (at b : ℕ) {r : OperandAnswer} → at < length s → b ≡ getD s at 0 → OperandAs (operandKind b) n s (at + skip b) r → OperandIn n s at r
 operand-by {n} s at b {r} h q a =
     cases (eqb b 118)
     (λ e. operand-named s at h (sym q ∙ eqb-true b 118 e) (rw e at a))
@@ -204,18 +204,18 @@ operand-by {n} s at b {r} h q a =
     (λ f. operand-minus s at h (sym q ∙ eqb-true b 45 f) (rw (e, f) at a))
     (λ f. operand-plain h (λ z. eqb-false b 118 e (q ∙ z)) (λ z. eqb-false b 45 f (q ∙ z)) (rw (e, f, add-zero at) at a)))
 
-kind-none : (b : ℕ) → kindOf b none ≡ none
-kind-none b = cases (eqb b 118) (λ e. rw e) (λ e. cases (eqb b 45) (λ f. rw (e, f)) (λ f. rw (e, f)))
+operand-kind-none : (b : ℕ) → operandKind b none ≡ none
+operand-kind-none b = cases (eqb b 118) (λ e. rw e) (λ e. cases (eqb b 45) (λ f. rw (e, f)) (λ f. rw (e, f)))
 
 module _ {s : List ℕ} {at b from : ℕ} {r : Numeral} (m : NumeralAt s from r) (h : at < length s) (q : b ≡ getD s at 0) (k : from ≡ at + skip b) where
-  pub by-is : {n x e : ℕ} {v : OperandAnswer} → r ≡ IsNumeral x e → Judged (kindOf b) n x e v → OperandIn n s at v
+  pub by-is : {n x e : ℕ} {v : OperandAnswer} → r ≡ IsNumeral x e → Judged (operandKind b) n x e v → OperandIn n s at v
   by-is z j = operand-by s at b h q (rw k at (as-is m z j))
 
   pub by-bad : (n : ℕ) → r ≡ BadNumeral → OperandIn n s at (NotOperand Misspelt)
-  by-bad n z = operand-by s at b h q (rw k at (as-bad m (kindOf b) n (kind-none b) z))
+  by-bad n z = operand-by s at b h q (rw k at (as-bad m (operandKind b) n (operand-kind-none b) z))
 
   pub by-over : (n : ℕ) → r ≡ Over → OperandIn n s at (NotOperand Ended)
-  by-over n z = operand-by s at b h q (rw k at (as-over m (kindOf b) n z))
+  by-over n z = operand-by s at b h q (rw k at (as-over m (operandKind b) n z))
 
 -- the number behind `v`
 module _ {s : List ℕ} {at : ℕ} {r : Numeral} (m : NumeralAt s at r) where
@@ -244,13 +244,13 @@ skip-none b at h k = rw (ne-eqb b 118 h, ne-eqb b 45 k, add-zero at)
 
 -- what the digits are
 module _ (b : ℕ) {n x e : ℕ} {r : OperandAnswer} where
-  pub any-named : b ≡ 118 → Judged asVar n x e r → Judged (kindOf b) n x e r
+  pub any-named : b ≡ 118 → Judged asVar n x e r → Judged (operandKind b) n x e r
   any-named h a = rw h a
 
-  pub any-minus : b ≡ 45 → Judged asNegative n x e r → Judged (kindOf b) n x e r
+  pub any-minus : b ≡ 45 → Judged asNegative n x e r → Judged (operandKind b) n x e r
   any-minus h a = rw h a
 
-  pub any-plain : (b ≡ 118 → ⊥) → (b ≡ 45 → ⊥) → Judged asConst n x e r → Judged (kindOf b) n x e r
+  pub any-plain : (b ≡ 118 → ⊥) → (b ≡ 45 → ⊥) → Judged asConst n x e r → Judged (operandKind b) n x e r
   any-plain h k a = rw (ne-eqb b 118 h, ne-eqb b 45 k) a
 
 pub operand-none : (n : ℕ) {s : List ℕ} {at : ℕ} → length s ≤ at → OperandIn n s at (NotOperand Ended)

@@ -7,7 +7,7 @@ use lib.ListN.{length, take, drop, getD}
 use Rattle.text.specs.declared.Fault.{Fault}
 use Rattle.text.specs.declared.Fault.the-variants.{Form}
 use Rattle.text.specs.Number.{spelt, value}
-use Rattle.text.specs.Value.{Kind, Of, said}
+use Rattle.text.specs.Value.{ValueKind, Of, said}
 use Rattle.text.specs.Line.{Outcome, took, refused, After, at as stands, differs, broken, after, run as count, judged, valueOf, fieldOf, feed as endOf}
 use Rattle.scan.specs.declared.Found.{Found}
 use Rattle.scan.specs.declared.Found.the-variants.{At, Differs, Broken}
@@ -61,7 +61,7 @@ pub record RunEnd (s : List ℕ) (at r : ℕ) : Type 0 where
   pub within : r ≤ length s
 
 -- the outcome for a value of any kind that begins and ends so
-abbrev pub tokenIn : (k : Kind) → ℕ → List ℕ → Token → Outcome (Of k)
+abbrev pub tokenIn : (k : ValueKind) → ℕ → List ℕ → Token → Outcome (Of k)
 tokenIn k l s (Between b e) = judged k (said k (take (e - b) (drop b s))) l (drop e s)
 tokenIn k l s (Not f) = refused f l
 
@@ -70,11 +70,11 @@ tokenWithin s (Between b e) = (b ≤ e) × (e < length s)
 tokenWithin s (Not f) = Unit {0}
 
 pub record ValueAt (s : List ℕ) (at : ℕ) (r : Token) : Type 0 where
-  pub same : (k : Kind) (l : ℕ) → tokenIn k l s r ≡ valueOf k l (drop at s)
+  pub same : (k : ValueKind) (l : ℕ) → tokenIn k l s r ≡ valueOf k l (drop at s)
   pub within : tokenWithin s r
 
 pub record TokenAt (key s : List ℕ) (at : ℕ) (r : Token) : Type 0 where
-  pub same : (k : Kind) (l : ℕ) → tokenIn k l s r ≡ fieldOf key k l (drop at s)
+  pub same : (k : ValueKind) (l : ℕ) → tokenIn k l s r ≡ fieldOf key k l (drop at s)
   pub within : tokenWithin s r
 
 abbrev pub refusalOf : Token → Fault

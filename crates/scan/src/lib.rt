@@ -7,7 +7,7 @@ ghost use Rattle.text.specs.Value.{same, asVar, asConst, asNegative};
 ghost use Rattle.text.specs.Line.{stops as stopsAt};
 ghost use mathlib.Core.List.{[], _∷_};
 ghost use Rattle.scan.specs.Place.{quadNumber, Bytes, QuadAt, AfterKey, RunEnd, ValueAt, TokenAt, refusalOf, FeedAt, DigitsTo, NumeralAt, ShortAt, ShortTo};
-ghost use Rattle.scan.specs.Answer.{NumberIs, NumberIn, NumberAt, skip, kindOf, Judged, OperandAs, OperandIn, OperandAt, VariableSaid, VariableIn, VariableAt};
+ghost use Rattle.scan.specs.Answer.{NumberIs, NumberIn, NumberAt, skip, operandKind, Judged, OperandAs, OperandIn, OperandAt, VariableSaid, VariableIn, VariableAt};
 
 // Where the text goes on after a key; or something else stands there, or the text ends first.
 pub enum Found {
@@ -443,7 +443,7 @@ fn digits_from(b: u8, at: usize) -> usize
 
 fn any_operand(b: u8, x: u64, e: usize, vars: u64) -> Operand
     requires { ⌜ vars ≤ 256 ⌝ }
-    ensures { λ r. ⌜ Judged (kindOf b) vars x e r ⌝ }
+    ensures { λ r. ⌜ Judged (operandKind b) vars x e r ⌝ }
 {
     if b == 118 {
         return named_operand(x, e, vars);

@@ -22,7 +22,7 @@ use Rattle.text.specs.declared.Fault.{Fault}
 use Rattle.text.specs.declared.Fault.the-variants.{Form, Ended, Index}
 use Rattle.text.specs.Fault.{number}
 use Rattle.text.specs.NumberLaws.{cases}
-use Rattle.text.specs.Value.{Sort, start, set as setSort, test, read, call, wait, signal, send, recv, assert, out, return, Kind, spell, check, orElse}
+use Rattle.text.specs.Value.{NodeKind, start, set as setKind, test, read, call, wait, signal, send, recv, assert, out, return, ValueKind, spell, check, orElse}
 use Rattle.text.specs.Line.{Line, Vals, write, Outcome, took, refused, Parser, onto, _>>=_, give, After, at, differs, broken, after, fieldOf, line, lineFault}
 use Rattle.text.specs.LineLaws.{Sound, judgement, line-write, head-sound, counts-sound, task-sound, sem-sound, queue-sound, proc-sound, node-sound}
 use Rattle.text.specs.Format.{headLine, countsLine, taskLine, semLine, queueLine, procLine, Scope, nodeLine, fields, setOf, nodeOf, Described, noLine, described, describe}
@@ -122,11 +122,11 @@ rows-then z Q d g w h q n xs l s f k = ends-then f
 
 -- a place is absent and stands for no line, or is not and stands for one
 pub by-line {ℓ} : {P : Type ℓ} (c : Scope) (x : Node) → (x ≡ Absent → describe c x ≡ noLine → P)
-    → ((k : Sort) (w : Vals (fields c k)) → isAbsent x ≡ false → describe c x ≡ described k w → P) → P
+    → ((k : NodeKind) (w : Vals (fields c k)) → isAbsent x ≡ false → describe c x ≡ described k w → P) → P
 unfolding describe isAbsent
 by-line c Absent f g = f refl refl
 by-line c (Start to) f g = g start _ refl refl
-by-line c (Set v o a b to) f g = g setSort _ refl refl
+by-line c (Set v o a b to) f g = g setKind _ refl refl
 by-line c (Test o a b y n) f g = g test _ refl refl
 by-line c (Read v to) f g = g read _ refl refl
 by-line c (Call q xs to) f g = g call _ refl refl
@@ -149,7 +149,7 @@ Lacking (at r) = ⊥
 Lacking differs = Unit {0}
 Lacking broken = Unit {0}
 
-lacking-field : (k : Kind) (l : ℕ) (s : List ℕ) → Lacking (after (bytes "node=") s) → (f : Fault) × (number f ≡ 2) × (fieldOf (bytes "node=") k l s ≡ refused f l)
+lacking-field : (k : ValueKind) (l : ℕ) (s : List ℕ) → Lacking (after (bytes "node=") s) → (f : Fault) × (number f ≡ 2) × (fieldOf (bytes "node=") k l s ≡ refused f l)
 unfolding fieldOf number
 lacking-field k l s h = go (after (bytes "node=") s) refl h
   where
@@ -177,7 +177,7 @@ module _ (t : Table) (q : Proc) where
   lines j = nodeText c j (d j)
 
   -- node j's line, read where a number from lo to below n is due
-  ends-node : (lo n j l : ℕ) (k : Sort) (w : Vals (fields c k)) (s : List ℕ)
+  ends-node : (lo n j l : ℕ) (k : NodeKind) (w : Vals (fields c k)) (s : List ℕ)
       → Ends (λ x. (x .at ≡ j) × (x .node ≡ nodeOf c k w)) s (lineFault (nodeLine c lo n) (j, (k, w))) (nodeRow c lo n l (nodeText c j (described k w) ++ s))
   unfolding write spell
   ends-node lo n j l k w s = ends-row (λ x. (x .at ≡ j) × (x .node ≡ nodeOf c k w)) (nodeLine c lo n) (node-sound c lo n) (j, (k, w)) l s (λ v. record { at = v .0; node = nodeOf c (v .1 .0) (v .1 .1) }) (refl, refl)
@@ -186,7 +186,7 @@ module _ (t : Table) (q : Proc) where
   ends-gap : {P : Numbered → Type 0} {r : List ℕ} (lo n i l : ℕ) (s : List ℕ) → lo < i → Lacking (after (bytes "node=") s)
       → Ends P r (some (gap q n i)) (nodeRow c lo (suc lo) l (concat lines n i ++ s))
   unfolding gap concat line number describe isAbsent lineFault check
-  ends-gap lo zero i l s u h = let f = lacking-field (Kind.number lo (suc lo) Index) l s h in rw (f .2) (ends-refused (f .1))
+  ends-gap lo zero i l s u h = let f = lacking-field (ValueKind.number lo (suc lo) Index) l s h in rw (f .2) (ends-refused (f .1))
   ends-gap lo (suc n) i l s u h = by-line c (nodeIn q i)
       (λ a e. rw a (ends-gap lo n (suc i) l s (omega arith) h))
       (λ k w a e.

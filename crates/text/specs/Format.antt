@@ -12,7 +12,7 @@ use Rattle.table.specs.declared.Node.{Node}
 use Rattle.table.specs.declared.Node.the-variants.{Absent, Start, Set, Test, Read, Call, Wait, Signal, Send, Recv, Assert, Out, Return}
 use Rattle.text.specs.Number.{bytes}
 use Rattle.text.specs.declared.Fault.the-variants.{Index, Reference}
-use Rattle.text.specs.Value.{Sort, start, set, test, read, call, wait, signal, send, recv, assert, out, return, Kind, number, choice, sort, operation, operand, variable, ascending, arguments, from, due, oneOf}
+use Rattle.text.specs.Value.{NodeKind, start, set, test, read, call, wait, signal, send, recv, assert, out, return, ValueKind, number, choice, kind, operation, operand, variable, ascending, arguments, from, due, oneOf}
 use Rattle.text.specs.Line.{Line, end, field, Vals}
 
 -- ---- the lines before the procedures
@@ -89,7 +89,7 @@ pub record Scope : Type 0 where
   pub nodes : ℕ
 
 -- "Targets are 1 to n-1: one in open form; a list in closed form"
-abbrev pub targets : Scope → Kind
+abbrev pub targets : Scope → ValueKind
 targets c = ascending (not (c .closed)) 1 (c .nodes)
 
 abbrev pub toField : Scope → Line
@@ -98,7 +98,7 @@ toField c =
     end
 
 -- what stands behind the kind
-abbrev pub fields : Scope → Sort → Line
+abbrev pub fields : Scope → NodeKind → Line
 fields c start = toField c
 fields c set =
     field (bytes " var=") (oneOf (c .vars)) λ v.
@@ -146,7 +146,7 @@ fields c return = end
 abbrev pub nodeLine : Scope → ℕ → ℕ → Line
 nodeLine c lo n =
     field (bytes "node=") (number lo n Index) λ j.
-    field (bytes " kind=") (sort (c .closed) j) λ k.
+    field (bytes " kind=") (kind (c .closed) j) λ k.
     fields c k
 
 -- ---- a node and the values of its line
@@ -176,7 +176,7 @@ argsOf xs = record { len = min (length xs) 5; a0 = argOf xs 0; a1 = argOf xs 1; 
 abbrev pub argNames : Args → List (Option ℕ)
 argNames x = map nameOf (take (x .len) (argPlaces x ++ replicate (x .len - 4) 0))
 
-unfoldable pub nodeOf : (c : Scope) (k : Sort) → Vals (fields c k) → Node
+unfoldable pub nodeOf : (c : Scope) (k : NodeKind) → Vals (fields c k) → Node
 nodeOf c start w = Start (setOf (w .0))
 nodeOf c set w = Set (w .0) (w .1 .0) (w .1 .1 .0) (w .1 .1 .1 .0) (setOf (w .1 .1 .1 .1 .0))
 nodeOf c test w = Test (w .0) (w .1 .0) (w .1 .1 .0) (setOf (w .1 .1 .1 .0)) (setOf (w .1 .1 .1 .1 .0))
@@ -193,7 +193,7 @@ nodeOf c return w = Return
 -- the line that a node stands for: its kind and the values behind it
 pub data Described (c : Scope) : Type 0 where
   noLine : Described c
-  described : (k : Sort) → Vals (fields c k) → Described c
+  described : (k : NodeKind) → Vals (fields c k) → Described c
 
 unfoldable pub describe : (c : Scope) → Node → Described c
 describe c Absent = noLine

@@ -8,12 +8,12 @@ use lib.ListN.{length, take, drop}
 use Rattle.table.specs.Mask.{pick}
 use Rattle.text.specs.declared.Fault.{Fault}
 use Rattle.text.specs.declared.Fault.the-variants.{Form, Ended}
-use Rattle.text.specs.Value.{Kind, Of, spell, said, unsaid, orElse, check}
+use Rattle.text.specs.Value.{ValueKind, Of, spell, said, unsaid, orElse, check}
 
 pub data Line : Type 0 where
   end : Line
   -- what follows may depend on the value
-  field : List ℕ → (k : Kind) → (Of k → Line) → Line
+  field : List ℕ → (k : ValueKind) → (Of k → Line) → Line
 
 -- the values of a line
 abbrev pub Vals : Line → Type 0
@@ -70,12 +70,12 @@ abbrev pub verdict : {A : Type 0} → A → Option Fault → Parser A
 verdict v none = λ l s. took v l s
 verdict v (some f) = λ l s. refused f l
 
-abbrev pub judged : (k : Kind) → Option (Of k) → Parser (Of k)
+abbrev pub judged : (k : ValueKind) → Option (Of k) → Parser (Of k)
 judged k none = λ l s. refused (unsaid k) l
 judged k (some v) = verdict v (check k v)
 
 -- "one that the text's end breaks off is an early end", whatever it is
-abbrev pub valueOf : (k : Kind) → Parser (Of k)
+abbrev pub valueOf : (k : ValueKind) → Parser (Of k)
 valueOf k = λ l s. pick (ltb (run s) (length s)) (judged k (said k (take (run s) s)) l (drop (run s) s)) (refused Ended l)
 
 abbrev pub afterKey : {A : Type 0} → After → Parser A → ℕ → Outcome A
@@ -84,7 +84,7 @@ afterKey differs p l = refused Form l
 afterKey broken p l = refused Ended l
 
 -- one field: its key, then its value
-unfoldable pub fieldOf : List ℕ → (k : Kind) → Parser (Of k)
+unfoldable pub fieldOf : List ℕ → (k : ValueKind) → Parser (Of k)
 fieldOf key k = λ l s. afterKey (after key s) (valueOf k) l
 
 -- the end of the line

@@ -11,7 +11,7 @@ use lib.Seq.{take-append-seam, drop-append-seam}
 use borrow.Author.Tests.{eqb-true, eq-eqb, lt-ltb}
 use Rattle.text.specs.declared.Fault.{Fault}
 use Rattle.text.specs.NumberLaws.{cases}
-use Rattle.text.specs.Value.{Sort, start, set, test, read, call, wait, signal, send, recv, assert, out, return, Kind, Of, same, spell, said, orElse, check}
+use Rattle.text.specs.Value.{NodeKind, start, set, test, read, call, wait, signal, send, recv, assert, out, return, ValueKind, Of, same, spell, said, orElse, check}
 use Rattle.text.specs.ValueLaws.{no, Apart, said-spell, spell-said, run-spell}
 use Rattle.text.specs.Line.{Line, end, field, Vals, write, Outcome, took, refused, Parser, onto, After, at, differs, broken, after, stops, run, verdict, judged, valueOf, afterKey, fieldOf, line, lineFault}
 use Rattle.text.specs.Format.{headLine, countsLine, taskLine, semLine, queueLine, procLine, Scope, toField, fields, nodeLine}
@@ -42,7 +42,7 @@ after-key [] s = refl
 after-key (b ∷ key) s = rw (eq-eqb b b refl) (after-key key s)
 
 -- a field, where what follows stops its value
-field-write : (key : List ℕ) (k : Kind) → Apart k → (v : Of k) (l b : ℕ) (r : List ℕ) → stops b ≡ true
+field-write : (key : List ℕ) (k : ValueKind) → Apart k → (v : Of k) (l b : ℕ) (r : List ℕ) → stops b ≡ true
     → fieldOf key k l (key ++ (spell k v ++ (b ∷ r))) ≡ verdict v (check k v) l (b ∷ r)
 unfolding fieldOf
 field-write key k a v l b r e =
@@ -103,7 +103,7 @@ onto-read (took v k s) p w l r e then = then v k s refl e
 onto-read (refused f k) p w l r e then = no (cc)
 
 -- the bytes that say a value without fault are its spelling
-judged-read : (k : Kind) (o : Option (Of k)) (l : ℕ) (s : List ℕ) (v : Of k) (l′ : ℕ) (r : List ℕ) → judged k o l s ≡ took v l′ r
+judged-read : (k : ValueKind) (o : Option (Of k)) (l : ℕ) (s : List ℕ) (v : Of k) (l′ : ℕ) (r : List ℕ) → judged k o l s ≡ took v l′ r
     → (o ≡ some v) × (check k v ≡ none) × (l′ ≡ l) × (s ≡ r)
 judged-read k none l s v l′ r e = no (cc)
 judged-read k (some x) l s v l′ r e = go (check k x) refl e
@@ -112,7 +112,7 @@ judged-read k (some x) l s v l′ r e = go (check k x) refl e
     go none q e = let p : x ≡ v = cc in (cc, rw (← p) q, cc, cc)
     go (some f) q e = no (cc)
 
-value-read : (k : Kind) (l : ℕ) (s : List ℕ) (v : Of k) (l′ : ℕ) (r : List ℕ) → valueOf k l s ≡ took v l′ r
+value-read : (k : ValueKind) (l : ℕ) (s : List ℕ) (v : Of k) (l′ : ℕ) (r : List ℕ) → valueOf k l s ≡ took v l′ r
     → (s ≡ spell k v ++ r) × (check k v ≡ none) × (l′ ≡ l)
 value-read k l s v l′ r e = cases (ltb (run s) (length s))
     (λ q.
@@ -165,7 +165,7 @@ proc-sound true i = (tt, λ j. (refl, (tt, λ k. (refl, (tt, λ m. (refl, (tt, �
 to-sound : (c : Scope) → Sound (toField c)
 to-sound c = (tt, λ to. (refl, tt))
 
-fields-sound : (c : Scope) (k : Sort) → (starts (fields c k) ≡ true) × Sound (fields c k)
+fields-sound : (c : Scope) (k : NodeKind) → (starts (fields c k) ≡ true) × Sound (fields c k)
 fields-sound c start = (refl, to-sound c)
 fields-sound c set = (refl, (tt, λ v. (refl, (tt, λ o. (refl, (tt, λ a. (refl, (tt, λ b. (refl, to-sound c)))))))))
 fields-sound c test = (refl, (tt, λ o. (refl, (tt, λ a. (refl, (tt, λ b. (refl, (tt, λ y. (refl, (tt, λ n. (refl, tt)))))))))))

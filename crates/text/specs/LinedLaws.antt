@@ -20,12 +20,12 @@ use Rattle.table.specs.declared.Queue.{Queue}
 use Rattle.table.specs.declared.Table.{Table}
 use Rattle.text.specs.declared.Fault.{Fault}
 use Rattle.text.specs.NumberLaws.{cases}
-use Rattle.text.specs.Value.{orElse, Sort, start, set, test, read, call, wait, signal, send, recv, assert, out, return, arguments, isOne}
+use Rattle.text.specs.Value.{orElse, NodeKind, start, set, test, read, call, wait, signal, send, recv, assert, out, return, arguments, isOne}
 use Rattle.text.specs.Line.{Vals, lineFault}
 use Rattle.text.specs.Format.{headLine, countsLine, taskLine, semLine, queueLine, procLine, Scope, targets, nodeLine, fields, nameOf, argNames, describe}
 use Rattle.text.specs.Writer.{queueVals, procVals, scope}
 use Rattle.text.specs.MaskLists.{members-ascends}
-use Rattle.text.specs.Right.{Sorted, Right, Rights, NameIn, Within}
+use Rattle.text.specs.Right.{KindRight, Right, Rights, NameIn, Within}
 use Rattle.text.specs.RightLaws.{unless-is, else-is, and-is, line-is}
 use Rattle.text.specs.Structure.{firstOf, placeFault, nodesFault, procFault, headFault, countsFault, tasksFault, semsFault, queuesFault, procsFault, linesFault}
 use Rattle.text.specs.Valid.{Named, Arc, NodeValid, ProcValid, Lined}
@@ -91,7 +91,7 @@ args-is c x = (
 -- ---- places
 
 -- node j's line has the number due
-node-is : (c : Scope) (j : ℕ) (k : Sort) (w : Vals (fields c k)) → (lineFault (nodeLine c j (suc j)) (j, (k, w)) ≡ none) ↔ (Sorted (c .closed) j k × Rights (fields c k) w)
+node-is : (c : Scope) (j : ℕ) (k : NodeKind) (w : Vals (fields c k)) → (lineFault (nodeLine c j (suc j)) (j, (k, w)) ≡ none) ↔ (KindRight (c .closed) j k × Rights (fields c k) w)
 node-is c j k w = (
   λ e. line-is (nodeLine c j (suc j)) (j, (k, w)) .0 e .1,
   λ h. line-is (nodeLine c j (suc j)) (j, (k, w)) .1 ((omega arith, omega arith), h),

@@ -20,7 +20,7 @@ use Rattle.text.specs.declared.Fault.{Fault}
 use Rattle.text.specs.declared.Fault.the-variants.{Misspelt, Reference}
 use Rattle.text.specs.Number.{bytes}
 use Rattle.text.specs.NumberLaws.{cases, byOrder, and-left, and-right}
-use Rattle.text.specs.Value.{Sort, start, set as setting, test, read, call, wait, signal, send, recv, assert, out, return, number, variable, ascending, arguments, spell, unless, ascends, within, isOne, noneRemoved, allDeclared, check}
+use Rattle.text.specs.Value.{NodeKind, start, set as setting, test, read, call, wait, signal, send, recv, assert, out, return, number, variable, ascending, arguments, spell, unless, ascends, within, isOne, noneRemoved, allDeclared, check}
 use Rattle.text.specs.ValueLaws.{no}
 use Rattle.text.specs.Line.{Vals, write, took, onto, _>>=_, give, After, at, differs, broken, after, line}
 use Rattle.text.specs.LineLaws.{line-read, onto-read, node-sound}
@@ -133,7 +133,7 @@ unfolding countRight
 few t q xs to f = let e = eqb-true (xs .len) (procAt t q .params) (f .0) in rw e (f .1 q)
 
 -- a line without fault stands for a node that stands for that line
-pub describe-node : (t : Table) (c : Scope) (k : Sort) (w : Vals (fields c k)) → c .vars ≤ removed → c .nodes ≤ 32 → Faultless (fields c k) w
+pub describe-node : (t : Table) (c : Scope) (k : NodeKind) (w : Vals (fields c k)) → c .vars ≤ removed → c .nodes ≤ 32 → Faultless (fields c k) w
     → FitsIn t (nodeOf c k w) → describe c (nodeOf c k w) ≡ described k w
 unfolding nodeOf describe
 describe-node t c start w v n f g = rw (list-back _ 1 (c .nodes) (w .0) n (f .0))
@@ -175,7 +175,7 @@ node-describe t c (Out v to) h f = rw (number-back v, set-members to (h .1))
 node-describe t c Return h f = refl
 
 -- a node made of a line has nothing behind its arguments
-node-args : (c : Scope) (k : Sort) (w : Vals (fields c k)) → argsEmpty (nodeOf c k w) ≡ true
+node-args : (c : Scope) (k : NodeKind) (w : Vals (fields c k)) → argsEmpty (nodeOf c k w) ≡ true
 unfolding nodeOf argsEmpty all
 node-args c start w = refl
 node-args c setting w = refl
@@ -218,13 +218,13 @@ pub no-line : (c : Scope) (lo n l : ℕ) (s : List ℕ) → NoNode s → (v : Va
 unfolding write after
 no-line c lo n l s h v l′ r e = h _ (ap (after (bytes "node=")) (line-read (nodeLine c lo n) l s v l′ r e .0))
 
-no-node : (c : Scope) (i : ℕ) (s : List ℕ) → NoNode s → (k : Sort) (w : Vals (fields c k)) (s′ : List ℕ) → s ≡ nodeText c i (described k w) ++ s′ → ⊥
+no-node : (c : Scope) (i : ℕ) (s : List ℕ) → NoNode s → (k : NodeKind) (w : Vals (fields c k)) (s′ : List ℕ) → s ≡ nodeText c i (described k w) ++ s′ → ⊥
 unfolding write after
 no-node c i s h k w s′ q = h _ (ap (after (bytes "node=")) q)
 
 -- a text from which a node line was read begins with no line of another number
 one-number : (c : Scope) (lo n l : ℕ) (s : List ℕ) (v : Vals (nodeLine c lo n)) (l′ : ℕ) (r : List ℕ) → line (nodeLine c lo n) l s ≡ took v l′ r
-    → (i : ℕ) (k : Sort) (w : Vals (fields c k)) (s′ : List ℕ) → s ≡ nodeText c i (described k w) ++ s′ → i ≡ v .0
+    → (i : ℕ) (k : NodeKind) (w : Vals (fields c k)) (s′ : List ℕ) → s ≡ nodeText c i (described k w) ++ s′ → i ≡ v .0
 unfolding write spell
 one-number c lo n l s v l′ r e i k w s′ q = ap (λ (u : Vals (nodeLine c lo n)). u .0) (line-only (nodeLine c lo n) (node-sound c lo n) l s v l′ r e (i, (k, w)) s′ q .0)
 
@@ -284,7 +284,7 @@ module _ (t : Table) (c : Scope) (few-vars : c .vars ≤ removed) (few-nodes : c
           (ap (λ (y : Node). record { node = y }) (known b h (described k w) p (rw m g) ∙ m), o .1)
 
   -- no line of number j stands there
-  absent-row : (j : ℕ) (s : List ℕ) → ((k : Sort) (w : Vals (fields c k)) (s′ : List ℕ) → s ≡ nodeText c j (described k w) ++ s′ → ⊥) → Row (nodeRows t c) j s noSlot s
+  absent-row : (j : ℕ) (s : List ℕ) → ((k : NodeKind) (w : Vals (fields c k)) (s′ : List ℕ) → s ≡ nodeText c j (described k w) ++ s′ → ⊥) → Row (nodeRows t c) j s noSlot s
   unfolding describe argsEmpty
   absent-row j s h = record { fine = (refl, λ g. tt); same = λ g. refl; only = λ g b s′ u x q. go g b s′ u (describe c (b .node)) refl q }
     where
@@ -328,7 +328,7 @@ module _ (t : Table) (c : Scope) (few-vars : c .vars ≤ removed) (few-nodes : c
   -- no line for place i: it stays empty
   skip : (n : ℕ) → Further n → (f last i : ℕ) (l : List Slot) (k : ℕ) (s : List ℕ) (L : List Slot) (k′ : ℕ) (r : List ℕ) → c .nodes ≡ i + suc n → last < i → c .nodes ≤ i + f → c .nodes ≤ length l
       → ((j : ℕ) → i ≤ j → getD l j noSlot ≡ noSlot) → furtherNodes c f last l k s ≡ took L k′ r
-      → ((k₁ : Sort) (w : Vals (fields c k₁)) (s₁ : List ℕ) → s ≡ nodeText c i (described k₁ w) ++ s₁ → ⊥)
+      → ((k₁ : NodeKind) (w : Vals (fields c k₁)) (s₁ : List ℕ) → s ≡ nodeText c i (described k₁ w) ++ s₁ → ⊥)
       → ((v : Vals (nodeLine c (suc last) (c .nodes))) (l′ : ℕ) (r′ : List ℕ) → line (nodeLine c (suc last) (c .nodes)) k s ≡ took v l′ r′ → suc i ≤ v .0)
       → Filled (nodeRows t c) (suc n) i (c .nodes) l L s r
   skip n ih f last i l k s L k′ r a b d h z e free due =

@@ -10,23 +10,23 @@ use Rattle.table.specs.declared.Operand.{Operand}
 use Rattle.table.specs.declared.Operand.the-variants.{Var, Const}
 use Rattle.table.specs.declared.Op.{Op}
 use Rattle.table.specs.declared.Op.the-variants.{Add, Sub, And, Or, Xor, Shr, Lt, Eq}
-use Rattle.text.specs.Value.{Sort, start, set, test, read, call, wait, signal, send, recv, assert, out, return, Kind, number, choice, sort, operation, operand, variable, ascending, arguments, Of, ascends, isOne}
+use Rattle.text.specs.Value.{NodeKind, start, set, test, read, call, wait, signal, send, recv, assert, out, return, ValueKind, number, choice, kind, operation, operand, variable, ascending, arguments, Of, ascends, isOne}
 use Rattle.text.specs.Line.{Line, end, field, Vals}
 
 -- node 0 is the only start, and only an open table reads
-abbrev pub Sorted : Bool → ℕ → Sort → Type 0
-Sorted c j start = j ≡ 0
-Sorted c j set = 0 < j
-Sorted c j test = 0 < j
-Sorted c j read = (0 < j) × (c ≡ false)
-Sorted c j call = 0 < j
-Sorted c j wait = 0 < j
-Sorted c j signal = 0 < j
-Sorted c j send = 0 < j
-Sorted c j recv = 0 < j
-Sorted c j assert = 0 < j
-Sorted c j out = 0 < j
-Sorted c j return = 0 < j
+abbrev pub KindRight : Bool → ℕ → NodeKind → Type 0
+KindRight c j start = j ≡ 0
+KindRight c j set = 0 < j
+KindRight c j test = 0 < j
+KindRight c j read = (0 < j) × (c ≡ false)
+KindRight c j call = 0 < j
+KindRight c j wait = 0 < j
+KindRight c j signal = 0 < j
+KindRight c j send = 0 < j
+KindRight c j recv = 0 < j
+KindRight c j assert = 0 < j
+KindRight c j out = 0 < j
+KindRight c j return = 0 < j
 
 abbrev pub Compares : Op → Type 0
 Compares Add = ⊥
@@ -57,10 +57,10 @@ NameIn c n (some v) = v < n
 abbrev pub Within : ℕ → ℕ → List ℕ → Type 0
 Within lo n xs = (m : ℕ) → List·Memᴰ m xs → (lo ≤ m) × (m < n)
 
-abbrev pub Right : (k : Kind) → Of k → Type 0
+abbrev pub Right : (k : ValueKind) → Of k → Type 0
 Right (number lo n f) v = (lo ≤ v) × (v < n)
 Right (choice a b) v = Unit {0}
-Right (sort c j) v = Sorted c j v
+Right (kind c j) v = KindRight c j v
 Right (operation t) v = Fits t v
 Right (operand n) v = OperandIn n v
 Right (variable c n) v = NameIn c n v

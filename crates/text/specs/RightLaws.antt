@@ -17,9 +17,9 @@ use Rattle.table.specs.declared.Op.the-variants.{Add, Sub, And, Or, Xor, Shr, L
 use Rattle.text.specs.declared.Fault.{Fault}
 use Rattle.text.specs.NumberLaws.{and-left, and-right}
 use Rattle.text.specs.ValueLaws.{no}
-use Rattle.text.specs.Value.{Sort, start, set, test, read, call, wait, signal, send, recv, assert, out, return, Kind, number, choice, sort, operation, operand, variable, ascending, arguments, Of, unless, orElse, sortFault, opFault, operandFault, variableFault, ascends, within, isOne, noneRemoved, allDeclared, check}
+use Rattle.text.specs.Value.{NodeKind, start, set, test, read, call, wait, signal, send, recv, assert, out, return, ValueKind, number, choice, kind, operation, operand, variable, ascending, arguments, Of, unless, orElse, kindFault, opFault, operandFault, variableFault, ascends, within, isOne, noneRemoved, allDeclared, check}
 use Rattle.text.specs.Line.{Line, end, field, Vals, lineFault}
-use Rattle.text.specs.Right.{Sorted, Fits, OperandIn, NameIn, Within, Right, Rights}
+use Rattle.text.specs.Right.{KindRight, Fits, OperandIn, NameIn, Within, Right, Rights}
 
 -- ---- the first of some faults
 
@@ -36,32 +36,32 @@ and-is a b = (λ e. (and-left a b e, and-right a b e), λ e. rw (e .0) (e .1))
 
 -- ---- a value has no fault if and only if it is right
 
-sort-is : (c : Bool) (j : ℕ) (v : Sort) → (sortFault c j v ≡ none) ↔ Sorted c j v
-sort-is c zero start = (λ e. refl, λ h. refl)
-sort-is c (suc j) start = (λ e. no (cc), λ h. absurd (omega arith))
-sort-is c zero set = (λ e. no (cc), λ h. absurd (omega arith))
-sort-is c (suc j) set = (λ e. omega arith, λ h. refl)
-sort-is c zero test = (λ e. no (cc), λ h. absurd (omega arith))
-sort-is c (suc j) test = (λ e. omega arith, λ h. refl)
-sort-is false zero read = (λ e. no (cc), λ h. absurd (omega arith))
-sort-is false (suc j) read = (λ e. (omega arith, refl), λ h. refl)
-sort-is true j read = (λ e. no (cc), λ h. absurd (false≢true (sym (h .1))))
-sort-is c zero call = (λ e. no (cc), λ h. absurd (omega arith))
-sort-is c (suc j) call = (λ e. omega arith, λ h. refl)
-sort-is c zero wait = (λ e. no (cc), λ h. absurd (omega arith))
-sort-is c (suc j) wait = (λ e. omega arith, λ h. refl)
-sort-is c zero signal = (λ e. no (cc), λ h. absurd (omega arith))
-sort-is c (suc j) signal = (λ e. omega arith, λ h. refl)
-sort-is c zero send = (λ e. no (cc), λ h. absurd (omega arith))
-sort-is c (suc j) send = (λ e. omega arith, λ h. refl)
-sort-is c zero recv = (λ e. no (cc), λ h. absurd (omega arith))
-sort-is c (suc j) recv = (λ e. omega arith, λ h. refl)
-sort-is c zero assert = (λ e. no (cc), λ h. absurd (omega arith))
-sort-is c (suc j) assert = (λ e. omega arith, λ h. refl)
-sort-is c zero out = (λ e. no (cc), λ h. absurd (omega arith))
-sort-is c (suc j) out = (λ e. omega arith, λ h. refl)
-sort-is c zero return = (λ e. no (cc), λ h. absurd (omega arith))
-sort-is c (suc j) return = (λ e. omega arith, λ h. refl)
+kind-is : (c : Bool) (j : ℕ) (v : NodeKind) → (kindFault c j v ≡ none) ↔ KindRight c j v
+kind-is c zero start = (λ e. refl, λ h. refl)
+kind-is c (suc j) start = (λ e. no (cc), λ h. absurd (omega arith))
+kind-is c zero set = (λ e. no (cc), λ h. absurd (omega arith))
+kind-is c (suc j) set = (λ e. omega arith, λ h. refl)
+kind-is c zero test = (λ e. no (cc), λ h. absurd (omega arith))
+kind-is c (suc j) test = (λ e. omega arith, λ h. refl)
+kind-is false zero read = (λ e. no (cc), λ h. absurd (omega arith))
+kind-is false (suc j) read = (λ e. (omega arith, refl), λ h. refl)
+kind-is true j read = (λ e. no (cc), λ h. absurd (false≢true (sym (h .1))))
+kind-is c zero call = (λ e. no (cc), λ h. absurd (omega arith))
+kind-is c (suc j) call = (λ e. omega arith, λ h. refl)
+kind-is c zero wait = (λ e. no (cc), λ h. absurd (omega arith))
+kind-is c (suc j) wait = (λ e. omega arith, λ h. refl)
+kind-is c zero signal = (λ e. no (cc), λ h. absurd (omega arith))
+kind-is c (suc j) signal = (λ e. omega arith, λ h. refl)
+kind-is c zero send = (λ e. no (cc), λ h. absurd (omega arith))
+kind-is c (suc j) send = (λ e. omega arith, λ h. refl)
+kind-is c zero recv = (λ e. no (cc), λ h. absurd (omega arith))
+kind-is c (suc j) recv = (λ e. omega arith, λ h. refl)
+kind-is c zero assert = (λ e. no (cc), λ h. absurd (omega arith))
+kind-is c (suc j) assert = (λ e. omega arith, λ h. refl)
+kind-is c zero out = (λ e. no (cc), λ h. absurd (omega arith))
+kind-is c (suc j) out = (λ e. omega arith, λ h. refl)
+kind-is c zero return = (λ e. no (cc), λ h. absurd (omega arith))
+kind-is c (suc j) return = (λ e. omega arith, λ h. refl)
 
 op-is : (t : Bool) (v : Op) → (opFault t v ≡ none) ↔ Fits t v
 op-is false v = (λ e. tt, λ h. refl)
@@ -120,11 +120,11 @@ all-names false n [] f = (refl, refl)
 all-names c n (none ∷ xs) f = let ih = all-names c n xs (λ i l. f (suc i) (omega arith)) in (rw (f 0 (omega arith)), ih .1)
 all-names c n (some v ∷ xs) f = let ih = all-names c n xs (λ i l. f (suc i) (omega arith)) in (ih .0, rw (lt-ltb v n (f 0 (omega arith))) (ih .1))
 
-check-right : (k : Kind) (v : Of k) → check k v ≡ none → Right k v
+check-right : (k : ValueKind) (v : Of k) → check k v ≡ none → Right k v
 unfolding check
 check-right (number lo n f) v e = range-is lo v n .0 (unless-is _ f .0 e)
 check-right (choice a b) v e = tt
-check-right (sort c j) v e = sort-is c j v .0 e
+check-right (kind c j) v e = kind-is c j v .0 e
 check-right (operation t) v e = op-is t v .0 e
 check-right (operand n) v e = operand-is n v .0 e
 check-right (variable c n) v e = variable-is c n v .0 e
@@ -134,11 +134,11 @@ check-right (ascending one lo n) v e =
     (a .0, λ o. rw o at (a .1), within-all lo n v (unless-is _ _ .0 (h .1)))
 check-right (arguments c n) v e = let h = else-is _ _ .0 e in names-all c n v (unless-is _ _ .0 (h .0)) (unless-is _ _ .0 (h .1))
 
-right-check : (k : Kind) (v : Of k) → Right k v → check k v ≡ none
+right-check : (k : ValueKind) (v : Of k) → Right k v → check k v ≡ none
 unfolding check
 right-check (number lo n f) v h = unless-is _ f .1 (range-is lo v n .1 h)
 right-check (choice a b) v h = refl
-right-check (sort c j) v h = sort-is c j v .1 h
+right-check (kind c j) v h = kind-is c j v .1 h
 right-check (operation t) v h = op-is t v .1 h
 right-check (operand n) v h = operand-is n v .1 h
 right-check (variable c n) v h = variable-is c n v .1 h

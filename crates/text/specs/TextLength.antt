@@ -20,7 +20,7 @@ use Rattle.table.specs.declared.Table.{Table}
 use Rattle.text.specs.declared.Fault.the-variants.{Misspelt, Range, Reference}
 use Rattle.text.specs.Number.{digits}
 use Rattle.text.specs.NumberLaws.{byOrder, and-left, and-right, digits-small, digits-large}
-use Rattle.text.specs.Value.{start, set, test, read as reading, call, wait, signal, send, recv, assert, out, return, Kind, number, choice, sort, operation, operand, variable, ascending, arguments, Of, spellVariable, spellOperand, commas, spellList, spell, unless, ascends, within, noneRemoved, allDeclared, check}
+use Rattle.text.specs.Value.{start, set, test, read as reading, call, wait, signal, send, recv, assert, out, return, ValueKind, number, choice, kind, operation, operand, variable, ascending, arguments, Of, spellVariable, spellOperand, commas, spellList, spell, unless, ascends, within, noneRemoved, allDeclared, check}
 use Rattle.text.specs.Line.{Line, end, field, Vals, write}
 use Rattle.text.specs.Format.{headLine, countsLine, taskLine, semLine, queueLine, procLine, Scope, nodeLine, argNames, describe}
 use Rattle.text.specs.Reader.{concat, good, readLines, read}
@@ -75,20 +75,20 @@ names-short n (some v ∷ xs) h e =
     (digits-short 2 v (omega arith), names-short n xs h (and-right (ltb v n) (allDeclared n xs) e))
 
 -- the bytes that a value of a kind has at most, where its numbers have three digits, a list's two, and arguments are four
-abbrev most : Kind → ℕ
+abbrev most : ValueKind → ℕ
 most (number lo n f) = 3
 most (choice a b) = length a + length b
-most (sort c j) = 6
+most (kind c j) = 6
 most (operation t) = 3
 most (operand n) = 11
 most (variable c n) = 3
 most (ascending one lo n) = 92
 most (arguments c n) = 15
 
-abbrev Small : (k : Kind) → Of k → Type 0
+abbrev Small : (k : ValueKind) → Of k → Type 0
 Small (number lo n f) v = n ≤ 1000
 Small (choice a b) v = Unit {0}
-Small (sort c j) v = Unit {0}
+Small (kind c j) v = Unit {0}
 Small (operation t) v = Unit {0}
 Small (operand n) v = n ≤ 1000
 Small (variable c n) v = n ≤ 1000
@@ -121,12 +121,12 @@ args-short c n (x ∷ xs) h k e =
     let d = length-map xs spellVariable in
     omega arith
 
-spell-short : (k : Kind) (v : Of k) → check k v ≡ none → Small k v → length (spell k v) ≤ most k
+spell-short : (k : ValueKind) (v : Of k) → check k v ≡ none → Small k v → length (spell k v) ≤ most k
 unfolding spell check
 spell-short (number lo n f) v e h = let u = number-fact lo n f v e in digits-short 2 v (omega arith)
 spell-short (choice a b) false e h = omega arith
 spell-short (choice a b) true e h = omega arith
-spell-short (sort c j) v e h = elim v [ start ↦ omega arith | set ↦ omega arith | test ↦ omega arith | reading ↦ omega arith | call ↦ omega arith | wait ↦ omega arith | signal ↦ omega arith | send ↦ omega arith | recv ↦ omega arith | assert ↦ omega arith | out ↦ omega arith | return ↦ omega arith ]
+spell-short (kind c j) v e h = elim v [ start ↦ omega arith | set ↦ omega arith | test ↦ omega arith | reading ↦ omega arith | call ↦ omega arith | wait ↦ omega arith | signal ↦ omega arith | send ↦ omega arith | recv ↦ omega arith | assert ↦ omega arith | out ↦ omega arith | return ↦ omega arith ]
 spell-short (operation t) v e h = elim v [ Add ↦ omega arith | Sub ↦ omega arith | And ↦ omega arith | Or ↦ omega arith | Xor ↦ omega arith | Shr ↦ omega arith | Lt ↦ omega arith | Eq ↦ omega arith ]
 spell-short (operand n) v e h = operand-short n v h e
 spell-short (variable c n) none e h = omega arith

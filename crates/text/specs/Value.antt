@@ -15,32 +15,32 @@ use Rattle.text.specs.declared.Fault.{Fault}
 use Rattle.text.specs.declared.Fault.the-variants.{Form, Misspelt, Range, Index, Reference}
 
 -- the kinds of nodes, by their words
-pub data Sort : Type 0 where
-  start set test read call wait signal send recv assert out return : Sort
+pub data NodeKind : Type 0 where
+  start set test read call wait signal send recv assert out return : NodeKind
 
-pub data Kind : Type 0 where
+pub data ValueKind : Type 0 where
   -- a number at least the first and below the second; outside, the fault
-  number : ℕ → ℕ → Fault → Kind
+  number : ℕ → ℕ → Fault → ValueKind
   -- one of two words: the first for false, the second for true
-  choice : List ℕ → List ℕ → Kind
+  choice : List ℕ → List ℕ → ValueKind
   -- the kind of node j, in closed form or not
-  sort : Bool → ℕ → Kind
+  kind : Bool → ℕ → ValueKind
   -- an operation; in a test or not
-  operation : Bool → Kind
+  operation : Bool → ValueKind
   -- an operand, with so many variables declared
-  operand : ℕ → Kind
+  operand : ℕ → ValueKind
   -- a variable, with so many declared; in closed form it may be `-`
-  variable : Bool → ℕ → Kind
+  variable : Bool → ℕ → ValueKind
   -- a list that ascends strictly, of numbers at least the first and below the second; of one number or of any count
-  ascending : Bool → ℕ → ℕ → Kind
+  ascending : Bool → ℕ → ℕ → ValueKind
   -- a call's variables, with so many declared; in closed form each may be `-`
-  arguments : Bool → ℕ → Kind
+  arguments : Bool → ℕ → ValueKind
 
 -- the values of a kind; a variable that is `none` is `-`
-abbrev pub Of : Kind → Type 0
+abbrev pub Of : ValueKind → Type 0
 Of (number lo n f) = ℕ
 Of (choice a b) = Bool
-Of (sort c j) = Sort
+Of (kind c j) = NodeKind
 Of (operation t) = Op
 Of (operand n) = Operand
 Of (variable c n) = Option ℕ
@@ -48,33 +48,33 @@ Of (ascending one lo n) = List ℕ
 Of (arguments c n) = List (Option ℕ)
 
 -- a number from lo to hi, else 3; the index i, else 4; a reference to one of n, else 5
-abbrev pub from : ℕ → ℕ → Kind
+abbrev pub from : ℕ → ℕ → ValueKind
 from lo hi = number lo (hi + 1) Range
 
-abbrev pub due : ℕ → Kind
+abbrev pub due : ℕ → ValueKind
 due i = number i (i + 1) Index
 
-abbrev pub oneOf : ℕ → Kind
+abbrev pub oneOf : ℕ → ValueKind
 oneOf n = number 0 n Reference
 
 -- ---- words
 
-abbrev pub sortWord : Sort → List ℕ
-sortWord start = bytes "start"
-sortWord set = bytes "set"
-sortWord test = bytes "test"
-sortWord read = bytes "read"
-sortWord call = bytes "call"
-sortWord wait = bytes "wait"
-sortWord signal = bytes "signal"
-sortWord send = bytes "send"
-sortWord recv = bytes "recv"
-sortWord assert = bytes "assert"
-sortWord out = bytes "out"
-sortWord return = bytes "return"
+abbrev pub kindWord : NodeKind → List ℕ
+kindWord start = bytes "start"
+kindWord set = bytes "set"
+kindWord test = bytes "test"
+kindWord read = bytes "read"
+kindWord call = bytes "call"
+kindWord wait = bytes "wait"
+kindWord signal = bytes "signal"
+kindWord send = bytes "send"
+kindWord recv = bytes "recv"
+kindWord assert = bytes "assert"
+kindWord out = bytes "out"
+kindWord return = bytes "return"
 
-abbrev pub sorts : List Sort
-sorts = start ∷ set ∷ test ∷ read ∷ call ∷ wait ∷ signal ∷ send ∷ recv ∷ assert ∷ out ∷ return ∷ []
+abbrev pub kinds : List NodeKind
+kinds = start ∷ set ∷ test ∷ read ∷ call ∷ wait ∷ signal ∷ send ∷ recv ∷ assert ∷ out ∷ return ∷ []
 
 abbrev pub opWord : Op → List ℕ
 opWord Add = bytes "add"
@@ -178,20 +178,20 @@ saidList f s = pick (same (bytes "none") s) (some []) (each f (split s))
 
 -- ---- spelling, and what bytes say
 
-unfoldable pub spell : (k : Kind) → Of k → List ℕ
+unfoldable pub spell : (k : ValueKind) → Of k → List ℕ
 spell (number lo n f) v = digits v
 spell (choice a b) v = chosen a b v
-spell (sort c j) v = sortWord v
+spell (kind c j) v = kindWord v
 spell (operation t) v = opWord v
 spell (operand n) v = spellOperand v
 spell (variable c n) v = spellVariable v
 spell (ascending one lo n) v = spellList (map digits v)
 spell (arguments c n) v = spellList (map spellVariable v)
 
-unfoldable pub said : (k : Kind) → List ℕ → Option (Of k)
+unfoldable pub said : (k : ValueKind) → List ℕ → Option (Of k)
 said (number lo n f) s = numeral s
 said (choice a b) s = named (chosen a b) (false ∷ true ∷ []) s
-said (sort c j) s = named sortWord sorts s
+said (kind c j) s = named kindWord kinds s
 said (operation t) s = named opWord ops s
 said (operand n) s = saidOperand s
 said (variable c n) s = saidVariable s
@@ -199,10 +199,10 @@ said (ascending one lo n) s = saidList numeral s
 said (arguments c n) s = saidList saidVariable s
 
 -- the fault of bytes that say nothing of a kind
-unfoldable pub unsaid : Kind → Fault
+unfoldable pub unsaid : ValueKind → Fault
 unsaid (number lo n f) = Misspelt
 unsaid (choice a b) = Form
-unsaid (sort c j) = Form
+unsaid (kind c j) = Form
 unsaid (operation t) = Form
 unsaid (operand n) = Misspelt
 unsaid (variable c n) = Misspelt
@@ -221,32 +221,32 @@ orElse (some f) g = some f
 orElse none g = g
 
 -- a closed table has no `read`; node 0 is the only `start`
-abbrev pub sortFault : Bool → ℕ → Sort → Option Fault
-sortFault c zero start = none
-sortFault c (suc j) start = some Index
-sortFault c zero set = some Index
-sortFault c (suc j) set = none
-sortFault c zero test = some Index
-sortFault c (suc j) test = none
-sortFault false zero read = some Index
-sortFault false (suc j) read = none
-sortFault true j read = some Form
-sortFault c zero call = some Index
-sortFault c (suc j) call = none
-sortFault c zero wait = some Index
-sortFault c (suc j) wait = none
-sortFault c zero signal = some Index
-sortFault c (suc j) signal = none
-sortFault c zero send = some Index
-sortFault c (suc j) send = none
-sortFault c zero recv = some Index
-sortFault c (suc j) recv = none
-sortFault c zero assert = some Index
-sortFault c (suc j) assert = none
-sortFault c zero out = some Index
-sortFault c (suc j) out = none
-sortFault c zero return = some Index
-sortFault c (suc j) return = none
+abbrev pub kindFault : Bool → ℕ → NodeKind → Option Fault
+kindFault c zero start = none
+kindFault c (suc j) start = some Index
+kindFault c zero set = some Index
+kindFault c (suc j) set = none
+kindFault c zero test = some Index
+kindFault c (suc j) test = none
+kindFault false zero read = some Index
+kindFault false (suc j) read = none
+kindFault true j read = some Form
+kindFault c zero call = some Index
+kindFault c (suc j) call = none
+kindFault c zero wait = some Index
+kindFault c (suc j) wait = none
+kindFault c zero signal = some Index
+kindFault c (suc j) signal = none
+kindFault c zero send = some Index
+kindFault c (suc j) send = none
+kindFault c zero recv = some Index
+kindFault c (suc j) recv = none
+kindFault c zero assert = some Index
+kindFault c (suc j) assert = none
+kindFault c zero out = some Index
+kindFault c (suc j) out = none
+kindFault c zero return = some Index
+kindFault c (suc j) return = none
 
 -- "A test has lt or eq"
 abbrev pub opFault : Bool → Op → Option Fault
@@ -296,10 +296,10 @@ allDeclared n (none ∷ xs) = allDeclared n xs
 allDeclared n (some v ∷ xs) = ltb v n && allDeclared n xs
 
 -- a whole list is one value: its spelling, its order and its count come before any item's range
-unfoldable pub check : (k : Kind) → Of k → Option Fault
+unfoldable pub check : (k : ValueKind) → Of k → Option Fault
 check (number lo n f) v = unless (leb lo v && ltb v n) f
 check (choice a b) v = none
-check (sort c j) v = sortFault c j v
+check (kind c j) v = kindFault c j v
 check (operation t) v = opFault t v
 check (operand n) v = operandFault n v
 check (variable c n) v = variableFault c n v

@@ -15,7 +15,7 @@ use Rattle.table.specs.declared.Op.{Op}
 use Rattle.table.specs.declared.Op.the-variants.{Add, Sub, And, Or, Xor, Shr, Lt, Eq}
 use Rattle.text.specs.Number.{bytes, digits, spelt, value, allDigits}
 use Rattle.text.specs.NumberLaws.{cases, and-left, and-right, all-head, all-tail, spelt-digits, digits-all, digits-first, value-digits, digits-value}
-use Rattle.text.specs.Value.{Sort, start, set, test, read, call, wait, signal, send, recv, assert, out, return, Kind, number, choice, sort, operation, operand, variable, ascending, arguments, Of, sortWord, sorts, opWord, ops, same, named, chosen, numeral, spellVariable, asVariable, saidVariable, spellOperand, asVar, asConst, asNegative, saidOperand, commas, spellList, split, followed, each, saidList, spell, said}
+use Rattle.text.specs.Value.{NodeKind, start, set, test, read, call, wait, signal, send, recv, assert, out, return, ValueKind, number, choice, kind, operation, operand, variable, ascending, arguments, Of, kindWord, kinds, opWord, ops, same, named, chosen, numeral, spellVariable, asVariable, saidVariable, spellOperand, asVar, asConst, asNegative, saidOperand, commas, spellList, split, followed, each, saidList, spell, said}
 use Rattle.text.specs.Line.{stops, run}
 
 -- from an equation between different constructors anything follows: `no (cc)`
@@ -74,9 +74,9 @@ unfolding named
 choice-said a b e false = rw (same-refl a, named)
 choice-said a b e true = rw (e, same-refl b, named)
 
-sort-said : (v : Sort) → named sortWord sorts (sortWord v) ≡ some v
+kind-said : (v : NodeKind) → named kindWord kinds (kindWord v) ≡ some v
 unfolding named same
-sort-said v = elim v [ start ↦ refl | set ↦ refl | test ↦ refl | read ↦ refl | call ↦ refl | wait ↦ refl | signal ↦ refl | send ↦ refl | recv ↦ refl | assert ↦ refl | out ↦ refl | return ↦ refl ]
+kind-said v = elim v [ start ↦ refl | set ↦ refl | test ↦ refl | read ↦ refl | call ↦ refl | wait ↦ refl | signal ↦ refl | send ↦ refl | recv ↦ refl | assert ↦ refl | out ↦ refl | return ↦ refl ]
 
 op-said : (v : Op) → named opWord ops (opWord v) ≡ some v
 unfolding named same
@@ -86,8 +86,8 @@ chosen-over : (a b : List ℕ) → Over 32 a → Over 32 b → (v : Bool) → Ov
 chosen-over a b p q false = p
 chosen-over a b p q true = q
 
-sort-over : (v : Sort) → Over 32 (sortWord v)
-sort-over v = elim v [ start ↦ omega arith | set ↦ omega arith | test ↦ omega arith | read ↦ omega arith | call ↦ omega arith | wait ↦ omega arith | signal ↦ omega arith | send ↦ omega arith | recv ↦ omega arith | assert ↦ omega arith | out ↦ omega arith | return ↦ omega arith ]
+kind-over : (v : NodeKind) → Over 32 (kindWord v)
+kind-over v = elim v [ start ↦ omega arith | set ↦ omega arith | test ↦ omega arith | read ↦ omega arith | call ↦ omega arith | wait ↦ omega arith | signal ↦ omega arith | send ↦ omega arith | recv ↦ omega arith | assert ↦ omega arith | out ↦ omega arith | return ↦ omega arith ]
 
 op-over : (v : Op) → Over 32 (opWord v)
 op-over v = elim v [ Add ↦ omega arith | Sub ↦ omega arith | And ↦ omega arith | Or ↦ omega arith | Xor ↦ omega arith | Shr ↦ omega arith | Lt ↦ omega arith | Eq ↦ omega arith ]
@@ -268,10 +268,10 @@ module _ {A : Type 0} {word : A → List ℕ} {item : List ℕ → Option A} (it
 -- ---- every kind
 
 -- the two words of a choice differ, and have no space or LF in them
-abbrev pub Apart : Kind → Type 0
+abbrev pub Apart : ValueKind → Type 0
 Apart (number lo n f) = Unit {0}
 Apart (choice a b) = (same a b ≡ false) × Over 32 a × Over 32 b
-Apart (sort c j) = Unit {0}
+Apart (kind c j) = Unit {0}
 Apart (operation t) = Unit {0}
 Apart (operand n) = Unit {0}
 Apart (variable c n) = Unit {0}
@@ -279,11 +279,11 @@ Apart (ascending one lo n) = Unit {0}
 Apart (arguments c n) = Unit {0}
 
 -- a value's spelling says it, a faulty value's too
-pub said-spell : (k : Kind) (v : Of k) → Apart k → said k (spell k v) ≡ some v
+pub said-spell : (k : ValueKind) (v : Of k) → Apart k → said k (spell k v) ≡ some v
 unfolding said spell
 said-spell (number lo n f) v a = numeral-digits v
 said-spell (choice x y) v a = choice-said x y (a .0) v
-said-spell (sort c j) v a = sort-said v
+said-spell (kind c j) v a = kind-said v
 said-spell (operation t) v a = op-said v
 said-spell (operand n) v a = operand-said v
 said-spell (variable c n) v a = variable-said v
@@ -291,11 +291,11 @@ said-spell (ascending one lo n) v a = list-said numbers v
 said-spell (arguments c n) v a = list-said variables v
 
 -- bytes that say a value are its spelling
-pub spell-said : (k : Kind) (s : List ℕ) (v : Of k) → said k s ≡ some v → spell k v ≡ s
+pub spell-said : (k : ValueKind) (s : List ℕ) (v : Of k) → said k s ≡ some v → spell k v ≡ s
 unfolding said spell
 spell-said (number lo n f) s v e = numeral-said s v e
 spell-said (choice a b) s v e = named-said (chosen a b) (false ∷ true ∷ []) s v e
-spell-said (sort c j) s v e = named-said sortWord sorts s v e
+spell-said (kind c j) s v e = named-said kindWord kinds s v e
 spell-said (operation t) s v e = named-said opWord ops s v e
 spell-said (operand n) s v e = said-operand s v e
 spell-said (variable c n) s v e = said-variable s v e
@@ -303,11 +303,11 @@ spell-said (ascending one lo n) s v e = said-list numbers s v e
 spell-said (arguments c n) s v e = said-list variables s v e
 
 -- no spelling has a space or LF in it
-pub spell-plain : (k : Kind) (v : Of k) → Apart k → Over 32 (spell k v)
+pub spell-plain : (k : ValueKind) (v : Of k) → Apart k → Over 32 (spell k v)
 unfolding spell
 spell-plain (number lo n f) v a = word-over numbers v
 spell-plain (choice x y) v a = chosen-over x y (a .1) (a .2) v
-spell-plain (sort c j) v a = sort-over v
+spell-plain (kind c j) v a = kind-over v
 spell-plain (operation t) v a = op-over v
 spell-plain (operand n) v a = over-less 32 44 (omega arith) (spellOperand v) (operand-over v)
 spell-plain (variable c n) v a = word-over variables v
@@ -315,5 +315,5 @@ spell-plain (ascending one lo n) v a = list-over numbers v
 spell-plain (arguments c n) v a = list-over variables v
 
 -- so a value runs to the byte that stops it
-pub run-spell : (k : Kind) (v : Of k) → Apart k → (b : ℕ) (r : List ℕ) → stops b ≡ true → run (spell k v ++ (b ∷ r)) ≡ length (spell k v)
+pub run-spell : (k : ValueKind) (v : Of k) → Apart k → (b : ℕ) (r : List ℕ) → stops b ≡ true → run (spell k v ++ (b ∷ r)) ≡ length (spell k v)
 run-spell k v a b r e = run-over (spell k v) b r (spell-plain k v a) e

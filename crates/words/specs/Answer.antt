@@ -8,7 +8,7 @@ use lib.ListN.{length, take, drop}
 use Rattle.table.specs.declared.Op.{Op}
 use Rattle.table.specs.declared.Op.the-variants.{Add, Sub, And, Or, Xor, Shr, Lt, Eq}
 use Rattle.text.specs.Number.{bytes}
-use Rattle.text.specs.Value.{Sort, start, set, test, read, call, wait, signal, send, recv, assert, out, return, choice, sort, operation, sortWord, opWord, named, said}
+use Rattle.text.specs.Value.{NodeKind, start, set, test, read, call, wait, signal, send, recv, assert, out, return, choice, kind, operation, kindWord, opWord, named, said}
 use Rattle.text.specs.Line.{Outcome, took, refused, judged, valueOf, fieldOf}
 use Rattle.scan.specs.Place.{RunEnd}
 use Rattle.words.specs.declared.Quick.{Quick}
@@ -17,10 +17,10 @@ use Rattle.words.specs.declared.QuickOp.{QuickOp}
 use Rattle.words.specs.declared.QuickOp.the-variants.{Is as IsQuickOp, Not as NotQuickOp}
 use Rattle.words.specs.declared.Choice.{Choice}
 use Rattle.words.specs.declared.Choice.the-variants.{Is as IsChoice, Not as NotChoice}
-use Rattle.words.specs.declared.Sort.{Sort as Word}
-use Rattle.words.specs.declared.Sort.the-variants.{Start, Set, Test, Read, Call, Wait, Signal, Send, Recv, Assert, Out, Return}
-use Rattle.words.specs.declared.Kind.{Kind as SortAnswer}
-use Rattle.words.specs.declared.Kind.the-variants.{Is as IsSort, Not as NotSort}
+use Rattle.words.specs.declared.NodeKind.{NodeKind as Word}
+use Rattle.words.specs.declared.NodeKind.the-variants.{Start, Set, Test, Read, Call, Wait, Signal, Send, Recv, Assert, Out, Return}
+use Rattle.words.specs.declared.Kind.{Kind as KindAnswer}
+use Rattle.words.specs.declared.Kind.the-variants.{Is as IsKind, Not as NotKind}
 use Rattle.words.specs.declared.Operation.{Operation}
 use Rattle.words.specs.declared.Operation.the-variants.{Is as IsOp, Not as NotOp}
 
@@ -54,31 +54,31 @@ pub record ChoiceAt (a b key s : List ℕ) (at : ℕ) (r : Choice) : Type 0 wher
 
 -- ---- the kinds of nodes
 
-abbrev pub sortOf : Word → Sort
-sortOf Start = start
-sortOf Set = set
-sortOf Test = test
-sortOf Read = read
-sortOf Call = call
-sortOf Wait = wait
-sortOf Signal = signal
-sortOf Send = send
-sortOf Recv = recv
-sortOf Assert = assert
-sortOf Out = out
-sortOf Return = return
+abbrev pub kindOf : Word → NodeKind
+kindOf Start = start
+kindOf Set = set
+kindOf Test = test
+kindOf Read = read
+kindOf Call = call
+kindOf Wait = wait
+kindOf Signal = signal
+kindOf Send = send
+kindOf Recv = recv
+kindOf Assert = assert
+kindOf Out = out
+kindOf Return = return
 
-abbrev pub sortIn : ℕ → List ℕ → SortAnswer → Outcome Sort
-sortIn l s (IsSort k e) = took (sortOf k) l (drop e s)
-sortIn l s (NotSort f) = refused f l
+abbrev pub kindIn : ℕ → List ℕ → KindAnswer → Outcome NodeKind
+kindIn l s (IsKind k e) = took (kindOf k) l (drop e s)
+kindIn l s (NotKind f) = refused f l
 
-abbrev pub sortEnds : ℕ → SortAnswer → Type 0
-sortEnds e (IsSort k q) = q ≡ e
-sortEnds e (NotSort f) = Unit {0}
+abbrev pub kindEnds : ℕ → KindAnswer → Type 0
+kindEnds e (IsKind k q) = q ≡ e
+kindEnds e (NotKind f) = Unit {0}
 
-abbrev pub sortWithin : List ℕ → SortAnswer → Type 0
-sortWithin s (IsSort k e) = e < length s
-sortWithin s (NotSort f) = Unit {0}
+abbrev pub kindWithin : List ℕ → KindAnswer → Type 0
+kindWithin s (IsKind k e) = e < length s
+kindWithin s (NotKind f) = Unit {0}
 
 -- a kind that any node but 0 may have, in either form
 abbrev pub plain : Word → Bool
@@ -96,40 +96,40 @@ plain Out = true
 plain Return = true
 
 -- the answer for a kind
-pub record SortJudged (c : Bool) (j : ℕ) (k : Sort) (e : ℕ) (r : SortAnswer) : Type 0 where
-  pub same : (l : ℕ) (s : List ℕ) → sortIn l s r ≡ judged (sort c j) (some k) l (drop e s)
-  pub ends : sortEnds e r
+pub record KindJudged (c : Bool) (j : ℕ) (k : NodeKind) (e : ℕ) (r : KindAnswer) : Type 0 where
+  pub same : (l : ℕ) (s : List ℕ) → kindIn l s r ≡ judged (kind c j) (some k) l (drop e s)
+  pub ends : kindEnds e r
 
 -- in either form
-pub record Later (k : Sort) (j e : ℕ) (r : SortAnswer) : Type 0 where
-  pub judged : (c : Bool) → SortJudged c j k e r
+pub record Later (k : NodeKind) (j e : ℕ) (r : KindAnswer) : Type 0 where
+  pub judged : (c : Bool) → KindJudged c j k e r
 
 -- the answer where the word is looked for among those of some kinds
-pub record SortSaid (c : Bool) (j : ℕ) (ks : List Sort) (t : List ℕ) (e : ℕ) (r : SortAnswer) : Type 0 where
-  pub same : (l : ℕ) (s : List ℕ) → sortIn l s r ≡ judged (sort c j) (named sortWord ks t) l (drop e s)
-  pub ends : sortEnds e r
+pub record KindSaid (c : Bool) (j : ℕ) (ks : List NodeKind) (t : List ℕ) (e : ℕ) (r : KindAnswer) : Type 0 where
+  pub same : (l : ℕ) (s : List ℕ) → kindIn l s r ≡ judged (kind c j) (named kindWord ks t) l (drop e s)
+  pub ends : kindEnds e r
 
-abbrev pub lateSorts : List Sort
-lateSorts = recv ∷ assert ∷ out ∷ return ∷ []
+abbrev pub lateKinds : List NodeKind
+lateKinds = recv ∷ assert ∷ out ∷ return ∷ []
 
-abbrev pub middleSorts : List Sort
-middleSorts = call ∷ wait ∷ signal ∷ send ∷ lateSorts
+abbrev pub middleKinds : List NodeKind
+middleKinds = call ∷ wait ∷ signal ∷ send ∷ lateKinds
 
-pub record SortIn (c : Bool) (j : ℕ) (s : List ℕ) (at : ℕ) (r : SortAnswer) : Type 0 where
-  pub same : (l : ℕ) → sortIn l s r ≡ valueOf (sort c j) l (drop at s)
-  pub within : sortWithin s r
+pub record KindIn (c : Bool) (j : ℕ) (s : List ℕ) (at : ℕ) (r : KindAnswer) : Type 0 where
+  pub same : (l : ℕ) → kindIn l s r ≡ valueOf (kind c j) l (drop at s)
+  pub within : kindWithin s r
 
 -- a kind whose word stands at a place
-abbrev pub sortStands : List ℕ → ℕ → Quick → Type 0
-sortStands s at (IsQuick k e) = WordTo s at e (sortWord (sortOf k)) × (plain k ≡ true)
-sortStands s at NotQuick = Unit {0}
+abbrev pub kindStands : List ℕ → ℕ → Quick → Type 0
+kindStands s at (IsQuick k e) = WordTo s at e (kindWord (kindOf k)) × (plain k ≡ true)
+kindStands s at NotQuick = Unit {0}
 
-pub record SortStands (s : List ℕ) (at : ℕ) (r : Quick) : Type 0 where
-  pub is : sortStands s at r
+pub record KindStands (s : List ℕ) (at : ℕ) (r : Quick) : Type 0 where
+  pub is : kindStands s at r
 
-pub record SortAt (c : Bool) (j : ℕ) (s : List ℕ) (at : ℕ) (r : SortAnswer) : Type 0 where
-  pub same : (l : ℕ) → sortIn l s r ≡ fieldOf (bytes " kind=") (sort c j) l (drop at s)
-  pub within : sortWithin s r
+pub record KindAt (c : Bool) (j : ℕ) (s : List ℕ) (at : ℕ) (r : KindAnswer) : Type 0 where
+  pub same : (l : ℕ) → kindIn l s r ≡ fieldOf (bytes " kind=") (kind c j) l (drop at s)
+  pub within : kindWithin s r
 
 -- ---- operations
 

@@ -13,7 +13,7 @@ use Rattle.table.specs.declared.Op.the-variants.{Add, Sub, And, Or, Xor, Shr, L
 use Rattle.text.specs.declared.Fault.{Fault}
 use Rattle.text.specs.declared.Fault.the-variants.{Form, Ended, Index}
 use Rattle.text.specs.Number.{bytes}
-use Rattle.text.specs.Value.{Sort, start, read, choice, sort, operation, sortWord, opWord, same, named, said, unsaid, sortFault, opFault, check, sorts, ops}
+use Rattle.text.specs.Value.{NodeKind, start, read, choice, kind, operation, kindWord, opWord, same, named, said, unsaid, kindFault, opFault, check, kinds, ops}
 use Rattle.text.specs.Line.{judged, run as count, stops, fieldOf}
 use Rattle.scan.specs.declared.Found.{Found}
 use Rattle.scan.specs.declared.Found.the-variants.{At, Differs, Broken}
@@ -21,19 +21,19 @@ use Rattle.scan.specs.declared.Token.{Token}
 use Rattle.scan.specs.declared.Token.the-variants.{At as Between, Not as Refused}
 use Rattle.words.specs.declared.Choice.{Choice}
 use Rattle.words.specs.declared.Choice.the-variants.{Is as IsChoice, Not as NotChoice}
-use Rattle.words.specs.declared.Sort.{Sort as Word}
-use Rattle.words.specs.declared.Sort.the-variants.{Start, Set, Test, Read, Call, Wait, Signal, Send, Recv, Assert, Out, Return}
+use Rattle.words.specs.declared.NodeKind.{NodeKind as Word}
+use Rattle.words.specs.declared.NodeKind.the-variants.{Start, Set, Test, Read, Call, Wait, Signal, Send, Recv, Assert, Out, Return}
 use Rattle.words.specs.declared.Quick.{Quick}
 use Rattle.words.specs.declared.Quick.the-variants.{Is as IsQuick, Not as NotQuick}
 use Rattle.words.specs.declared.QuickOp.{QuickOp}
 use Rattle.words.specs.declared.QuickOp.the-variants.{Is as IsQuickOp, Not as NotQuickOp}
-use Rattle.words.specs.declared.Kind.{Kind as SortAnswer}
-use Rattle.words.specs.declared.Kind.the-variants.{Is as IsSort, Not as NotSort}
+use Rattle.words.specs.declared.Kind.{Kind as KindAnswer}
+use Rattle.words.specs.declared.Kind.the-variants.{Is as IsKind, Not as NotKind}
 use Rattle.words.specs.declared.Operation.{Operation}
 use Rattle.words.specs.declared.Operation.the-variants.{Is as IsOp, Not as NotOp}
 use Rattle.scan.specs.Place.{AfterKey, quadNumber, Bytes, QuadAt, ValueAt, TokenAt, refusalOf}
 use Rattle.scan.specs.PlaceLaws.{quad-bytes, count-more, count-none, value-ends, value-within, token-within}
-use Rattle.words.specs.Answer.{WordTo, choiceEnds, choiceWithin, ChoiceSaid, ChoiceAt, sortOf, sortEnds, sortWithin, plain, SortJudged, Later, SortSaid, SortIn, SortStands, SortAt, opEnds, opWithin, calculates, OpJudged, OpSaid, OpIn, OpStands, OpAt}
+use Rattle.words.specs.Answer.{WordTo, choiceEnds, choiceWithin, ChoiceSaid, ChoiceAt, kindOf, kindEnds, kindWithin, plain, KindJudged, Later, KindSaid, KindIn, KindStands, KindAt, opEnds, opWithin, calculates, OpJudged, OpSaid, OpIn, OpStands, OpAt}
 
 -- ---- a word that four bytes show
 step : (s : List ℕ) (i k : ℕ) → i < length s → k ≡ i + 1 → drop i s ≡ getD s i 0 ∷ drop k s
@@ -101,7 +101,7 @@ abbrev onlyLater : ℕ → Option Fault
 onlyLater zero = some Index
 onlyLater (suc j) = none
 
-plain-fault : (k : Word) → plain k ≡ true → (c : Bool) (j : ℕ) → sortFault c j (sortOf k) ≡ onlyLater j
+plain-fault : (k : Word) → plain k ≡ true → (c : Bool) (j : ℕ) → kindFault c j (kindOf k) ≡ onlyLater j
 plain-fault Start h c j = absurd (false≢true h)
 plain-fault Set h c zero = refl
 plain-fault Set h c (suc j) = refl
@@ -125,123 +125,123 @@ plain-fault Out h c (suc j) = refl
 plain-fault Return h c zero = refl
 plain-fault Return h c (suc j) = refl
 
-pub later-zero : (k : Word) {j : ℕ} (e : ℕ) → plain k ≡ true → j ≡ 0 → Later (sortOf k) j e (NotSort Index)
+pub later-zero : (k : Word) {j : ℕ} (e : ℕ) → plain k ≡ true → j ≡ 0 → Later (kindOf k) j e (NotKind Index)
 unfolding check
 later-zero k {j} e h z = record { judged = λ c. record { same = λ l s. rw (plain-fault k h c j, z); ends = tt } }
 
-pub later-is : (k : Word) (j e : ℕ) → plain k ≡ true → (j ≡ 0 → ⊥) → Later (sortOf k) j e (IsSort k e)
+pub later-is : (k : Word) (j e : ℕ) → plain k ≡ true → (j ≡ 0 → ⊥) → Later (kindOf k) j e (IsKind k e)
 unfolding check
 later-is k zero e h z = absurd (z refl)
 later-is k (suc j) e h z = record { judged = λ c. record { same = λ l s. rw (plain-fault k h c (suc j)); ends = refl } }
 
-pub start-is : {j : ℕ} (e : ℕ) → j ≡ 0 → Later start j e (IsSort Start e)
+pub start-is : {j : ℕ} (e : ℕ) → j ≡ 0 → Later start j e (IsKind Start e)
 unfolding check
 start-is e z = record { judged = λ c. record { same = λ l s. rw z; ends = refl } }
 
-pub start-late : (j e : ℕ) → (j ≡ 0 → ⊥) → Later start j e (NotSort Index)
+pub start-late : (j e : ℕ) → (j ≡ 0 → ⊥) → Later start j e (NotKind Index)
 unfolding check
 start-late zero e z = absurd (z refl)
 start-late (suc j) e z = record { judged = λ c. record { same = λ l s. refl; ends = tt } }
 
-pub read-closed : {c : Bool} (j e : ℕ) → c ≡ true → SortJudged c j read e (NotSort Form)
+pub read-closed : {c : Bool} (j e : ℕ) → c ≡ true → KindJudged c j read e (NotKind Form)
 unfolding check
 read-closed j e h = record { same = λ l s. rw h; ends = tt }
 
-pub read-first : {c : Bool} {j : ℕ} (e : ℕ) → c ≡ false → j ≡ 0 → SortJudged c j read e (NotSort Index)
+pub read-first : {c : Bool} {j : ℕ} (e : ℕ) → c ≡ false → j ≡ 0 → KindJudged c j read e (NotKind Index)
 unfolding check
 read-first e h z = record { same = λ l s. rw (h, z); ends = tt }
 
-pub read-is : {c : Bool} (j e : ℕ) → c ≡ false → (j ≡ 0 → ⊥) → SortJudged c j read e (IsSort Read e)
+pub read-is : {c : Bool} (j e : ℕ) → c ≡ false → (j ≡ 0 → ⊥) → KindJudged c j read e (IsKind Read e)
 unfolding check
 read-is zero e h z = absurd (z refl)
 read-is (suc j) e h z = record { same = λ l s. rw h; ends = refl }
 
-module _ {c : Bool} {j : ℕ} {t : List ℕ} {e : ℕ} {r : SortAnswer} where
-  pub sort-hit : {k : Sort} {ks : List Sort} {x : Bool} → x ≡ same (sortWord k) t → x ≡ true → SortJudged c j k e r → SortSaid c j (k ∷ ks) t e r
+module _ {c : Bool} {j : ℕ} {t : List ℕ} {e : ℕ} {r : KindAnswer} where
+  pub kind-hit : {k : NodeKind} {ks : List NodeKind} {x : Bool} → x ≡ same (kindWord k) t → x ≡ true → KindJudged c j k e r → KindSaid c j (k ∷ ks) t e r
   unfolding named
-  sort-hit p h d = record { same = λ l s. rw (← p, h) (d .same l s); ends = d .ends }
+  kind-hit p h d = record { same = λ l s. rw (← p, h) (d .same l s); ends = d .ends }
 
-  pub sort-later : {k : Sort} {ks : List Sort} {x : Bool} → x ≡ same (sortWord k) t → x ≡ true → Later k j e r → SortSaid c j (k ∷ ks) t e r
-  sort-later p h d = sort-hit p h (d .judged c)
+  pub kind-later : {k : NodeKind} {ks : List NodeKind} {x : Bool} → x ≡ same (kindWord k) t → x ≡ true → Later k j e r → KindSaid c j (k ∷ ks) t e r
+  kind-later p h d = kind-hit p h (d .judged c)
 
-  pub sort-miss : {k : Sort} {ks : List Sort} {x : Bool} → x ≡ same (sortWord k) t → x ≡ false → SortSaid c j ks t e r → SortSaid c j (k ∷ ks) t e r
+  pub kind-miss : {k : NodeKind} {ks : List NodeKind} {x : Bool} → x ≡ same (kindWord k) t → x ≡ false → KindSaid c j ks t e r → KindSaid c j (k ∷ ks) t e r
   unfolding named
-  sort-miss p h d = record { same = λ l s. rw (← p, h) (d .same l s); ends = d .ends }
+  kind-miss p h d = record { same = λ l s. rw (← p, h) (d .same l s); ends = d .ends }
 
-pub sort-none : (c : Bool) (j : ℕ) (t : List ℕ) (e : ℕ) → SortSaid c j [] t e (NotSort Form)
+pub kind-none : (c : Bool) (j : ℕ) (t : List ℕ) (e : ℕ) → KindSaid c j [] t e (NotKind Form)
 unfolding named unsaid
-sort-none c j t e = record { same = λ l s. refl; ends = tt }
+kind-none c j t e = record { same = λ l s. refl; ends = tt }
 
 module _ {s : List ℕ} {at : ℕ} {r : Token} (m : ValueAt s at r) where
-  pub sort-stop : (c : Bool) (j : ℕ) {x y : Fault} → r ≡ Refused y → x ≡ refusalOf r → SortIn c j s at (NotSort x)
-  sort-stop c j q z = record { same = λ l. rw (z, q) (rw q at (m .same (sort c j) l)); within = tt }
+  pub kind-stop : (c : Bool) (j : ℕ) {x y : Fault} → r ≡ Refused y → x ≡ refusalOf r → KindIn c j s at (NotKind x)
+  kind-stop c j q z = record { same = λ l. rw (z, q) (rw q at (m .same (kind c j) l)); within = tt }
 
-  pub sort-step : {c : Bool} {j from e : ℕ} {v : SortAnswer} → r ≡ Between from e → SortSaid c j sorts (take (e - from) (drop from s)) e v → SortIn c j s at v
+  pub kind-step : {c : Bool} {j from e : ℕ} {v : KindAnswer} → r ≡ Between from e → KindSaid c j kinds (take (e - from) (drop from s)) e v → KindIn c j s at v
   unfolding said
-  sort-step {c} {j} {from} {e} {v} q d = record { same = λ l. d .same l s ∙ rw q at (m .same (sort c j) l); within = reach v (d .ends) }
+  kind-step {c} {j} {from} {e} {v} q d = record { same = λ l. d .same l s ∙ rw q at (m .same (kind c j) l); within = reach v (d .ends) }
     where
-      reach : (v : SortAnswer) → sortEnds e v → sortWithin s v
-      reach (IsSort v p) h = rw h (value-within m q .1)
-      reach (NotSort f) h = tt
+      reach : (v : KindAnswer) → kindEnds e v → kindWithin s v
+      reach (IsKind v p) h = rw h (value-within m q .1)
+      reach (NotKind f) h = tt
 
 module _ {s : List ℕ} {at : ℕ} {r : Found} (m : AfterKey (bytes " kind=") s at r) where
-  pub sort-found : {c : Bool} {j b : ℕ} {v : SortAnswer} → r ≡ At b → SortIn c j s b v → SortAt c j s at v
+  pub kind-found : {c : Bool} {j b : ℕ} {v : KindAnswer} → r ≡ At b → KindIn c j s b v → KindAt c j s at v
   unfolding fieldOf
-  sort-found q u = record { same = λ l. u .same l ∙ rw (← m .same, q); within = u .within }
+  kind-found q u = record { same = λ l. u .same l ∙ rw (← m .same, q); within = u .within }
 
-  pub sort-differs : (c : Bool) (j : ℕ) → r ≡ Differs → SortAt c j s at (NotSort Form)
+  pub kind-differs : (c : Bool) (j : ℕ) → r ≡ Differs → KindAt c j s at (NotKind Form)
   unfolding fieldOf
-  sort-differs c j e = record { same = λ l. rw (← m .same, e); within = tt }
+  kind-differs c j e = record { same = λ l. rw (← m .same, e); within = tt }
 
-  pub sort-broken : (c : Bool) (j : ℕ) → r ≡ Broken → SortAt c j s at (NotSort Ended)
+  pub kind-broken : (c : Bool) (j : ℕ) → r ≡ Broken → KindAt c j s at (NotKind Ended)
   unfolding fieldOf
-  sort-broken c j e = record { same = λ l. rw (← m .same, e); within = tt }
+  kind-broken c j e = record { same = λ l. rw (← m .same, e); within = tt }
 
 -- a kind is the first whose word its word is
-named-sort : (k : Word) → named sortWord sorts (sortWord (sortOf k)) ≡ some (sortOf k)
+named-kind : (k : Word) → named kindWord kinds (kindWord (kindOf k)) ≡ some (kindOf k)
 unfolding named same
-named-sort Start = refl
-named-sort Set = refl
-named-sort Test = refl
-named-sort Read = refl
-named-sort Call = refl
-named-sort Wait = refl
-named-sort Signal = refl
-named-sort Send = refl
-named-sort Recv = refl
-named-sort Assert = refl
-named-sort Out = refl
-named-sort Return = refl
+named-kind Start = refl
+named-kind Set = refl
+named-kind Test = refl
+named-kind Read = refl
+named-kind Call = refl
+named-kind Wait = refl
+named-kind Signal = refl
+named-kind Send = refl
+named-kind Recv = refl
+named-kind Assert = refl
+named-kind Out = refl
+named-kind Return = refl
 
-module _ {s : List ℕ} {at : ℕ} {r : Quick} (m : SortStands s at r) {k : Word} {e : ℕ} (q : r ≡ IsQuick k e) where
-  quick-sort : WordTo s at e (sortWord (sortOf k)) × (plain k ≡ true)
-  quick-sort = rw q at (m .is)
+module _ {s : List ℕ} {at : ℕ} {r : Quick} (m : KindStands s at r) {k : Word} {e : ℕ} (q : r ≡ IsQuick k e) where
+  quick-word : WordTo s at e (kindWord (kindOf k)) × (plain k ≡ true)
+  quick-word = rw q at (m .is)
 
   pub quick-plain : plain k ≡ true
-  quick-plain = quick-sort .1
+  quick-plain = quick-word .1
 
-  pub quick-kind : {c : Bool} {j : ℕ} {v : SortAnswer} → Later (sortOf k) j e v → SortIn c j s at v
+  pub quick-kind : {c : Bool} {j : ℕ} {v : KindAnswer} → Later (kindOf k) j e v → KindIn c j s at v
   unfolding said
   quick-kind {c} {j} {v} d =
-      let w = quick-sort .0 in
-      let z : named sortWord sorts (take (e - at) (drop at s)) ≡ some (sortOf k) = rw (w .same) (named-sort k) in
-      record { same = λ l. d .judged c .same l s ∙ (rw z at (value-ends (w .run) (w .inside) .same (sort c j) l)); within = reach v (d .judged c .ends) }
+      let w = quick-word .0 in
+      let z : named kindWord kinds (take (e - at) (drop at s)) ≡ some (kindOf k) = rw (w .same) (named-kind k) in
+      record { same = λ l. d .judged c .same l s ∙ (rw z at (value-ends (w .run) (w .inside) .same (kind c j) l)); within = reach v (d .judged c .ends) }
     where
-      reach : (v : SortAnswer) → sortEnds e v → sortWithin s v
-      reach (IsSort v p) h = rw h (quick-sort .0 .inside)
-      reach (NotSort f) h = tt
+      reach : (v : KindAnswer) → kindEnds e v → kindWithin s v
+      reach (IsKind v p) h = rw h (quick-word .0 .inside)
+      reach (NotKind f) h = tt
 
-pub quick-none : (s : List ℕ) (at : ℕ) → SortStands s at NotQuick
+pub quick-none : (s : List ℕ) (at : ℕ) → KindStands s at NotQuick
 quick-none s at = record { is = tt }
 
 module _ {s : List ℕ} {at r x : ℕ} (m : QuadAt s at r) (h : 5 ≤ length s - at) where
-  pub quick-set : Bytes 115 101 116 32 → x ≡ quadNumber 115 101 116 32 → r ≡ x → SortStands s at (IsQuick Set (at + 3))
+  pub quick-set : Bytes 115 101 116 32 → x ≡ quadNumber 115 101 116 32 → r ≡ x → KindStands s at (IsQuick Set (at + 3))
   quick-set b g e = record { is = (three-letters m (omega arith) b g e refl refl refl refl, refl) }
 
-  pub quick-out : Bytes 111 117 116 32 → x ≡ quadNumber 111 117 116 32 → r ≡ x → SortStands s at (IsQuick Out (at + 3))
+  pub quick-out : Bytes 111 117 116 32 → x ≡ quadNumber 111 117 116 32 → r ≡ x → KindStands s at (IsQuick Out (at + 3))
   quick-out b g e = record { is = (three-letters m (omega arith) b g e refl refl refl refl, refl) }
 
-  pub quick-test : Bytes 116 101 115 116 → x ≡ quadNumber 116 101 115 116 → r ≡ x → getD s (at + 4) 0 ≡ 32 → SortStands s at (IsQuick Test (at + 4))
+  pub quick-test : Bytes 116 101 115 116 → x ≡ quadNumber 116 101 115 116 → r ≡ x → getD s (at + 4) 0 ≡ 32 → KindStands s at (IsQuick Test (at + 4))
   quick-test b g e d = record { is = (four-letters m (omega arith) b g e h d refl refl refl refl, refl) }
 
 -- ---- operations
@@ -360,6 +360,6 @@ module _ {s : List ℕ} {at r x : ℕ} (m : QuadAt s at r) (h : 4 ≤ length s -
   pub quick-shr : Bytes 115 104 114 32 → x ≡ quadNumber 115 104 114 32 → r ≡ x → OpStands s at (IsQuickOp Shr (at + 3))
   quick-shr b g e = record { is = (three-letters m h b g e refl refl refl refl, refl) }
 
-pub ruleset sort-laws = (sort-hit, sort-later, sort-miss, sort-none)
+pub ruleset kind-laws = (kind-hit, kind-later, kind-miss, kind-none)
 
 pub ruleset op-laws = (op-hit, op-miss, op-less, op-equal, op-none)

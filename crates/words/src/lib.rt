@@ -3,8 +3,8 @@ ghost use Prim.Native.Nat.{_≤_};
 ghost use mathlib.Core.Path.{_≡_};
 ghost use mathlib.Core.Bool.{true};
 ghost use lib.ListN.{length};
-ghost use Rattle.text.specs.Value.{sorts, ops};
-ghost use Rattle.words.specs.Answer.{ChoiceSaid, ChoiceAt, sortOf, SortJudged, plain, Later, SortSaid, middleSorts, lateSorts, SortIn, SortStands, SortAt, calculates, OpJudged, OpSaid, lateOps, OpIn, OpStands, OpAt};
+ghost use Rattle.text.specs.Value.{kinds, ops};
+ghost use Rattle.words.specs.Answer.{ChoiceSaid, ChoiceAt, kindOf, KindJudged, plain, Later, KindSaid, middleKinds, lateKinds, KindIn, KindStands, KindAt, calculates, OpJudged, OpSaid, lateOps, OpIn, OpStands, OpAt};
 
 // One of two words and the place after it, or the fault.
 pub enum Choice {
@@ -13,7 +13,7 @@ pub enum Choice {
 }
 
 // The kinds of nodes, by their words.
-pub enum Sort {
+pub enum NodeKind {
     Start,
     Set,
     Test,
@@ -30,7 +30,7 @@ pub enum Sort {
 
 // A node's kind and the place after it, or the fault.
 pub enum Kind {
-    Is(Sort, usize),
+    Is(NodeKind, usize),
     Not(text::Fault),
 }
 
@@ -68,17 +68,17 @@ pub fn choice_field(s: &[u8], at: usize, key: &[u8], a: &[u8], b: &[u8]) -> Choi
 
 // Node 0 is the only `start`.
 fn start_at(e: usize, j: u8) -> Kind
-    ensures { λ r. ⌜ Later (sortOf Sort.Start) j e r ⌝ }
+    ensures { λ r. ⌜ Later (kindOf NodeKind.Start) j e r ⌝ }
 {
     if j == 0 {
-        return Kind::Is(Sort::Start, e);
+        return Kind::Is(NodeKind::Start, e);
     }
     Kind::Not(text::Fault::Index)
 }
 
-fn later(k: Sort, e: usize, j: u8) -> Kind
+fn later(k: NodeKind, e: usize, j: u8) -> Kind
     requires { ⌜ plain k ≡ true ⌝ }
-    ensures { λ r. ⌜ Later (sortOf k) j e r ⌝ }
+    ensures { λ r. ⌜ Later (kindOf k) j e r ⌝ }
 {
     if j == 0 {
         return Kind::Not(text::Fault::Index);
@@ -88,7 +88,7 @@ fn later(k: Sort, e: usize, j: u8) -> Kind
 
 // A closed table has no `read`.
 fn read_at(e: usize, closed: bool, j: u8) -> Kind
-    ensures { λ r. ⌜ SortJudged closed j (sortOf Sort.Read) e r ⌝ }
+    ensures { λ r. ⌜ KindJudged closed j (kindOf NodeKind.Read) e r ⌝ }
 {
     if closed {
         return Kind::Not(text::Fault::Form);
@@ -96,124 +96,124 @@ fn read_at(e: usize, closed: bool, j: u8) -> Kind
     if j == 0 {
         return Kind::Not(text::Fault::Index);
     }
-    Kind::Is(Sort::Read, e)
+    Kind::Is(NodeKind::Read, e)
 }
 
-fn late_sort(t: &[u8], e: usize, closed: bool, j: u8) -> Kind
-    ensures { λ r. ⌜ SortSaid closed j lateSorts (now (t .entry)) e r ⌝ }
+fn late_kind(t: &[u8], e: usize, closed: bool, j: u8) -> Kind
+    ensures { λ r. ⌜ KindSaid closed j lateKinds (now (t .entry)) e r ⌝ }
 {
     if scan::is_word(t, b"recv") {
-        return later(Sort::Recv, e, j);
+        return later(NodeKind::Recv, e, j);
     }
     if scan::is_word(t, b"assert") {
-        return later(Sort::Assert, e, j);
+        return later(NodeKind::Assert, e, j);
     }
     if scan::is_word(t, b"out") {
-        return later(Sort::Out, e, j);
+        return later(NodeKind::Out, e, j);
     }
     if scan::is_word(t, b"return") {
-        return later(Sort::Return, e, j);
+        return later(NodeKind::Return, e, j);
     }
     Kind::Not(text::Fault::Form)
 }
 
-fn middle_sort(t: &[u8], e: usize, closed: bool, j: u8) -> Kind
-    ensures { λ r. ⌜ SortSaid closed j middleSorts (now (t .entry)) e r ⌝ }
+fn middle_kind(t: &[u8], e: usize, closed: bool, j: u8) -> Kind
+    ensures { λ r. ⌜ KindSaid closed j middleKinds (now (t .entry)) e r ⌝ }
 {
     if scan::is_word(t, b"call") {
-        return later(Sort::Call, e, j);
+        return later(NodeKind::Call, e, j);
     }
     if scan::is_word(t, b"wait") {
-        return later(Sort::Wait, e, j);
+        return later(NodeKind::Wait, e, j);
     }
     if scan::is_word(t, b"signal") {
-        return later(Sort::Signal, e, j);
+        return later(NodeKind::Signal, e, j);
     }
     if scan::is_word(t, b"send") {
-        return later(Sort::Send, e, j);
+        return later(NodeKind::Send, e, j);
     }
-    late_sort(t, e, closed, j)
+    late_kind(t, e, closed, j)
 }
 
-fn sort_value(t: &[u8], e: usize, closed: bool, j: u8) -> Kind
-    ensures { λ r. ⌜ SortSaid closed j sorts (now (t .entry)) e r ⌝ }
+fn kind_value(t: &[u8], e: usize, closed: bool, j: u8) -> Kind
+    ensures { λ r. ⌜ KindSaid closed j kinds (now (t .entry)) e r ⌝ }
 {
     if scan::is_word(t, b"start") {
         return start_at(e, j);
     }
     if scan::is_word(t, b"set") {
-        return later(Sort::Set, e, j);
+        return later(NodeKind::Set, e, j);
     }
     if scan::is_word(t, b"test") {
-        return later(Sort::Test, e, j);
+        return later(NodeKind::Test, e, j);
     }
     if scan::is_word(t, b"read") {
         return read_at(e, closed, j);
     }
-    middle_sort(t, e, closed, j)
+    middle_kind(t, e, closed, j)
 }
 
 // A kind that is told by its first bytes, and where its word ends.
 enum Quick {
-    Is(Sort, usize),
+    Is(NodeKind, usize),
     Not,
 }
 
 // Any value.
-fn any_sort(s: &[u8], at: usize, closed: bool, j: u8) -> Kind
+fn any_kind(s: &[u8], at: usize, closed: bool, j: u8) -> Kind
     requires { ⌜ at ≤ length (now s) ⌝ }
-    ensures { λ r. ⌜ SortIn closed j (now (s .entry)) at r ⌝ }
+    ensures { λ r. ⌜ KindIn closed j (now (s .entry)) at r ⌝ }
 {
     let found = scan::value_at(s, at);
     let scan::Token::At(from, e) = found else {
         return Kind::Not(scan::refusal(found));
     };
-    sort_value(&s[from..e], e, closed, j)
+    kind_value(&s[from..e], e, closed, j)
 }
 
-fn quick_sort(s: &[u8], at: usize) -> Quick
+fn quick_kind(s: &[u8], at: usize) -> Quick
     requires { ⌜ at ≤ length (now s) ⌝ }
-    ensures { λ r. ⌜ SortStands (now (s .entry)) at r ⌝ }
+    ensures { λ r. ⌜ KindStands (now (s .entry)) at r ⌝ }
 {
     if s.len() - at < 5 {
         return Quick::Not;
     }
     let w = scan::quad(s, at);
     if w == scan::quad_of(115, 101, 116, 32) {
-        return Quick::Is(Sort::Set, at + 3);
+        return Quick::Is(NodeKind::Set, at + 3);
     }
     if w == scan::quad_of(111, 117, 116, 32) {
-        return Quick::Is(Sort::Out, at + 3);
+        return Quick::Is(NodeKind::Out, at + 3);
     }
     if w != scan::quad_of(116, 101, 115, 116) {
         return Quick::Not;
     }
     let e = at + 4;
     if s[e] == 32 {
-        return Quick::Is(Sort::Test, e);
+        return Quick::Is(NodeKind::Test, e);
     }
     Quick::Not
 }
 
 // The frequent kinds first.
-fn sort_at(s: &[u8], at: usize, closed: bool, j: u8) -> Kind
+fn kind_at(s: &[u8], at: usize, closed: bool, j: u8) -> Kind
     requires { ⌜ at ≤ length (now s) ⌝ }
-    ensures { λ r. ⌜ SortIn closed j (now (s .entry)) at r ⌝ }
+    ensures { λ r. ⌜ KindIn closed j (now (s .entry)) at r ⌝ }
 {
-    let quick = quick_sort(s, at);
+    let quick = quick_kind(s, at);
     let Quick::Is(k, e) = quick else {
-        return any_sort(s, at, closed, j);
+        return any_kind(s, at, closed, j);
     };
     later(k, e, j)
 }
 
 // The kind of node j.
-pub fn sort_field(s: &[u8], at: usize, closed: bool, j: u8) -> Kind
+pub fn kind_field(s: &[u8], at: usize, closed: bool, j: u8) -> Kind
     requires { ⌜ at ≤ length (now s) ⌝ }
-    ensures { λ r. ⌜ SortAt closed j (now (s .entry)) at r ⌝ }
+    ensures { λ r. ⌜ KindAt closed j (now (s .entry)) at r ⌝ }
 {
     match scan::after_word(s, at, 32, 107, 105, 110, b"d=") {
-        scan::Found::At(b) => sort_at(s, b, closed, j),
+        scan::Found::At(b) => kind_at(s, b, closed, j),
         scan::Found::Differs => Kind::Not(text::Fault::Form),
         scan::Found::Broken => Kind::Not(text::Fault::Ended),
     }

@@ -1,11 +1,11 @@
-use Rattle.fields.specs.FieldLaws.{number-below, number-next, number-stop, number-within, sort-next, sort-stop, sort-within}
+use Rattle.fields.specs.FieldLaws.{number-below, number-next, number-stop, number-within, kind-next, kind-stop, kind-within}
 use Rattle.nodes.specs.NodeLaws.{body-got, body-stop, node-numbered}
 use borrow.Author.Needs.{needs}
 use Rattle.nodes.proofs.node_line.Statement.{statement}
 use Rattle.nodes.proofs.node_line.Tie as tie
 
 node-number-requires : tie.Need-node-number-requires
-node-number-requires c κs = search (needs, number-within, sort-within)
+node-number-requires c κs = search (needs, number-within, kind-within)
 
 enum-known-index : tie.Need-enum-known-index
 enum-known-index c = search needs
@@ -19,8 +19,8 @@ number-fault-requires c κs = search needs
 returns : tie.Need-returns
 returns c = search (needs, number-next, number-stop)
 
-sort-field-requires : tie.Need-sort-field-requires
-sort-field-requires c κs = search (needs, number-within, sort-within)
+kind-field-requires : tie.Need-kind-field-requires
+kind-field-requires c κs = search (needs, number-within, kind-within)
 
 enum-known-word : tie.Need-enum-known-word
 enum-known-word c = search needs
@@ -28,14 +28,14 @@ enum-known-word c = search needs
 enum-told-2 : tie.Need-enum-told-2
 enum-told-2 c = search needs
 
-sort-fault-requires : tie.Need-sort-fault-requires
-sort-fault-requires c κs = search needs
+kind-fault-requires : tie.Need-kind-fault-requires
+kind-fault-requires c κs = search needs
 
 returns-2 : tie.Need-returns-2
-returns-2 c = search (needs, number-next, number-stop, sort-next, sort-stop)
+returns-2 c = search (needs, number-next, number-stop, kind-next, kind-stop)
 
 node-body-requires : tie.Need-node-body-requires
-node-body-requires c κs = search (needs, number-within, sort-within)
+node-body-requires c κs = search (needs, number-within, kind-within)
 
 enum-known-body : tie.Need-enum-known-body
 enum-known-body c = search needs
@@ -47,10 +47,10 @@ body-fault-requires : tie.Need-body-fault-requires
 body-fault-requires c κs = search needs
 
 returns-3 : tie.Need-returns-3
-returns-3 c = search (needs, number-next, number-stop, sort-next, sort-stop, body-stop)
+returns-3 c = search (needs, number-next, number-stop, kind-next, kind-stop, body-stop)
 
 returns-4 : tie.Need-returns-4
-returns-4 c = search (needs, number-next, sort-next, body-got, node-numbered, number-below)
+returns-4 c = search (needs, number-next, kind-next, body-got, node-numbered, number-below)
 
 pub node-line-spec : {M : Type 1} → statement M
 node-line-spec =
@@ -61,10 +61,10 @@ node-line-spec =
     enum-told
     number-fault-requires
     returns
-    sort-field-requires
+    kind-field-requires
     enum-known-word
     enum-told-2
-    sort-fault-requires
+    kind-fault-requires
     returns-2
     node-body-requires
     enum-known-body

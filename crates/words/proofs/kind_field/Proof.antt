@@ -1,8 +1,8 @@
 use Rattle.scan.specs.PlaceLaws.{found-within}
-use Rattle.words.specs.WordLaws.{sort-found, sort-differs, sort-broken}
+use Rattle.words.specs.WordLaws.{kind-found, kind-differs, kind-broken}
 use borrow.Author.Needs.{needs}
-use Rattle.words.proofs.sort_field.Statement.{statement}
-use Rattle.words.proofs.sort_field.Tie as tie
+use Rattle.words.proofs.kind_field.Statement.{statement}
+use Rattle.words.proofs.kind_field.Tie as tie
 
 slice-aggregate-after-word : tie.Need-slice-aggregate-after-word
 slice-aggregate-after-word c = search needs
@@ -13,8 +13,8 @@ after-word-requires c κs = search needs
 enum-known-b : tie.Need-enum-known-b
 enum-known-b c = search needs
 
-sort-at-requires : tie.Need-sort-at-requires
-sort-at-requires c κs = search (needs, found-within)
+kind-at-requires : tie.Need-kind-at-requires
+kind-at-requires c κs = search (needs, found-within)
 
 enum-told : tie.Need-enum-told
 enum-told c = search needs
@@ -23,22 +23,22 @@ enum-told-2 : tie.Need-enum-told-2
 enum-told-2 c = search needs
 
 returns : tie.Need-returns
-returns c = search (needs, sort-found)
+returns c = search (needs, kind-found)
 
 returns-2 : tie.Need-returns-2
-returns-2 c = search (needs, sort-differs)
+returns-2 c = search (needs, kind-differs)
 
 returns-3 : tie.Need-returns-3
-returns-3 c = search (needs, sort-broken)
+returns-3 c = search (needs, kind-broken)
 
-pub sort-field-spec : {M : Type 1} → statement M
-sort-field-spec =
+pub kind-field-spec : {M : Type 1} → statement M
+kind-field-spec =
     tie.close
     (tie.spec
     slice-aggregate-after-word
     after-word-requires
     enum-known-b
-    sort-at-requires
+    kind-at-requires
     enum-told
     enum-told-2
     returns

@@ -1,7 +1,7 @@
-use Rattle.words.specs.WordLaws.{sort-laws}
+use Rattle.words.specs.WordLaws.{kind-laws}
 use borrow.Author.Needs.{needs}
-use Rattle.words.proofs.middle_sort.Statement.{statement}
-use Rattle.words.proofs.middle_sort.Tie as tie
+use Rattle.words.proofs.middle_kind.Statement.{statement}
+use Rattle.words.proofs.middle_kind.Tie as tie
 
 slice-aggregate-is-word : tie.Need-slice-aggregate-is-word
 slice-aggregate-is-word c = search needs
@@ -13,7 +13,7 @@ later-requires : tie.Need-later-requires
 later-requires c κs = search needs
 
 returns : tie.Need-returns
-returns c = search (needs, sort-laws)
+returns c = search (needs, kind-laws)
 
 slice-aggregate-is-word-2 : tie.Need-slice-aggregate-is-word-2
 slice-aggregate-is-word-2 c = search needs
@@ -25,7 +25,7 @@ later-requires-2 : tie.Need-later-requires-2
 later-requires-2 c κs = search needs
 
 returns-2 : tie.Need-returns-2
-returns-2 c = search (needs, sort-laws)
+returns-2 c = search (needs, kind-laws)
 
 slice-aggregate-is-word-3 : tie.Need-slice-aggregate-is-word-3
 slice-aggregate-is-word-3 c = search needs
@@ -37,7 +37,7 @@ later-requires-3 : tie.Need-later-requires-3
 later-requires-3 c κs = search needs
 
 returns-3 : tie.Need-returns-3
-returns-3 c = search (needs, sort-laws)
+returns-3 c = search (needs, kind-laws)
 
 slice-aggregate-is-word-4 : tie.Need-slice-aggregate-is-word-4
 slice-aggregate-is-word-4 c = search needs
@@ -49,16 +49,16 @@ later-requires-4 : tie.Need-later-requires-4
 later-requires-4 c κs = search needs
 
 returns-4 : tie.Need-returns-4
-returns-4 c = search (needs, sort-laws)
+returns-4 c = search (needs, kind-laws)
 
-late-sort-requires : tie.Need-late-sort-requires
-late-sort-requires c κs = search needs
+late-kind-requires : tie.Need-late-kind-requires
+late-kind-requires c κs = search needs
 
 returns-5 : tie.Need-returns-5
-returns-5 c = search (needs, sort-laws)
+returns-5 c = search (needs, kind-laws)
 
-pub middle-sort-spec : {M : Type 1} → statement M
-middle-sort-spec =
+pub middle-kind-spec : {M : Type 1} → statement M
+middle-kind-spec =
     tie.close
     (tie.spec
     slice-aggregate-is-word
@@ -77,5 +77,5 @@ middle-sort-spec =
     is-word-requires-4
     later-requires-4
     returns-4
-    late-sort-requires
+    late-kind-requires
     returns-5)

@@ -1,7 +1,7 @@
 use Rattle.words.specs.WordLaws.{quick-none, quick-set, quick-out, quick-test}
 use borrow.Author.Needs.{needs}
-use Rattle.words.proofs.quick_sort.Statement.{statement}
-use Rattle.words.proofs.quick_sort.Tie as tie
+use Rattle.words.proofs.quick_kind.Statement.{statement}
+use Rattle.words.proofs.quick_kind.Tie as tie
 
 sub-if1 : tie.Need-sub-if1
 sub-if1 c = search needs
@@ -48,8 +48,8 @@ returns-5 c = search (needs, quick-test)
 returns-6 : tie.Need-returns-6
 returns-6 c = search (needs, quick-none)
 
-pub quick-sort-spec : {M : Type 1} → statement M
-quick-sort-spec =
+pub quick-kind-spec : {M : Type 1} → statement M
+quick-kind-spec =
     tie.close
     (tie.spec
     sub-if1

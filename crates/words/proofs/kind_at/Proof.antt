@@ -1,10 +1,10 @@
 use Rattle.words.specs.WordLaws.{quick-plain, quick-kind}
 use borrow.Author.Needs.{needs}
-use Rattle.words.proofs.sort_at.Statement.{statement}
-use Rattle.words.proofs.sort_at.Tie as tie
+use Rattle.words.proofs.kind_at.Statement.{statement}
+use Rattle.words.proofs.kind_at.Tie as tie
 
-quick-sort-requires : tie.Need-quick-sort-requires
-quick-sort-requires c κs = search needs
+quick-kind-requires : tie.Need-quick-kind-requires
+quick-kind-requires c κs = search needs
 
 enum-known-quick : tie.Need-enum-known-quick
 enum-known-quick c = search needs
@@ -12,8 +12,8 @@ enum-known-quick c = search needs
 enum-told : tie.Need-enum-told
 enum-told c = search needs
 
-any-sort-requires : tie.Need-any-sort-requires
-any-sort-requires c κs = search needs
+any-kind-requires : tie.Need-any-kind-requires
+any-kind-requires c κs = search needs
 
 returns : tie.Need-returns
 returns c = search needs
@@ -24,14 +24,14 @@ later-requires c κs = search (needs, quick-plain)
 returns-2 : tie.Need-returns-2
 returns-2 c = search (needs, quick-kind)
 
-pub sort-at-spec : {M : Type 1} → statement M
-sort-at-spec =
+pub kind-at-spec : {M : Type 1} → statement M
+kind-at-spec =
     tie.close
     (tie.spec
-    quick-sort-requires
+    quick-kind-requires
     enum-known-quick
     enum-told
-    any-sort-requires
+    any-kind-requires
     returns
     later-requires
     returns-2)
