@@ -1,20 +1,18 @@
 -- Laws of one item: a number up to a bound, a value.
-use Prim.Native.Nat.{ℕ, _≤_, _<_}
-use mathlib.Core.Path.{_≡_, refl, sym, _∙_, ap}
+use Prim.Native.Nat.{ℕ, _≤_}
+use mathlib.Core.Path.{_≡_, refl, sym, _∙_}
 use mathlib.Core.List.{List, []}
 use mathlib.Core.Option.{Option, none, some}
-use mathlib.Core.Bool.{Bool, true, false}
 use native.Mathlib.Omega.{arith}
 use lib.Dec.{leb}
 use lib.ListN.{drop}
 use lib.IntN.{ℤ}
 use borrow.Author.Tests.{leb-true}
-use Rattle.table.specs.Mask.{pick}
 use Rattle.table.specs.declared.Operand.{Operand}
 use Rattle.table.specs.declared.Operand.the-variants.{Var, Const}
 use Rattle.text.specs.declared.Fault.{Fault}
 use Rattle.text.specs.Value.{operand, numeral, saidOperand, operandFault, check}
-use Rattle.text.specs.Line.{Outcome, took, refused, verdict, judged}
+use Rattle.text.specs.Line.{took, refused, verdict, judged}
 use Rattle.text.specs.NumberLaws.{cases}
 use Rattle.scan.specs.declared.Operand.{Operand as Answer}
 use Rattle.scan.specs.declared.Operand.the-variants.{Is as IsOperand, Not as NotOperand}

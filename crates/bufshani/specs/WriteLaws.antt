@@ -1,9 +1,9 @@
 -- The writer's answer and buffer, case by case.
 use Prim.Native.Nat.{ℕ, zero, suc}
-use mathlib.Core.Path.{_≡_, refl, sym, _∙_, ap}
+use mathlib.Core.Path.{_≡_, refl, sym, _∙_}
 use mathlib.Core.List.{List}
 use Rattle.table.specs.declared.Table.{Table}
-use Rattle.text.specs.Writer.{text, fault, Written, unwritten, fitted, unlessFault, writeTo}
+use Rattle.text.specs.Writer.{text, fault, unwritten, fitted, unlessFault, writeTo}
 
 module _ (t : Table) (buffer : List ℕ) where
   checked : (n : ℕ) → n ≡ fault t → unlessFault n (fitted (text t) buffer) buffer ≡ writeTo t buffer

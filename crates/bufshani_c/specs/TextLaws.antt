@@ -1,11 +1,11 @@
 -- The answers, case by case.
 use Prim.Native.Nat.{ℕ, zero, suc}
-use mathlib.Core.Path.{_≡_, refl, sym, _∙_, ap}
+use mathlib.Core.Path.{_≡_, refl, _∙_, ap}
 use mathlib.Core.List.{List}
 use lib.IntN.{ℤ}
 use Rattle.text.specs.declared.Reading.{Reading}
 use Rattle.text.specs.Reader.{read}
-use Rattle.text.specs.Writer.{text, fault, writeTo, fitted}
+use Rattle.text.specs.Writer.{text, fitted}
 use Rattle.bufshani.specs.PrintLaws.{sound-read}
 use Rattle.bufshani.specs.WriteLaws.{write-good}
 use Rattle.machine.specs.Run.{run}

@@ -1,11 +1,11 @@
 -- The number of a node line's fault, from those of its values.
-use Prim.Native.Nat.{ℕ, zero, suc, _≤_, _<_}
+use Prim.Native.Nat.{ℕ, zero, suc}
 use mathlib.Core.Path.{_≡_, refl, sym, _∙_, ap}
-use mathlib.Core.Option.{Option, none, some}
+use mathlib.Core.Option.{none}
 use mathlib.Core.Bool.{Bool, true, false, _&&_}
 use native.Mathlib.Omega.{arith}
 use lib.Dec.{ltb}
-use borrow.Author.Tests.{lt-ltb, le-ltb, le-leb}
+use borrow.Author.Tests.{lt-ltb, le-leb}
 use Rattle.table.specs.Mask.{pick, members}
 use Rattle.table.specs.declared.Op.{Op}
 use Rattle.table.specs.declared.Operand.{Operand}
@@ -15,7 +15,7 @@ use Rattle.table.specs.declared.Node.the-variants.{Absent, Start, Set, Test, Re
 use Rattle.text.specs.declared.Fault.the-variants.{Index}
 use Rattle.text.specs.Fault.{number}
 use Rattle.text.specs.Value.{NodeKind, start, set, test, read, call, wait, signal, send, recv, assert, out, return, ValueKind, kind, operation, operand, variable, arguments, oneOf, check}
-use Rattle.text.specs.Line.{Line, end, field, Vals, lineFault}
+use Rattle.text.specs.Line.{Vals, lineFault}
 use Rattle.text.specs.Format.{Scope, targets, nodeLine, fields, nameOf, argNames, Described, noLine, described, describe}
 use Rattle.text.specs.Structure.{numbered}
 use Rattle.checks.specs.declared.Limits.{Limits}

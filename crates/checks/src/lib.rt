@@ -6,7 +6,7 @@ use table::Operand;
 use table::REMOVED;
 ghost use mathlib.Core.Path.{_≡_};
 ghost use mathlib.Core.Bool.{true, false, not, _&&_, _||_};
-ghost use Prim.Native.Nat.{ℕ, _≤_, _<_, _+_};
+ghost use Prim.Native.Nat.{ℕ, _≤_, _<_};
 ghost use Rattle.table.specs.Mask.{members};
 ghost use Rattle.table.specs.Table.{isAbsent};
 ghost use Rattle.text.specs.Value.{check, from, oneOf, operation, operand as operandOf, variable as variableOf, ascending, arguments as argumentsOf, within, isOne, noneRemoved, allDeclared};

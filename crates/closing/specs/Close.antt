@@ -1,7 +1,7 @@
 -- Document 01, "Closing": the closed table of an open one, and what the closer answers.
 use Prim.Native.Nat.{ℕ, zero, suc}
 use mathlib.Core.Bool.{Bool, true, false, _&&_}
-use mathlib.Core.List.{List, [], _∷_, _++_, map}
+use mathlib.Core.List.{List, [], _∷_, map}
 use lib.ListN.{length}
 use lib.Dec.{eqb, ltb}
 use Rattle.table.specs.Mask.{pick, members, maskOf}

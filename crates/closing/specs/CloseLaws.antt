@@ -14,7 +14,7 @@ use Rattle.table.specs.declared.Slot.{Slot}
 use Rattle.table.specs.declared.Queue.{Queue}
 use Rattle.table.specs.declared.Proc.{Proc}
 use Rattle.table.specs.declared.Table.{Table}
-use Rattle.closing.specs.Dirty.{dropped, blank}
+use Rattle.closing.specs.Dirty.{dropped}
 use Rattle.closing.specs.Closing.{dirty, isDirty, kept}
 use Rattle.closing.specs.Close.{mapFrom, unkeptArcs, newArc, closedNode, closedSlot, closedProc, closedQueue, closedWith, closeTable}
 
@@ -82,8 +82,3 @@ module _ (t : Table) where
       go i q [] = refl
       go i zero (x ∷ qs) = refl
       go i (suc q) (x ∷ qs) = go (suc i) q qs
-
-  -- a queue's mark says whether it is blank (past the list's end no queue is marked)
-  pub close-blank : (q : ℕ) → q < length (t .queue) → queueAt (closeTable t) q .blank ≡ isDirty (dirty t) (blank q)
-  unfolding closeTable closedWith
-  close-blank q l = ap (λ (x : Queue). x .blank) (map-at (closedQueue t (dirty t)) q (t .queue) noQueue noQueue (λ j. absurd (omega arith)))

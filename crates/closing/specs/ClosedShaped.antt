@@ -1,20 +1,17 @@
 -- The closed table of a value of the declared type is one too: as many places, and masks of 32 bits.
-use Prim.Native.Nat.{ℕ, zero, suc, _^_, _<_, _≤_}
+use Prim.Native.Nat.{ℕ, suc, _^_, _<_, _≤_}
 use native.Mathlib.Omega.{arith}
 use mathlib.Core.Path.{_≡_, refl, _∙_, ap}
-use mathlib.Core.Bool.{Bool, true, false}
 use mathlib.Core.List.{List, [], _∷_}
 use lib.ListN.{length}
 use lib.Pow.{pow-mono}
 use native.Mathlib.Nat.{lt-of-lt-of-le}
-use Rattle.table.specs.Mask.{maskOf}
 use Rattle.table.specs.MaskLaws.{maskOf-lt}
 use Rattle.table.specs.Table.{nodeAt, procAt, arcTo, arcNo}
 use Rattle.table.specs.declared.Node.{Node}
 use Rattle.table.specs.declared.Node.the-variants.{Absent, Start, Set, Test, Read, Call, Wait, Signal, Send, Recv, Assert, Out, Return}
 use Rattle.table.specs.declared.Proc.{Proc}
 use Rattle.table.specs.declared.Table.{Table}
-use Rattle.text.specs.Writer.{fault}
 use Rattle.text.specs.TableLaws.{Shaped}
 use Rattle.closing.specs.ReachLaws.{cases}
 use Rattle.closing.specs.Closing.{dirty, kept}

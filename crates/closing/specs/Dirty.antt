@@ -1,16 +1,14 @@
 -- Document 01, "Closing": what is dirty, as the least solution of the rules, and where the new arcs lead.
-use Prim.Native.Nat.{ℕ, zero, suc, _<_}
+use Prim.Native.Nat.{ℕ, zero, _<_}
 use mathlib.Core.Path.{_≡_}
 use mathlib.Core.Logic.{_≢_}
-use mathlib.Core.Bool.{Bool, true, false}
 use mathlib.Core.List.{List, List·Memᴰ}
 use mathlib.Core.Option.{some}
 use lib.ListN.{getElem?}
-use Rattle.table.specs.Table.{nodeAt, procAt, taskAt, argList, uses, sets, arcs, Keeping, always, never, ifClean, keeping}
+use Rattle.table.specs.Table.{nodeAt, procAt, taskAt, argList, uses, sets, arcs, never, ifClean, keeping}
 use Rattle.table.specs.declared.Operand.{Operand}
 use Rattle.table.specs.declared.Op.{Op}
 use Rattle.table.specs.declared.Args.{Args}
-use Rattle.table.specs.declared.Node.{Node}
 use Rattle.table.specs.declared.Node.the-variants.{Set, Read, Call, Send, Recv}
 use Rattle.table.specs.declared.Table.{Table}
 

@@ -1,7 +1,6 @@
 -- What the closing program prints for the bytes on its standard input.
 use Prim.Native.Nat.{ℕ, zero, suc}
 use mathlib.Core.List.{List, [], _∷_, _++_}
-use Rattle.table.specs.declared.Table.{Table}
 use Rattle.text.specs.declared.Reading.{Reading}
 use Rattle.text.specs.Number.{bytes, digits}
 use Rattle.text.specs.Reader.{read}

@@ -1,15 +1,15 @@
 -- Laws of the numbers in a mask, taken one by one, and of the edges to them.
-use Prim.Native.Nat.{ℕ, zero, suc, _+_, _*_, _%_, _≤_, _<_}
+use Prim.Native.Nat.{ℕ, zero, suc, _+_, _%_, _≤_, _<_}
 use mathlib.Core.Path.{_≡_, refl, sym, _∙_, ap}
-use mathlib.Core.Bool.{Bool, true, false}
-use mathlib.Core.List.{List, [], _∷_, _++_, append-nil}
+use mathlib.Core.Bool.{Bool}
+use mathlib.Core.List.{List, [], _∷_, append-nil}
 use native.Mathlib.Omega.{arith}
 use native.Mathlib.Numerals.{add-one}
 use lib.ListN.{length, getD, drop, length-drop}
 use lib.Seq.{drop-cons}
 use lib.Dec.{ltb}
 use borrow.Author.Tests.{ne-eqb}
-use Rattle.table.specs.Mask.{pick, bit, also, membersFrom, members}
+use Rattle.table.specs.Mask.{pick, bit, membersFrom, members}
 use Rattle.text.specs.NumberLaws.{cases}
 use Rattle.text.specs.Reader.{concat}
 use Rattle.put.specs.Put.{Put}

@@ -14,7 +14,7 @@ use Rattle.text.specs.Writer.{tidy, faultIn, fault}
 use Rattle.text.specs.Structure.{firstIn, linesFault, tableFault, numbered}
 use Rattle.text.specs.LinedLaws.{lined-of}
 use Rattle.text.specs.StructureLaws.{fault-is, late-fault}
-use Rattle.checks.specs.Numbers.{firstNumber, first-some, numbered-else}
+use Rattle.checks.specs.Numbers.{first-some, numbered-else}
 use Rattle.late.specs.declared.Late.{Late}
 use Rattle.late.specs.declared.Late.the-variants.{Good, Bad}
 use Rattle.late.specs.Late.{Counted, lateIn}

@@ -1,31 +1,29 @@
 -- The number of the first fault of a table's lines is that of `linesFault`.
-use Prim.Native.Nat.{ℕ, zero, suc, _+_, _-_, _≤_, _<_}
+use Prim.Native.Nat.{ℕ, zero, suc, _+_, _-_, _<_}
 use mathlib.Core.Path.{_≡_, refl, sym, _∙_, ap}
 use mathlib.Core.List.{List}
 use mathlib.Core.Option.{Option, none, some}
 use mathlib.Core.Bool.{Bool, true, false, _&&_}
 use native.Mathlib.Omega.{arith}
-use lib.Dec.{eqb, ltb}
+use lib.Dec.{ltb}
 use borrow.Author.Tests.{lt-ltb, le-leb, ne-eqb}
 use Rattle.table.specs.Mask.{pick}
-use Rattle.table.specs.Table.{nodeIn, procAt, taskAt, semAt, queueAt, isAbsent}
-use Rattle.table.specs.declared.Node.{Node}
+use Rattle.table.specs.Table.{nodeIn, procAt, queueAt}
 use Rattle.table.specs.declared.Queue.{Queue}
 use Rattle.table.specs.declared.Proc.{Proc}
 use Rattle.table.specs.declared.Table.{Table}
 use Rattle.text.specs.declared.Fault.{Fault}
 use Rattle.text.specs.declared.Fault.the-variants.{Long, Form, Misspelt, Ended, Range, Index, Reference, Arguments, Closing, Unused, Short}
 use Rattle.text.specs.Fault.{number}
-use Rattle.text.specs.NumberLaws.{cases}
-use Rattle.text.specs.Value.{orElse, check, choice, due, unless}
+use Rattle.text.specs.Value.{check, choice, due, unless}
 use Rattle.text.specs.Line.{lineFault}
-use Rattle.text.specs.Format.{Scope, headLine, countsLine, taskLine, semLine, queueLine, procLine, nodeLine, Described, noLine, described, describe}
+use Rattle.text.specs.Format.{Scope, queueLine, procLine, nodeLine, Described, noLine, described, describe}
 use Rattle.text.specs.Writer.{queueVals, procVals, scope}
-use Rattle.text.specs.Structure.{firstOf, gap, placeFault, nodesFault, procFault, headFault, countsFault, tasksFault, semsFault, queuesFault, procsFault, linesFault, numbered}
+use Rattle.text.specs.Structure.{gap, placeFault, nodesFault, headFault, countsFault, tasksFault, semsFault, queuesFault, procsFault, linesFault, numbered}
 use Rattle.checks.specs.Numbers.{firstNumber, first-zero, numbered-else}
-use Rattle.checks.specs.NodeChecks.{oneNumber, placeNumber, nodeNumber}
-use Rattle.faults.specs.Rows.{firstWith, with-is, with-same}
-use Rattle.faults.specs.Lines.{rangeNumber, headNumber, tasksNumber, semsNumber, queuesNumber, dropNumber, procLineNumber, settled, nodesNumber, scopeOf, procNumber, procsNumber, linesNumber}
+use Rattle.checks.specs.NodeChecks.{placeNumber, nodeNumber}
+use Rattle.faults.specs.Rows.{with-is}
+use Rattle.faults.specs.Lines.{rangeNumber, headNumber, tasksNumber, semsNumber, queuesNumber, procLineNumber, settled, nodesNumber, procNumber, procsNumber, linesNumber}
 
 -- the index due is no fault, nor is one of two words
 due-is : (i : ℕ) → check (due i) i ≡ none

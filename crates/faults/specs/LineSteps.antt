@@ -4,8 +4,7 @@ use mathlib.Core.Path.{_≡_, refl, sym, _∙_, ap}
 use mathlib.Core.Bool.{Bool, true, false}
 use native.Mathlib.Omega.{arith}
 use lib.Dec.{eqb}
-use borrow.Author.Tests.{eq-eqb, ne-eqb, eqb-true}
-use Rattle.table.specs.Mask.{pick}
+use borrow.Author.Tests.{eq-eqb, ne-eqb}
 use Rattle.table.specs.Table.{nodeIn, isAbsent}
 use Rattle.table.specs.declared.Proc.{Proc}
 use Rattle.table.specs.declared.Table.{Table}
@@ -14,12 +13,12 @@ use Rattle.text.specs.declared.Fault.the-variants.{Long, Form, Misspelt, Ended,
 use Rattle.text.specs.Fault.{number}
 use Rattle.text.specs.NumberLaws.{cases}
 use Rattle.text.specs.Format.{Scope}
-use Rattle.text.specs.Structure.{gap, numbered}
-use Rattle.checks.specs.Numbers.{firstNumber, first-none, first-some}
+use Rattle.text.specs.Structure.{gap}
+use Rattle.checks.specs.Numbers.{firstNumber, first-some}
 use Rattle.checks.specs.NodeChecks.{nodeNumber}
 use Rattle.checks.specs.ValueChecks.{range-out}
-use Rattle.faults.specs.Rows.{firstWith, Passed, passed-more, passed-found}
-use Rattle.faults.specs.Lines.{rangeNumber, headNumber, tasksNumber, semsNumber, queuesNumber, dropNumber, procLineNumber, settled, nodesNumber, scopeOf, procNumber, procsNumber, linesNumber}
+use Rattle.faults.specs.Rows.{Passed, passed-more, passed-found}
+use Rattle.faults.specs.Lines.{rangeNumber, headNumber, tasksNumber, semsNumber, queuesNumber, procLineNumber, settled, nodesNumber, scopeOf, procNumber, procsNumber, linesNumber}
 
 first-zeros : (a b : ℕ) → firstNumber a b ≡ 0 → (a ≡ 0) × (b ≡ 0)
 first-zeros zero b e = (refl, e)
@@ -80,9 +79,6 @@ nodes-found c q j {r} {z} p l h n e = passed-found (placeAt c q) (q .nodes) j {r
     some = cases (eqb r 255) (λ b. rw b (λ y. omega (arith, number-pos g, y))) (λ b. rw b n)
 
 -- ---- procedures
-
-pub drop-open : (b : Bool) (k d : ℕ) → b ≡ false → 0 ≡ dropNumber b k d
-drop-open b k d e = rw e
 
 pub proc-range : (b : Bool) (k m n d : ℕ) {r : ℕ} → r ≡ procLineNumber b k m n d → r ≡ 0 → n ≤ 32
 proc-range b k m n d e z =

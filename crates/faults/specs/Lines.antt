@@ -13,8 +13,8 @@ use Rattle.table.specs.declared.Proc.{Proc}
 use Rattle.table.specs.declared.Table.{Table}
 use Rattle.text.specs.Fault.{number}
 use Rattle.text.specs.Value.{check, from, ascending}
-use Rattle.text.specs.Format.{Scope, describe}
-use Rattle.text.specs.Structure.{gap, placeFault, numbered}
+use Rattle.text.specs.Format.{Scope}
+use Rattle.text.specs.Structure.{gap, numbered}
 use Rattle.checks.specs.Numbers.{firstNumber}
 use Rattle.checks.specs.NodeChecks.{oneNumber, nodeNumber}
 use Rattle.faults.specs.Rows.{firstWith}

@@ -1,7 +1,7 @@
 -- Places that are not used, place by place: a test for each place, whether it is below the count or not.
 use Prim.Native.Nat.{ℕ, _≤_, _<_}
 use mathlib.Core.List.{List}
-use mathlib.Core.Bool.{Bool, true, false, not, _&&_, _||_}
+use mathlib.Core.Bool.{Bool, true, not, _&&_, _||_}
 use lib.Dec.{ltb}
 use lib.ListN.{getD}
 use Rattle.table.specs.Mask.{pick}

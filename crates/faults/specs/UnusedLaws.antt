@@ -6,15 +6,12 @@ use mathlib.Core.Bool.{Bool, true, false, not, _&&_, _||_}
 use native.Mathlib.Omega.{arith}
 use lib.Dec.{ltb, eqb}
 use lib.ListN.{length, getD, drop, length-map}
-use borrow.Author.Tests.{lt-ltb, le-ltb, eqb-true, eq-eqb, ne-eqb, ltb-true}
+use borrow.Author.Tests.{lt-ltb, le-ltb, eqb-true, eq-eqb, ne-eqb}
 use Rattle.table.specs.Mask.{pick}
-use Rattle.table.specs.Table.{noSlot, noTask, noSem, noQueue, outside, queueAt, nodeIn, procAt, isAbsent, argPlaces}
+use Rattle.table.specs.Table.{noSlot, noTask, noSem, noQueue, outside, queueAt, nodeIn, procAt, argPlaces}
 use Rattle.table.specs.declared.Args.{Args}
 use Rattle.table.specs.declared.Node.{Node}
 use Rattle.table.specs.declared.Node.the-variants.{Call}
-use Rattle.table.specs.declared.Slot.{Slot}
-use Rattle.table.specs.declared.Task.{Task}
-use Rattle.table.specs.declared.Sem.{Sem}
 use Rattle.table.specs.declared.Queue.{Queue}
 use Rattle.table.specs.declared.Proc.{Proc}
 use Rattle.table.specs.declared.Table.{Table}
@@ -23,7 +20,7 @@ use Rattle.text.specs.Reader.{allBelow}
 use Rattle.text.specs.Writer.{all, isZero, slotEmpty, taskEmpty, semEmpty, queueEmpty, procEmpty, argsEmpty, procTidy, tidy}
 use Rattle.text.specs.ValidLaws.{below-all, all-below}
 use Rattle.checks.specs.MaskTests.{same-truth}
-use Rattle.faults.specs.Unused.{taskFits, semFits, queueFits, slotFits, procFits, tasksTidy, semsTidy, queuesTidy, slotsTidy, procsTidy, headTidy, Ranged}
+use Rattle.faults.specs.Unused.{taskFits, semFits, queueFits, procFits, tasksTidy, semsTidy, queuesTidy, slotsTidy, procsTidy, headTidy, Ranged}
 
 -- an array's list has its length as a list of machine values
 pub values-long : {A B : Type 0} (f : A → B) (xs : List A) (n : ℕ) → length (map f xs) ≡ n → length xs ≡ n

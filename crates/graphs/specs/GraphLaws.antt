@@ -2,7 +2,7 @@
 use Prim.Native.Nat.{ℕ, zero, suc, _+_, _*_, _%_, _≤_, _<_}
 use mathlib.Core.Path.{_≡_, refl, sym, _∙_, ap}
 use mathlib.Core.Bool.{Bool}
-use mathlib.Core.List.{List, [], _∷_, _++_}
+use mathlib.Core.List.{List}
 use native.Mathlib.Omega.{arith}
 use lib.ListN.{length, getD}
 use lib.Seq.{sets}
@@ -21,11 +21,10 @@ use Rattle.closing.specs.Program.{refusedLine}
 use Rattle.machine.specs.Step.{keptIn}
 use Rattle.put.specs.Put.{Put}
 use Rattle.put.specs.PutLaws.{put-after, put-more}
-use Rattle.writer.specs.Table.{ProcsIn}
 use Rattle.writer.specs.CountsLaws.{counts}
 use Rattle.keeps.specs.Keeps.{Keeps}
 use Rattle.dot.specs.Graph.{nodeText, slotText, procText, opening, graph, afterReading, graphPrinted}
-use Rattle.graphs.specs.Graphs.{maskKept, maskNodes, maskProc, maskProcs, Drawable}
+use Rattle.graphs.specs.Graphs.{maskKept, maskNodes, maskProcs, Drawable}
 
 -- ---- rows that agree where they stand
 

@@ -1,9 +1,9 @@
 -- The faults after all lines, with their lines, as the code finds them.
 use Prim.Native.Nat.{ℕ, zero, suc, _+_, _≤_, _<_}
 use mathlib.Core.Path.{_≡_}
-use mathlib.Core.List.{List, [], _∷_, _++_}
+use mathlib.Core.List.{List, [], _∷_}
 use mathlib.Core.Option.{Option, none, some}
-use mathlib.Core.Bool.{Bool, true, false, not, _||_}
+use mathlib.Core.Bool.{Bool, not, _||_}
 use lib.Dec.{eqb}
 use lib.ListN.{getD}
 use Rattle.table.specs.Mask.{pick, bit, members, maskOf}

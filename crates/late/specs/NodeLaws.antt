@@ -1,25 +1,21 @@
 -- A node's late fault, by its number.
-use Prim.Native.Nat.{ℕ, zero, suc, _≤_, _<_}
-use mathlib.Core.Path.{_≡_, refl, sym, _∙_, ap}
+use Prim.Native.Nat.{ℕ, zero, suc}
+use mathlib.Core.Path.{_≡_, refl, sym, _∙_}
 use mathlib.Core.List.{List, [], _∷_, _++_}
-use mathlib.Core.Option.{Option, none, some}
 use mathlib.Core.Bool.{Bool, true, false, not, _&&_, _||_}
-use native.Mathlib.Omega.{arith}
-use lib.Dec.{eqb}
-use lib.ListN.{getD}
 use Rattle.table.specs.Mask.{pick, bit, membersFrom, members}
-use Rattle.table.specs.Table.{noQueue, queueAt, procAt, nodeIn, argAt, arcTo, arcNo, arcs, isAbsent}
+use Rattle.table.specs.Table.{queueAt, nodeIn, arcTo, arcNo, arcs, isAbsent}
 use Rattle.table.specs.declared.Op.{Op}
 use Rattle.table.specs.declared.Operand.{Operand}
 use Rattle.table.specs.declared.Args.{Args}
 use Rattle.table.specs.declared.Node.{Node}
-use Rattle.table.specs.declared.Node.the-variants.{Absent, Start, Set, Test, Read, Call, Wait, Signal, Send, Recv, Assert, Out, Return}
+use Rattle.table.specs.declared.Node.the-variants.{Absent, Test, Call, Return}
 use Rattle.table.specs.declared.Proc.{Proc}
 use Rattle.table.specs.declared.Table.{Table}
 use Rattle.text.specs.declared.Fault.the-variants.{Arguments, Closing}
 use Rattle.text.specs.Fault.{number}
 use Rattle.text.specs.Value.{unless, orElse}
-use Rattle.text.specs.Reader.{allBelow, allPresent, isRemoved, iff, countRight, removedRight, nodeFault}
+use Rattle.text.specs.Reader.{allPresent, isRemoved, iff, countRight, removedRight}
 use Rattle.text.specs.Structure.{numbered}
 use Rattle.checks.specs.Numbers.{firstNumber}
 use Rattle.late.specs.declared.Terms.{Terms}

@@ -1,5 +1,5 @@
 -- The late fault of a node or a task, as the code finds it: a law for each return.
-use Prim.Native.Nat.{ℕ, zero, suc, _+_, _*_, _-_, _%_, _^_, _≤_, _<_}
+use Prim.Native.Nat.{ℕ, suc, _+_, _-_, _%_, _^_, _≤_, _<_}
 use mathlib.Core.Path.{_≡_, refl, sym, _∙_, ap}
 use mathlib.Core.List.{List, map}
 use mathlib.Core.Bool.{Bool, true, false, not}
@@ -22,7 +22,6 @@ use Rattle.table.specs.declared.Queue.{Queue}
 use Rattle.text.specs.declared.Fault.the-variants.{Arguments, Closing}
 use Rattle.text.specs.NumberLaws.{cases, byOrder}
 use Rattle.text.specs.Reader.{allBelow, allPresent, isRemoved, iff}
-use Rattle.masks.specs.Bits.{one-shl}
 use Rattle.checks.specs.Numbers.{firstNumber}
 use Rattle.checks.specs.ArgumentChecks.{removedAt}
 use Rattle.late.specs.declared.Callee.{Callee}

@@ -8,7 +8,7 @@ use table::Slot;
 use table::Table;
 use table::Task;
 ghost use mathlib.Core.Path.{_≡_};
-ghost use mathlib.Core.Bool.{true, false, not};
+ghost use mathlib.Core.Bool.{false, not};
 ghost use mathlib.Core.List.{[], _∷_};
 ghost use Prim.Native.Nat.{ℕ, _+_, _≤_, _<_, _%_, _^_};
 ghost use lib.Dec.{eqb};

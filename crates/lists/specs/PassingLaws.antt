@@ -104,9 +104,6 @@ pub pushed-made : (a : Args) (v : ℕ) {l w x y z : ℕ} → l ≡ min (a .len +
     → y ≡ pick (eqb (a .len) 2) v (a .a2) → z ≡ pick (eqb (a .len) 3) v (a .a3) → record { len = l; a0 = w; a1 = x; a2 = y; a3 = z } ≡ pushedOf a v
 pushed-made a v i j k m o = rw (i, j, k, m, o)
 
-pub both-true : {a b : Bool} → a ≡ true → b ≡ a && b
-both-true h = rw h
-
 pub both-false : (a b : Bool) → a ≡ false → false ≡ a && b
 both-false a b h = rw h
 
@@ -184,9 +181,6 @@ module _ (c : Bool) (n e : ℕ) (a : Args) (v : ℕ) where
 module _ {c : Bool} {n : ℕ} {t : List ℕ} {from : ℕ} {r : Argument} (a : ArgumentAt c n t from r) where
   argument-first : {to v : ℕ} {k : Bool} → r ≡ IsArgument to v k → First c n t from to v k
   argument-first q = rw q at (a .is)
-
-  pub argument-to : {to v : ℕ} {k : Bool} → r ≡ IsArgument to v k → to ≤ length t
-  argument-to q = argument-first q .within
 
   pub argument-less : {to v last : ℕ} {k : Bool} → r ≡ IsArgument to v k → from ≡ last + 1 → last < length t → length t - to < length t - last
   argument-less q e h = omega (arith, argument-first q .from-on)

@@ -1,6 +1,6 @@
 -- Document 01, "Stepping": a run over a schedule, its log and its answer.
 use Prim.Native.Nat.{ℕ, zero, suc, _+_, _-_, _*_, _/_, _%_}
-use mathlib.Core.Bool.{Bool, true, false}
+use mathlib.Core.Bool.{true, false}
 use mathlib.Core.List.{List, [], _∷_}
 use mathlib.Core.Option.{Option, none, some}
 use lib.ListN.{length}
@@ -15,7 +15,7 @@ use Rattle.machine.specs.declared.State.{State}
 use Rattle.machine.specs.declared.Running.{Running}
 use Rattle.machine.specs.State.{noState, firstState, Begun, begun, begin}
 use Rattle.machine.specs.State as First
-use Rattle.machine.specs.Step.{Stop, noTask, logFull, spent, stopNumber, Kept, keptIn, Entry, Step, stopped, stepped, step}
+use Rattle.machine.specs.Step.{noTask, logFull, spent, stopNumber, Kept, keptIn, Entry, Step, stopped, stepped, step}
 
 -- "Each completed step logs 8 bytes: task, procedure, node, flag, value as 4 bytes, lowest first. .. else zeros."
 abbrev pub word : ℕ → List ℕ

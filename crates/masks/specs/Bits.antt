@@ -10,7 +10,7 @@ use lib.Dec.{eqb, ltb}
 use lib.Bits.{bitAnd, bitOr, or-lt, and-lt, xor-lt, or-shr, or-mod, and-shr, and-mod, or-add-and, and-le-r, bitXor, xor-shr, xor-mod, and-mask, or-shifted-r}
 use lib.Count.{trailingZeros, under}
 use lib.Pow.{pow-pos, pow-lt, pow-mono, ones-lt, pow-add, shr-shr, shl-shr, shl-exact}
-use borrow.Author.Tests.{eqb-true, eqb-false, eq-eqb, ne-eqb, ltb-true, ltb-false}
+use borrow.Author.Tests.{eqb-true, eqb-false, eq-eqb, ltb-true, ltb-false}
 use Rattle.table.specs.Mask.{pick, bit, maskOf}
 use Rattle.table.specs.MaskLaws.{maskOf-lt}
 
@@ -18,10 +18,6 @@ use Rattle.table.specs.MaskLaws.{maskOf-lt}
 pub bit-of : (k m : ℕ) → m / 2 ^ k % 2 ≡ 1 → bit k m ≡ true
 unfolding bit
 bit-of k m h = eq-eqb _ _ h
-
-pub bit-not : (k m : ℕ) → (m / 2 ^ k % 2 ≡ 1 → ⊥) → bit k m ≡ false
-unfolding bit
-bit-not k m h = ne-eqb _ _ h
 
 pub bit-is : (k m : ℕ) → bit k m ≡ true → m / 2 ^ k % 2 ≡ 1
 unfolding bit

@@ -3,8 +3,8 @@ use Prim.Native.Nat.{ℕ, zero, suc, _+_, _*_, _<_, _≤_, _^_}
 use native.Mathlib.Omega.{arith}
 use native.Mathlib.Nat.{suc-mul}
 use native.Mathlib.Numerals.{add-one}
-use mathlib.Core.Path.{_≡_, refl, sym, _∙_, ap, subst}
-use mathlib.Core.Bool.{Bool, true, false, not, _||_, false≢true, true≢false}
+use mathlib.Core.Path.{_≡_, refl, _∙_, ap, subst}
+use mathlib.Core.Bool.{Bool, true, false, not}
 use mathlib.Core.Logic.{_⊎_, inl, inr}
 use mathlib.Core.List.{List, [], _∷_}
 use lib.ListN.{length, getD, set, replicate, length-set, List·getD-eq-default}
@@ -74,9 +74,6 @@ pub record Flag (l l′ : List ℕ) (new : Bool) : Type 0 where
   pub more : new ≡ true → sum l < sum l′
   pub same : new ≡ false → l′ ≡ l
 
-pub flag-refl : (l : List ℕ) → Flag l l false
-flag-refl l = record { grows = grows-refl l; more = λ e. absurd (false≢true e); same = λ e. refl }
-
 -- the flag as code computes it
 pub grown-flag : (l : List ℕ) (a m : ℕ) → a < length l → Flag l (grown l a m) (not (eqb (bitOr (cell l a) m) (cell l a)))
 unfolding grown
@@ -93,19 +90,6 @@ grown-flag l a m i = record { grows = grown-grows l a m; more = more; same = sam
 
     same : not (eqb new old) ≡ false → set l a new ≡ l
     same e = ap (set l a) (eqb-true new old (not-false _ e)) ∙ set-getD l a 0
-
--- two steps, one after the other: the flag is set, or stays
-pub flag-set : {l m n : List ℕ} {f r g : Bool} → Flag l m f → Flag m n r → r ≡ true → g ≡ true → Flag l n g
-flag-set {l} {m} {n} p q e d = record { grows = grows-trans (p .grows) (q .grows); more = λ z. omega (arith, p .grows .up, q .more e); same = λ z. absurd (true≢false (sym d ∙ z)) }
-
-pub flag-keep : {l m n : List ℕ} {f r g : Bool} → Flag l m f → Flag m n r → r ≡ false → g ≡ f → Flag l n g
-flag-keep {l} {m} {n} p q e d = record { grows = grows-trans (p .grows) (q .grows); more = λ z. omega (arith, p .more (sym d ∙ z), q .grows .up); same = λ z. q .same e ∙ p .same (sym d ∙ z) }
-
-pub flag-or : {l m n : List ℕ} (f g : Bool) → Flag l m f → Flag m n g → Flag l n (f || g)
-flag-or {l} {m} {n} true true p q = flag-set p q refl refl
-flag-or {l} {m} {n} true false p q = flag-keep p q refl refl
-flag-or {l} {m} {n} false true p q = flag-set p q refl refl
-flag-or {l} {m} {n} false false p q = flag-keep p q refl refl
 
 -- what every mask of the list has
 unfoldable pub Sound : (ℕ → ℕ → Type 0) → List ℕ → Type 0
@@ -140,13 +124,6 @@ grown-has l a m b k h = go (eqb b a) refl (ltb a (length l)) refl
 pub grown-adds : (l : List ℕ) (a m k : ℕ) → a < length l → bit k m ≡ true → bit k (cell (grown l a m) a) ≡ true
 unfolding grown
 grown-adds l a m k i h = rw (getD-set-same l a (bitOr (cell l a) m) 0 i) (bit-or-r k (cell l a) m h)
-
--- nothing new: the cell has the whole mask
-pub grown-same : (l : List ℕ) (a m k : ℕ) → a < length l → grown l a m ≡ l → bit k m ≡ true → bit k (cell l a) ≡ true
-unfolding grown
-grown-same l a m k i e h =
-    let z : bitOr (cell l a) m ≡ cell l a = sym (getD-set-same l a (bitOr (cell l a) m) 0 i) ∙ ap (λ (x : List ℕ). getD x a 0) e in
-    rw z at (bit-or-r k (cell l a) m h)
 
 -- a mask that is added twice, and an empty one
 pub grown-twice : (l : List ℕ) (a m : ℕ) → grown (grown l a m) a m ≡ grown l a m
@@ -205,31 +182,11 @@ module _ (step : List ℕ → ℕ → List ℕ) where
   unfolding sweep
   sweep-more l₀ i p q = rw add-one (q ∙ ap (λ (x : List ℕ). step x i) p)
 
-  pub sweep-below : (P : List ℕ → Type 0) (b : ℕ) → ((l : List ℕ) (i : ℕ) → i < b → P l → P (step l i)) → (n : ℕ) → n ≤ b → (l : List ℕ) → P l → P (sweep n l)
-  unfolding sweep
-  sweep-below P b f zero h l p = p
-  sweep-below P b f (suc n) h l p = f (sweep n l) n (omega arith) (sweep-below P b f n (omega arith) l p)
-
   module _ (grows : (l : List ℕ) (i : ℕ) → Grows l (step l i)) where
     pub sweep-grows : (n : ℕ) (l : List ℕ) → Grows l (sweep n l)
     unfolding sweep
     sweep-grows zero l = grows-refl l
     sweep-grows (suc n) l = grows-trans (sweep-grows n l) (grows (sweep n l) n)
-
-    -- a sweep that finds nothing new finds nothing new at any index
-    pub sweep-fixed : (n : ℕ) (l : List ℕ) → sweep n l ≡ l → (i : ℕ) → i < n → step l i ≡ l
-    unfolding sweep
-    sweep-fixed zero l e i h = absurd (omega arith)
-    sweep-fixed (suc n) l e i h =
-        let g = sweep-grows n l in
-        let s = ap sum e in
-        let k = grows (sweep n l) n in
-        let z : sweep n l ≡ l = g .stays (omega (arith, g .up, k .up, s)) in
-        go z (eqb i n) refl (sweep-fixed n l z i)
-      where
-        go : sweep n l ≡ l → (b : Bool) → eqb i n ≡ b → (i < n → step l i ≡ l) → step l i ≡ l
-        go z true q f = let w : i ≡ n = eqb-true i n q in rw w (ap (λ (x : List ℕ). step x n) (sym z) ∙ e)
-        go z false q f = f (omega (arith, eqb-false i n q))
 
 pub cell-zeros : (n a : ℕ) → cell (replicate n 0) a ≡ 0
 cell-zeros zero a = refl

@@ -3,7 +3,7 @@ use Prim.Native.Nat.{ℕ, suc, _+_, _≤_}
 use mathlib.Core.Path.{_≡_}
 use mathlib.Core.Bool.{Bool, true, false}
 use mathlib.Core.List.{List}
-use lib.ListN.{length, drop, replicate}
+use lib.ListN.{drop, replicate}
 use Rattle.table.specs.Table.{noProc}
 use Rattle.table.specs.declared.Slot.{Slot}
 use Rattle.table.specs.declared.Proc.{Proc}
@@ -18,8 +18,7 @@ use Rattle.records.specs.declared.ProcLine.{ProcLine}
 use Rattle.records.specs.declared.ProcLine.the-variants.{Is as IsProc, Refused as NotProc}
 use Rattle.nodes.specs.declared.Line.{Line}
 use Rattle.nodes.specs.declared.Line.the-variants.{Node as IsNode, Refused as NotNode}
-use Rattle.rows.specs.declared.End.{End}
-use Rattle.rows.specs.declared.End.the-variants.{At, Refused}
+use Rattle.rows.specs.declared.End.the-variants.{Refused}
 use Rattle.rows.specs.Rows.{endIn, endWithin, RowsAt}
 use Rattle.procs.specs.declared.Slots.{Slots}
 use Rattle.procs.specs.declared.ProcRow.{ProcRow}

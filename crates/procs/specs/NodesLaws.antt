@@ -1,9 +1,8 @@
 -- Node line after node line: what is left to do from here gives the whole.
-use Prim.Native.Nat.{ℕ, zero, suc, _+_, _-_, _≤_, _<_}
+use Prim.Native.Nat.{ℕ, suc, _+_, _-_, _≤_, _<_}
 use mathlib.Core.Path.{_≡_, refl, sym, _∙_, ap}
 use mathlib.Core.Bool.{Bool, true, false}
 use mathlib.Core.List.{List}
-use mathlib.Core.Option.{none}
 use native.Mathlib.Omega.{arith}
 use native.Mathlib.Numerals.{add-one}
 use lib.ListN.{length, drop, set, length-set}
@@ -15,12 +14,12 @@ use Rattle.text.specs.declared.Fault.the-variants.{Form, Index}
 use Rattle.text.specs.Number.{bytes}
 use Rattle.text.specs.Value.{check, number}
 use Rattle.text.specs.ValueLaws.{no}
-use Rattle.text.specs.Line.{Vals, took, refused, Parser, After, at as stands, differs, broken, line, lineFault}
+use Rattle.text.specs.Line.{took, refused, Parser, After, at as stands, differs, broken, line, lineFault}
 use Rattle.text.specs.LineLaws.{line-read}
 use Rattle.text.specs.RowLaws.{or-left}
 use Rattle.text.specs.NodeLaws.{number-fact}
-use Rattle.text.specs.Format.{Scope as Judged, nodeLine, fields}
-use Rattle.text.specs.Reader.{rows, Numbered, nodeRow, slotOf, ifKey, furtherNodes}
+use Rattle.text.specs.Format.{Scope as Judged, nodeLine}
+use Rattle.text.specs.Reader.{Numbered, nodeRow, ifKey, furtherNodes}
 use Rattle.scan.specs.declared.Found.{Found}
 use Rattle.scan.specs.declared.Found.the-variants.{At as FoundAt, Differs, Broken}
 use Rattle.scan.specs.Place.{AfterKey}
@@ -29,8 +28,7 @@ use Rattle.nodes.specs.declared.Line.{Line}
 use Rattle.nodes.specs.declared.Line.the-variants.{Node as IsNode, Refused as NotNode}
 use Rattle.nodes.specs.Answer.{numbered, NodeAt}
 use Rattle.rows.specs.declared.End.the-variants.{At, Refused}
-use Rattle.rows.specs.Rows.{RowsAt}
-use Rattle.rows.specs.RowLaws.{Step, Stop, Rowing, rows-start, rows-turn, rows-stop, rows-end}
+use Rattle.rows.specs.RowLaws.{Stop, Rowing, rows-start, rows-turn, rows-stop, rows-end}
 use Rattle.procs.specs.declared.Slots.{Slots}
 use Rattle.procs.specs.Answer.{stoppedOf, stood, nodeStands, openRow, FurtherAt, SlotsAt}
 

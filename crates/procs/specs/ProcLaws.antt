@@ -1,6 +1,6 @@
 -- A procedure's line with its node lines, and procedure after procedure.
 use Prim.Native.Nat.{ℕ, suc, _+_, _*_, _≤_, _<_}
-use mathlib.Core.Path.{_≡_, refl, sym, _∙_, ap, subst}
+use mathlib.Core.Path.{_≡_, sym, _∙_, ap, subst}
 use mathlib.Core.Bool.{Bool}
 use mathlib.Core.List.{List}
 use native.Mathlib.Omega.{arith}
@@ -12,12 +12,12 @@ use Rattle.table.specs.declared.Proc.{Proc}
 use Rattle.text.specs.declared.Fault.{Fault}
 use Rattle.text.specs.declared.Fault.the-variants.{Index, Range}
 use Rattle.text.specs.Value.{check, number, orElse}
-use Rattle.text.specs.Line.{Vals, Outcome, took, refused, Parser, onto, line, lineFault}
+use Rattle.text.specs.Line.{Vals, Outcome, took, onto, line, lineFault}
 use Rattle.text.specs.LineLaws.{line-read}
 use Rattle.text.specs.RowLaws.{or-left, or-right}
 use Rattle.text.specs.NodeLaws.{number-fact}
 use Rattle.text.specs.Format.{Scope as Judged, procLine, dropField}
-use Rattle.text.specs.Reader.{nodesOf, scopeOf, procOf as procFrom, procRow}
+use Rattle.text.specs.Reader.{procOf as procFrom}
 use Rattle.fields.specs.FieldLaws.{onto-got, onto-stop}
 use Rattle.records.specs.declared.Counts.{Counts}
 use Rattle.records.specs.declared.ProcHead.{ProcHead}
@@ -26,12 +26,10 @@ use Rattle.records.specs.declared.ProcLine.the-variants.{Is as IsProc, Refused 
 use Rattle.records.specs.Answer.{Counted, headOf, ProcAt, Sized}
 use Rattle.nodes.specs.Answer.{Fits}
 use Rattle.rows.specs.declared.End.the-variants.{At, Refused}
-use Rattle.rows.specs.Rows.{RowsAt}
 use Rattle.rows.specs.RowLaws.{end-mapped, Step, Stop, Rowing, rows-start, rows-turn, rows-stop, rows-end}
 use Rattle.procs.specs.declared.Slots.{Slots}
 use Rattle.procs.specs.declared.ProcRow.{ProcRow}
-use Rattle.procs.specs.declared.Procs.{Procs}
-use Rattle.procs.specs.Answer.{SlotsAt, procFault, procOf, rowOf, rowIn, ProcRowAt, ProcsAt}
+use Rattle.procs.specs.Answer.{SlotsAt, procFault, rowOf, rowIn, ProcRowAt, ProcsAt}
 
 abbrev scopeFor : Bool → Counts → ProcHead → Judged
 scopeFor closed x h = record { closed = closed; procs = x .procs; sems = x .sems; queues = x .queues; vars = h .vars; nodes = h .nodes }

@@ -1,7 +1,6 @@
 -- Demand 3 for calls of the library: each premise is what the contract of a call says, as crates/bufshani states it.
 use Prim.Native.Nat.{ℕ, _<_, _≤_}
-use mathlib.Core.Path.{_≡_, sym, _∙_, ap}
-use mathlib.Core.Bool.{Bool}
+use mathlib.Core.Path.{_≡_, sym}
 use mathlib.Core.List.{List}
 use lib.ListN.{length, take}
 use lib.IntN.{ℤ}
@@ -15,7 +14,7 @@ use Rattle.machine.specs.State.{standsBefore, standstill}
 use Rattle.machine.specs.Step.{failing}
 use Rattle.machine.specs.Run.{Ran, run}
 use Rattle.machine.specs.History.{history}
-use Rattle.promise.specs.Demand3.{SameRun, Partner}
+use Rattle.promise.specs.Demand3.{SameRun}
 use Rattle.promise.specs.Theorems.{demand-3, same-standstill, same-failure}
 
 -- `run(t, schedule, values, most, log)` answered r and left the log so

@@ -1,8 +1,8 @@
 -- Demand 3, stated: every completed run of an open table has a completed run of its closed table beside it.
 -- Its proof is Proof3; this file is read by itself, with document 01's "Demand 3 is one claim about a whole run".
-use Prim.Native.Nat.{ℕ, zero, suc, _+_, _*_, _<_, _≤_}
+use Prim.Native.Nat.{ℕ, suc, _+_, _*_, _<_, _≤_}
 use mathlib.Core.Path.{_≡_}
-use mathlib.Core.Bool.{Bool, true, false}
+use mathlib.Core.Bool.{false}
 use mathlib.Core.List.{List}
 use mathlib.Core.Option.{Option, none, some}
 use lib.ListN.{length, getD, take}

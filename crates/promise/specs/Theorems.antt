@@ -3,7 +3,6 @@ use Prim.Native.Nat.{ℕ}
 use mathlib.Core.Path.{_≡_}
 use mathlib.Core.List.{List}
 use Rattle.table.specs.declared.Table.{Table}
-use Rattle.text.specs.declared.Reading.{Reading}
 use Rattle.text.specs.Reader.{read}
 use Rattle.text.specs.Writer.{text, fault}
 use Rattle.text.specs.RoundTrip.{Shaped, read-text}

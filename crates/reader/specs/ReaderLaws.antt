@@ -2,7 +2,7 @@
 use Prim.Native.Nat.{ℕ, zero, suc, _+_, _≤_, _<_}
 use mathlib.Core.Path.{_≡_, refl, sym, _∙_, ap}
 use mathlib.Core.List.{List, [], _∷_}
-use mathlib.Core.Bool.{Bool, true, false}
+use mathlib.Core.Bool.{Bool, false}
 use native.Mathlib.Omega.{arith}
 use borrow.Author.Tests.{lt-ltb, le-ltb}
 use lib.ListN.{length, drop, getD, set, replicate, drop-of-length-le}
@@ -16,12 +16,12 @@ use Rattle.text.specs.declared.Fault.{Fault}
 use Rattle.text.specs.declared.Fault.the-variants.{Long, Ended}
 use Rattle.text.specs.declared.Reading.{Reading}
 use Rattle.text.specs.Fault.{number}
-use Rattle.text.specs.Line.{Vals, Outcome, took, refused, Parser, onto, _>>=_, give, line}
+use Rattle.text.specs.Line.{Outcome, took, refused, Parser, onto, _>>=_, give, line}
 use Rattle.text.specs.LineLaws.{onto-read, line-read}
 use Rattle.text.specs.RowLaws.{Rows, Row, faultless, rows-fill}
 use Rattle.text.specs.NodeLaws.{number-fact}
 use Rattle.text.specs.Format.{headLine, countsLine, procLine}
-use Rattle.text.specs.Reader.{rows, taskRow, semRow, queueRow, nodesOf, scopeOf, procOf, procRow, atEnd, body, table, late, firstLate, good, bad, resultOf, readLines, reading, read}
+use Rattle.text.specs.Reader.{rows, taskRow, semRow, queueRow, nodesOf, scopeOf, procOf, procRow, atEnd, body, table, late, firstLate, bad, resultOf, readLines, reading, read}
 use Rattle.fields.specs.Answer.{LineAt}
 use Rattle.fields.specs.FieldLaws.{onto-onto, onto-got, onto-stop}
 use Rattle.records.specs.declared.Counts.{Counts}
@@ -35,7 +35,7 @@ use Rattle.rows.specs.declared.End.the-variants.{At, Refused}
 use Rattle.rows.specs.declared.Tasks.{Tasks}
 use Rattle.rows.specs.declared.Sems.{Sems}
 use Rattle.rows.specs.declared.Queues.{Queues}
-use Rattle.rows.specs.Rows.{endIn, RowsAt}
+use Rattle.rows.specs.Rows.{RowsAt}
 use Rattle.rows.specs.RowLaws.{end-mapped}
 use Rattle.procs.specs.declared.Procs.{Procs}
 use Rattle.procs.specs.Answer.{ProcsAt}

@@ -13,7 +13,7 @@ ghost use Prim.Native.Nat.{_≤_};
 ghost use mathlib.Core.Path.{_≡_};
 ghost use lib.ListN.{length};
 ghost use Rattle.table.specs.Table.{noTable};
-ghost use Rattle.text.specs.Reader.{Result, bad, reading, read};
+ghost use Rattle.text.specs.Reader.{bad, reading, read};
 ghost use Rattle.records.specs.Answer.{Counted};
 ghost use Rattle.reader.specs.Answer.{ObjectsAt, BodyAt, WholeAt, faultOf, headFault, countsFault};
 

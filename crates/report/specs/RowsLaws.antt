@@ -1,7 +1,7 @@
 -- Laws of a report's rows: the counts of variables, and the whole report.
-use Prim.Native.Nat.{ℕ, zero, suc, _+_, _*_, _≤_, _<_}
-use mathlib.Core.Path.{_≡_, refl, sym, _∙_, ap}
-use mathlib.Core.List.{List, [], _∷_, _++_}
+use Prim.Native.Nat.{ℕ, _+_, _*_, _≤_, _<_}
+use mathlib.Core.Path.{_≡_, sym, _∙_, ap}
+use mathlib.Core.List.{List}
 use native.Mathlib.Omega.{arith}
 use lib.ListN.{length, length-append, getD, set, length-set, List·getD-eq-default}
 use lib.Seq.{getD-set-same, getD-set-other}
@@ -16,7 +16,7 @@ use Rattle.put.specs.PutLaws.{put-after, put-more, digits-few}
 use Rattle.put.specs.RowLaws.{concat-same}
 use Rattle.machine.specs.declared.Running.{Running}
 use Rattle.machine.specs.State.{semCount, entriesAt}
-use Rattle.machine.specs.Report.{answerLine, stepLine, taskLine, frameLineOf, taskLines, semLine, queueLine, report}
+use Rattle.machine.specs.Report.{answerLine, stepLine, frameLineOf, taskLines, semLine, queueLine, report}
 use Rattle.report.specs.Rows.{VariableCounts, frameRow, taskRow, Reportable}
 
 -- ---- a step's number has at most five digits

@@ -6,7 +6,7 @@ use native.Mathlib.Omega.{arith}
 use lib.IntN.{ℤ}
 use borrow.Author.Tests.{ne-eqb}
 use Rattle.text.specs.Number.{bytes}
-use Rattle.text.specs.Value.{commas, spellList}
+use Rattle.text.specs.Value.{commas}
 use Rattle.text.specs.Reader.{concat}
 use Rattle.put.specs.Put.{Put}
 use Rattle.put.specs.PutLaws.{put-after, put-more}

@@ -1,12 +1,12 @@
 -- What holds of every run: no task has more than 8 frames open, and each completed step is in the log.
-use Prim.Native.Nat.{ℕ, zero, suc, _+_, _-_, _*_, _≤_, _<_}
+use Prim.Native.Nat.{ℕ, zero, suc, _+_, _-_, _*_, _≤_}
 use mathlib.Core.Path.{_≡_, refl, _∙_}
 use mathlib.Core.Bool.{Bool, true, false}
 use mathlib.Core.List.{List, [], _∷_}
 use mathlib.Core.Option.{Option, none, some}
 use native.Mathlib.Omega.{arith}
 use lib.Dec.{ltb}
-use lib.ListN.{length, getD, take, drop}
+use lib.ListN.{length, take, drop}
 use lib.Seq.{sets, length-sets}
 use lib.IntN.{ℤ}
 use borrow.Author.Tests.{leb-false, ltb-false}
@@ -21,7 +21,7 @@ use Rattle.machine.specs.declared.Frame.{Frame}
 use Rattle.machine.specs.declared.State.{State}
 use Rattle.machine.specs.State.{noState, openFrames, isLost, frameAt, topmost, blockedAt, blocked, standsBefore, firstState, firstInputs, withInputs, Begun, begun, takeInputs, begin}
 use Rattle.machine.specs.State as First
-use Rattle.machine.specs.Step.{Stop, taskLost, taskBlocked, unless, Kept, keptIn, Entry, Memory, Walk, halts, arrives, along, onward, walk, exec, choose, memory, calls, returns, stays, flow, Step, stopped, stepped, landed, settled, closed, flowed, entryOf, stepOf, before, step}
+use Rattle.machine.specs.Step.{taskLost, taskBlocked, unless, Kept, keptIn, Entry, Memory, Walk, halts, arrives, along, onward, walk, exec, choose, memory, returns, stays, flow, Step, stopped, stepped, landed, settled, closed, flowed, entryOf, stepOf, before, step}
 use Rattle.machine.specs.Run.{Ran, entryBytes, turn, runFrom, afterStep, runBegun, runChecked, run}
 use Rattle.starts.specs.GoodLaws.{either}
 

@@ -1,5 +1,5 @@
 -- What the proofs of the start lean on.
-use mathlib.Core.Path.{_≡_, refl, sym, _∙_, ap, subst}
+use mathlib.Core.Path.{_≡_, refl, sym, _∙_, ap}
 use mathlib.Core.Bool.{Bool, true, false}
 use mathlib.Core.List.{List, [], _∷_, _++_, map}
 use Prim.Native.Nat.{ℕ, zero, suc, _+_, _-_, _*_, _/_, _%_, _<_, _≤_}
@@ -17,11 +17,10 @@ use Rattle.table.specs.declared.Sem.{Sem}
 use Rattle.table.specs.declared.Table.{Table}
 use Rattle.text.specs.Reader.{concat}
 use Rattle.machine.specs.declared.Frame.{Frame}
-use Rattle.machine.specs.declared.Entries.{Entries}
 use Rattle.machine.specs.declared.State.{State}
-use Rattle.machine.specs.State.{noVars, noFrame, noEntries, firstFrame, firstFrames, firstState, withFrames, firstInputs, Begun, spent, begun, withInputs, takeInputs}
+use Rattle.machine.specs.State.{noFrame, noEntries, firstFrame, firstState, withFrames, firstInputs, spent, begun, takeInputs}
 use Rattle.starts.specs.Ready.{Ready}
-use Rattle.starts.specs.Begins.{Row, frameIn, Good, inputFrame}
+use Rattle.starts.specs.Begins.{Row, Good, inputFrame}
 use Rattle.starts.specs.GoodLaws.{FrameGood, good-frame}
 
 -- ---- the row of nodes: place j holds node j mod 32 of procedure j / 32

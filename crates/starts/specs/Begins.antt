@@ -1,12 +1,11 @@
 -- What the runner starts from: the nodes in one row, a state whose frames stand in the table, the first state.
 use Prim.Native.Nat.{ℕ, _+_, _-_, _*_, _<_, _≤_}
 use mathlib.Core.Path.{_≡_}
-use mathlib.Core.Bool.{Bool, true, false}
 use mathlib.Core.List.{List, [], _++_}
 use lib.ListN.{length, getD, drop, replicate}
 use lib.IntN.{ℤ, pos}
 use Rattle.table.specs.Mask.{pick}
-use Rattle.table.specs.Table.{noSlot, procAt, nodeAt}
+use Rattle.table.specs.Table.{noSlot, nodeAt}
 use Rattle.table.specs.declared.Slot.{Slot}
 use Rattle.table.specs.declared.Table.{Table}
 use Rattle.machine.specs.declared.Frame.{Frame}

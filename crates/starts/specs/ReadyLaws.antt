@@ -1,13 +1,13 @@
 -- A table without a fault, as a value of the declared type, is ready to run, with masks that say which nodes count as kept.
-use Prim.Native.Nat.{ℕ, zero, suc, _<_, _≤_}
+use Prim.Native.Nat.{ℕ, _<_, _≤_}
 use native.Mathlib.Omega.{arith}
 use mathlib.Core.Path.{_≡_, refl}
-use mathlib.Core.Bool.{true, false, not}
+use mathlib.Core.Bool.{true, not}
 use mathlib.Core.List.{List}
 use lib.ListN.{getD}
 use borrow.Author.Tests.{eqb-true}
 use Rattle.table.specs.Mask.{bit}
-use Rattle.table.specs.Table.{taskAt, queueAt, procAt, nodeAt, noQueue, isAbsent}
+use Rattle.table.specs.Table.{queueAt, procAt, nodeAt, noQueue, isAbsent}
 use Rattle.table.specs.declared.Node.{Node}
 use Rattle.table.specs.declared.Node.the-variants.{Absent, Start, Set, Test, Read, Call, Wait, Signal, Send, Recv, Assert, Out, Return}
 use Rattle.table.specs.declared.Table.{Table}

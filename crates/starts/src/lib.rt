@@ -7,7 +7,7 @@ ghost use mathlib.Core.Bool.{true};
 ghost use Rattle.table.specs.Mask.{pick};
 ghost use Rattle.machine.specs.State.{noFrame, noVars, firstState, begin};
 ghost use Rattle.starts.specs.Ready.{Ready};
-ghost use Rattle.starts.specs.Begins.{Row, Good, Begins, inputFrame};
+ghost use Rattle.starts.specs.Begins.{Row, Begins, inputFrame};
 use machine::Entries;
 use machine::Frame;
 use machine::Running;

@@ -1,5 +1,5 @@
 -- Document 01, "The table text": each line, with its keys in the order shown and the kinds of their values.
-use Prim.Native.Nat.{ℕ, zero, suc, _+_, _-_, min}
+use Prim.Native.Nat.{ℕ, _+_, _-_, min}
 use mathlib.Core.List.{List, [], _∷_, _++_, map}
 use mathlib.Core.Option.{Option, none, some}
 use mathlib.Core.Bool.{Bool, true, false, not}
@@ -11,7 +11,7 @@ use Rattle.table.specs.declared.Args.{Args}
 use Rattle.table.specs.declared.Node.{Node}
 use Rattle.table.specs.declared.Node.the-variants.{Absent, Start, Set, Test, Read, Call, Wait, Signal, Send, Recv, Assert, Out, Return}
 use Rattle.text.specs.Number.{bytes}
-use Rattle.text.specs.declared.Fault.the-variants.{Index, Reference}
+use Rattle.text.specs.declared.Fault.the-variants.{Index}
 use Rattle.text.specs.Value.{NodeKind, start, set, test, read, call, wait, signal, send, recv, assert, out, return, ValueKind, number, choice, kind, operation, operand, variable, ascending, arguments, from, due, oneOf}
 use Rattle.text.specs.Line.{Line, end, field, Vals}
 

@@ -1,13 +1,12 @@
 -- What the reader answers to any list of bytes.
-use Prim.Native.Nat.{ℕ, zero, suc, _+_, _-_, _^_}
+use Prim.Native.Nat.{ℕ, zero, suc, _+_, _-_}
 use mathlib.Core.List.{List, [], _∷_, _++_}
 use mathlib.Core.Option.{Option, none, some}
 use mathlib.Core.Bool.{Bool, true, false, _&&_, _||_, not}
-use lib.Dec.{ltb, leb, eqb}
-use lib.ListN.{length, getD, set, take, replicate}
-use Rattle.table.specs.Mask.{pick, bit, members}
-use Rattle.table.specs.Table.{noSlot, noTask, noSem, noQueue, noProc, noSlots, noTable, taskAt, queueAt, procAt, nodeIn, nodeAt, removed, argAt, argList, arcs, isAbsent}
-use Rattle.table.specs.declared.Args.{Args}
+use lib.Dec.{ltb, eqb}
+use lib.ListN.{length, set, replicate}
+use Rattle.table.specs.Mask.{pick, bit}
+use Rattle.table.specs.Table.{noTask, noSem, noQueue, noProc, noSlots, noTable, taskAt, queueAt, procAt, nodeIn, nodeAt, removed, argAt, arcs, isAbsent}
 use Rattle.table.specs.declared.Node.{Node}
 use Rattle.table.specs.declared.Node.the-variants.{Absent, Start, Set, Test, Read, Call, Wait, Signal, Send, Recv, Assert, Out, Return}
 use Rattle.table.specs.declared.Slot.{Slot}
@@ -22,8 +21,8 @@ use Rattle.text.specs.declared.Fault.{Fault}
 use Rattle.text.specs.declared.Fault.the-variants.{Long, Ended, Arguments, Closing}
 use Rattle.text.specs.Fault.{number}
 use Rattle.text.specs.Value.{unless, orElse}
-use Rattle.text.specs.Line.{Line, Vals, Outcome, took, refused, Parser, onto, _>>=_, give, After, at, differs, broken, after, line}
-use Rattle.text.specs.Format.{headLine, countsLine, taskLine, semLine, queueLine, procLine, Scope, nodeLine, fields, setOf, nodeOf}
+use Rattle.text.specs.Line.{Vals, Outcome, took, refused, Parser, _>>=_, give, After, at, differs, broken, after, line}
+use Rattle.text.specs.Format.{headLine, countsLine, taskLine, semLine, queueLine, procLine, Scope, nodeLine, setOf, nodeOf}
 
 -- ---- "Reader, lines in order, each left to right": faults 2 to 5
 

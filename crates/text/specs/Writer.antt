@@ -6,7 +6,6 @@ use lib.Dec.{ltb, eqb}
 use lib.ListN.{length, drop}
 use Rattle.table.specs.Mask.{members}
 use Rattle.table.specs.Table.{taskAt, semAt, queueAt, procAt, nodeIn, argPlaces, isAbsent}
-use Rattle.table.specs.declared.Args.{Args}
 use Rattle.table.specs.declared.Node.{Node}
 use Rattle.table.specs.declared.Node.the-variants.{Absent, Start, Set, Test, Read, Call, Wait, Signal, Send, Recv, Assert, Out, Return}
 use Rattle.table.specs.declared.Slot.{Slot}
@@ -16,11 +15,10 @@ use Rattle.table.specs.declared.Queue.{Queue}
 use Rattle.table.specs.declared.Proc.{Proc}
 use Rattle.table.specs.declared.Table.{Table}
 use Rattle.text.specs.declared.Writing.{Writing}
-use Rattle.text.specs.declared.Fault.{Fault}
 use Rattle.text.specs.declared.Fault.the-variants.{Unused, Short}
 use Rattle.text.specs.Fault.{number}
-use Rattle.text.specs.Line.{Line, Vals, write}
-use Rattle.text.specs.Format.{headLine, countsLine, taskLine, semLine, queueLine, procLine, Scope, nodeLine, fields, Described, noLine, described, describe}
+use Rattle.text.specs.Line.{Vals, write}
+use Rattle.text.specs.Format.{headLine, countsLine, taskLine, semLine, queueLine, procLine, Scope, nodeLine, Described, noLine, described, describe}
 use Rattle.text.specs.Reader.{allBelow, concat, Result, good, bad, readLines}
 
 -- ---- the lines that a table stands for, faulty or not

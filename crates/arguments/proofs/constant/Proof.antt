@@ -1,6 +1,5 @@
 use Rattle.text.specs.Value.{asConst}
 use Rattle.arguments.specs.OperandLaws.{const-bad, by-number}
-use native.Mathlib.Omega.{arith}
 use borrow.Author.Needs.{needs}
 use Rattle.arguments.proofs.constant.Statement.{statement}
 use Rattle.arguments.proofs.constant.Tie as tie

@@ -2,7 +2,6 @@ use Prim.Native.Nat.{_-_}
 use lib.ListN.{length}
 use Rattle.arguments.specs.NumberLaws.{Going, going-start, going-low, going-high, going-digit-over, going-over, going-turn, going-end}
 use borrow.Author.Needs.{needs}
-use native.Mathlib.Omega.{arith}
 use Rattle.arguments.proofs.digits_up_to.Statement.{statement}
 use Rattle.arguments.proofs.digits_up_to.Tie as tie
 

@@ -1,6 +1,5 @@
 use Rattle.text.specs.Value.{asVar}
 use Rattle.arguments.specs.OperandLaws.{var-bad, by-number}
-use native.Mathlib.Omega.{arith}
 use borrow.Author.Needs.{needs}
 use Rattle.arguments.proofs.named.Statement.{statement}
 use Rattle.arguments.proofs.named.Tie as tie

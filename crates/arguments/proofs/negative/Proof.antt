@@ -1,6 +1,5 @@
 use Rattle.text.specs.Value.{asNegative}
 use Rattle.arguments.specs.OperandLaws.{neg-bad, by-number}
-use native.Mathlib.Omega.{arith}
 use borrow.Author.Needs.{needs}
 use Rattle.arguments.proofs.negative.Statement.{statement}
 use Rattle.arguments.proofs.negative.Tie as tie

@@ -1,5 +1,4 @@
 use Rattle.arguments.specs.OperandLaws.{operand-none, operand-var, operand-negative, operand-const}
-use native.Mathlib.Omega.{arith}
 use borrow.Author.Needs.{needs}
 use Rattle.arguments.proofs.operand_value.Statement.{statement}
 use Rattle.arguments.proofs.operand_value.Tie as tie

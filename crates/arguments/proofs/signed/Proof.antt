@@ -3,7 +3,6 @@ use mir.Syntax.{w32}
 use mir.Facts.{toZ-ofZ}
 use Rattle.arguments.specs.declared.Value.the-variants.{Is}
 use Rattle.arguments.specs.ItemLaws.{signed-not, signed-variable, signed-is}
-use native.Mathlib.Omega.{arith}
 use borrow.Author.Needs.{needs}
 use Rattle.arguments.proofs.signed.Statement.{statement}
 use Rattle.arguments.proofs.signed.Tie as tie

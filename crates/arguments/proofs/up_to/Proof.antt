@@ -1,5 +1,4 @@
 use Rattle.arguments.specs.NumberLaws.{number-none, number-one, number-zero, number-more}
-use native.Mathlib.Omega.{arith}
 use borrow.Author.Needs.{needs}
 use Rattle.arguments.proofs.up_to.Statement.{statement}
 use Rattle.arguments.proofs.up_to.Tie as tie

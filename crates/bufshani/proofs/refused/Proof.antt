@@ -1,5 +1,4 @@
 use Rattle.bufshani.specs.CloseLaws.{refusal-is}
-use native.Mathlib.Omega.{arith}
 use borrow.Author.Needs.{needs}
 use Rattle.bufshani.proofs.refused.Statement.{statement}
 use Rattle.bufshani.proofs.refused.Tie as tie

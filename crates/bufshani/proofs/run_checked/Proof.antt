@@ -3,7 +3,6 @@ use Rattle.text.specs.ShapeLaws.{shaped}
 use Rattle.starts.specs.ReadyLaws.{ready}
 use Rattle.machine.specs.Run.{Ran}
 use Rattle.bufshani.specs.RunLaws.{faulty-answer, faulty-log, begun-is}
-use native.Mathlib.Omega.{arith}
 use borrow.Author.Needs.{needs}
 use Rattle.bufshani.proofs.run_checked.Statement.{statement}
 use Rattle.bufshani.proofs.run_checked.Tie as tie

@@ -1,7 +1,6 @@
 use mathlib.Core.Path.{_∙_, ap}
 use Rattle.text.specs.declared.Reading.{Reading}
 use Rattle.bufshani_c.specs.Texts.{packed}
-use native.Mathlib.Omega.{arith}
 use borrow.Author.Needs.{needs}
 use Rattle.bufshani_c.proofs.bufshani_read.Statement.{statement}
 use Rattle.bufshani_c.proofs.bufshani_read.Tie as tie

@@ -2,7 +2,6 @@ use mathlib.Core.Path.{_∙_, ap}
 use Rattle.machine.specs.declared.Running.{Running}
 use Rattle.bufshani_c.specs.Texts.{Coded, packed}
 use Rattle.bufshani_c.specs.TextLaws.{stepped-refused, stepped-good}
-use native.Mathlib.Omega.{arith}
 use borrow.Author.Needs.{needs}
 use Rattle.bufshani_c.proofs.bufshani_steps.Statement.{statement}
 use Rattle.bufshani_c.proofs.bufshani_steps.Tie as tie

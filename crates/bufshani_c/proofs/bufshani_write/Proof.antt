@@ -4,7 +4,6 @@ use Rattle.writer.specs.CountsLaws.{counts}
 use Rattle.bufshani.specs.PrintLaws.{sound-read}
 use Rattle.bufshani_c.specs.Texts.{Coded, packed}
 use Rattle.bufshani_c.specs.TextLaws.{rewritten-refused, rewritten-good}
-use native.Mathlib.Omega.{arith}
 use borrow.Author.Needs.{needs}
 use Rattle.bufshani_c.proofs.bufshani_write.Statement.{statement}
 use Rattle.bufshani_c.proofs.bufshani_write.Tie as tie

@@ -1,5 +1,4 @@
 use Rattle.table.specs.Table.{isAbsent}
-use native.Mathlib.Omega.{arith}
 use borrow.Author.Needs.{needs}
 use Rattle.checks.proofs.absent.Statement.{statement}
 use Rattle.checks.proofs.absent.Tie as tie

@@ -1,5 +1,4 @@
 use Rattle.checks.specs.ArgumentChecks.{declared-is}
-use native.Mathlib.Omega.{arith}
 use borrow.Author.Needs.{needs}
 use Rattle.checks.proofs.all_declared.Statement.{statement}
 use Rattle.checks.proofs.all_declared.Tie as tie

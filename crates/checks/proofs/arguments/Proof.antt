@@ -1,5 +1,4 @@
 use Rattle.checks.specs.ValueChecks.{arguments-misspelt, arguments-in, arguments-out}
-use native.Mathlib.Omega.{arith}
 use borrow.Author.Needs.{needs}
 use Rattle.checks.proofs.arguments.Statement.{statement}
 use Rattle.checks.proofs.arguments.Tie as tie

@@ -1,5 +1,4 @@
 use Rattle.checks.specs.NodeChecks.{after-first, after-later}
-use native.Mathlib.Omega.{arith}
 use borrow.Author.Needs.{needs}
 use Rattle.checks.proofs.behind.Statement.{statement}
 use Rattle.checks.proofs.behind.Tie as tie

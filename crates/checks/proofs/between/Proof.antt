@@ -1,6 +1,5 @@
 use Rattle.checks.specs.ValueChecks.{range-below, range-in, range-above}
 use borrow.Author.Needs.{needs}
-use native.Mathlib.Omega.{arith}
 use Rattle.checks.proofs.between.Statement.{statement}
 use Rattle.checks.proofs.between.Tie as tie
 

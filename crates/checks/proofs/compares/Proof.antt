@@ -1,6 +1,5 @@
 use Rattle.text.specs.Value.{check}
 use Rattle.text.specs.Fault.{number}
-use native.Mathlib.Omega.{arith}
 use borrow.Author.Needs.{needs}
 use Rattle.checks.proofs.compares.Statement.{statement}
 use Rattle.checks.proofs.compares.Tie as tie

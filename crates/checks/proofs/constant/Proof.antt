@@ -1,6 +1,4 @@
 use Rattle.checks.specs.ValueChecks.{constant-in}
-use borrow.Author.Needs.{needs}
-use native.Mathlib.Omega.{arith}
 use Rattle.checks.proofs.constant.Statement.{statement}
 use Rattle.checks.proofs.constant.Tie as tie
 

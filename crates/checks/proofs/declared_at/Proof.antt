@@ -1,6 +1,5 @@
 use Rattle.checks.specs.ArgumentChecks.{declared-removed, declared-used, declared-unused}
 use borrow.Author.Needs.{needs}
-use native.Mathlib.Omega.{arith}
 use Rattle.checks.proofs.declared_at.Statement.{statement}
 use Rattle.checks.proofs.declared_at.Tie as tie
 

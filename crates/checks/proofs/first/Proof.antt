@@ -1,5 +1,4 @@
 use Rattle.checks.specs.Numbers.{first-none, first-some}
-use native.Mathlib.Omega.{arith}
 use borrow.Author.Needs.{needs}
 use Rattle.checks.proofs.first.Statement.{statement}
 use Rattle.checks.proofs.first.Tie as tie

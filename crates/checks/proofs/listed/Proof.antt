@@ -1,5 +1,4 @@
 use Rattle.checks.specs.ValueChecks.{listed-open}
-use native.Mathlib.Omega.{arith}
 use borrow.Author.Needs.{needs}
 use Rattle.checks.proofs.listed.Statement.{statement}
 use Rattle.checks.proofs.listed.Tie as tie

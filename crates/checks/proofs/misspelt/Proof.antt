@@ -1,4 +1,3 @@
-use native.Mathlib.Omega.{arith}
 use borrow.Author.Needs.{needs}
 use Rattle.checks.proofs.misspelt.Statement.{statement}
 use Rattle.checks.proofs.misspelt.Tie as tie

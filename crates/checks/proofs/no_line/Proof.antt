@@ -1,6 +1,5 @@
 use Rattle.checks.specs.NodeChecks.{absent-first, absent-later, absent-gap}
 use borrow.Author.Needs.{needs}
-use native.Mathlib.Omega.{arith}
 use Rattle.checks.proofs.no_line.Statement.{statement}
 use Rattle.checks.proofs.no_line.Tie as tie
 

@@ -1,6 +1,5 @@
 use Rattle.checks.specs.NodeChecks.{absent-is}
 use Rattle.checks.specs.NodeChecks.{start-is, set-is, test-is, read-is, call-is, wait-is, signal-is, send-is, recv-is, assert-is, out-is, return-is}
-use native.Mathlib.Omega.{arith}
 use borrow.Author.Needs.{needs}
 use Rattle.checks.proofs.node.Statement.{statement}
 use Rattle.checks.proofs.node.Tie as tie

@@ -2,7 +2,6 @@ use Rattle.checks.specs.ValueChecks.{operand-var}
 use mir.Syntax.{w32}
 use mir.Val.{SFits}
 use mir.Facts.{toZ-ofZ}
-use native.Mathlib.Omega.{arith}
 use borrow.Author.Needs.{needs}
 use Rattle.checks.proofs.operand.Statement.{statement}
 use Rattle.checks.proofs.operand.Tie as tie

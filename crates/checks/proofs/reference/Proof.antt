@@ -1,6 +1,5 @@
 use Rattle.checks.specs.ValueChecks.{reference-in, reference-out}
 use borrow.Author.Needs.{needs}
-use native.Mathlib.Omega.{arith}
 use Rattle.checks.proofs.reference.Statement.{statement}
 use Rattle.checks.proofs.reference.Tie as tie
 

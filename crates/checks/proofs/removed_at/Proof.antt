@@ -1,6 +1,5 @@
 use Rattle.checks.specs.ArgumentChecks.{removed-used, removed-unused}
 use borrow.Author.Needs.{needs}
-use native.Mathlib.Omega.{arith}
 use Rattle.checks.proofs.removed_at.Statement.{statement}
 use Rattle.checks.proofs.removed_at.Tie as tie
 

@@ -1,5 +1,4 @@
 use Rattle.checks.specs.ArgumentChecks.{removed-is}
-use native.Mathlib.Omega.{arith}
 use borrow.Author.Needs.{needs}
 use Rattle.checks.proofs.some_removed.Statement.{statement}
 use Rattle.checks.proofs.some_removed.Tie as tie

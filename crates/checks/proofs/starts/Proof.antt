@@ -1,5 +1,4 @@
 use Rattle.checks.specs.NodeChecks.{start-first, start-later}
-use native.Mathlib.Omega.{arith}
 use borrow.Author.Needs.{needs}
 use Rattle.checks.proofs.starts.Statement.{statement}
 use Rattle.checks.proofs.starts.Tie as tie

@@ -1,5 +1,4 @@
 use Rattle.checks.specs.ValueChecks.{list-in, list-out, list-misspelt}
-use native.Mathlib.Omega.{arith}
 use borrow.Author.Needs.{needs}
 use Rattle.checks.proofs.targets.Statement.{statement}
 use Rattle.checks.proofs.targets.Tie as tie

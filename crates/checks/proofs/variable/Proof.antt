@@ -1,5 +1,4 @@
 use Rattle.checks.specs.ValueChecks.{removed-closed, removed-open, variable-is}
-use native.Mathlib.Omega.{arith}
 use borrow.Author.Needs.{needs}
 use Rattle.checks.proofs.variable.Statement.{statement}
 use Rattle.checks.proofs.variable.Tie as tie

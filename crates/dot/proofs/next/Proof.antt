@@ -1,4 +1,3 @@
-use native.Mathlib.Omega.{arith}
 use borrow.Author.Needs.{needs}
 use Rattle.dot.proofs.next.Statement.{statement}
 use Rattle.dot.proofs.next.Tie as tie

@@ -1,5 +1,5 @@
-use Rattle.put.specs.PutLaws.{put-after, put-more, field-then}
-use borrow.Author.Tests.{eq-eqb, ne-eqb}
+use Rattle.put.specs.PutLaws.{put-more}
+use borrow.Author.Tests.{eq-eqb}
 use Rattle.dot.specs.EdgeLaws.{arc-edges}
 use Rattle.dot.specs.Graph.{arcText}
 use mathlib.Core.Path.{sym, _∙_}

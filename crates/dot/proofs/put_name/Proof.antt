@@ -1,5 +1,4 @@
-use Rattle.put.specs.PutLaws.{put-after, put-more, field-then}
-use native.Mathlib.Omega.{arith}
+use Rattle.put.specs.PutLaws.{field-then}
 use borrow.Author.Needs.{needs}
 use Rattle.dot.proofs.put_name.Statement.{statement}
 use Rattle.dot.proofs.put_name.Tie as tie

@@ -1,4 +1,4 @@
-use Rattle.put.specs.PutLaws.{put-after, put-more, field-then}
+use Rattle.put.specs.PutLaws.{put-after, put-more}
 use Rattle.dot.specs.Graph.{nodeText}
 use mathlib.Core.Path.{refl, sym, _∙_}
 use native.Mathlib.Omega.{arith}

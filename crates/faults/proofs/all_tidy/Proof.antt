@@ -1,5 +1,4 @@
 use Rattle.faults.specs.UnusedLaws.{tidy-is, values-long}
-use native.Mathlib.Omega.{arith}
 use borrow.Author.Needs.{needs}
 use Rattle.faults.proofs.all_tidy.Statement.{statement}
 use Rattle.faults.proofs.all_tidy.Tie as tie

@@ -1,6 +1,5 @@
 use Rattle.faults.specs.UnusedLaws.{call-args}
 use Rattle.text.specs.Writer.{argsEmpty}
-use native.Mathlib.Omega.{arith}
 use borrow.Author.Needs.{needs}
 use Rattle.faults.proofs.args_fit.Statement.{statement}
 use Rattle.faults.proofs.args_fit.Tie as tie

@@ -1,5 +1,4 @@
 use Rattle.faults.specs.UnusedLaws.{args-are}
-use native.Mathlib.Omega.{arith}
 use borrow.Author.Needs.{needs}
 use Rattle.faults.proofs.call_fits.Statement.{statement}
 use Rattle.faults.proofs.call_fits.Tie as tie

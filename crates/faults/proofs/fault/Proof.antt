@@ -1,5 +1,4 @@
 use Rattle.faults.specs.FaultLaws.{fault-lines, counted-of, ranged-of, fault-unused, fault-late}
-use native.Mathlib.Omega.{arith}
 use borrow.Author.Needs.{needs}
 use Rattle.faults.proofs.fault.Statement.{statement}
 use Rattle.faults.proofs.fault.Tie as tie

@@ -1,7 +1,6 @@
 use Prim.Native.Nat.{_-_}
 use Rattle.faults.specs.LineSteps.{GapPassed, gap-none, gap-more, gap-found, gap-all}
 use borrow.Author.Needs.{needs}
-use native.Mathlib.Omega.{arith}
 use Rattle.faults.proofs.gap.Statement.{statement}
 use Rattle.faults.proofs.gap.Tie as tie
 

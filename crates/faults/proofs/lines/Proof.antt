@@ -1,5 +1,4 @@
 use Rattle.faults.specs.LineSteps.{lines-head, lines-rows, lines-procs, tasks-range, procs-range, sems-range, queues-range}
-use native.Mathlib.Omega.{arith}
 use borrow.Author.Needs.{needs}
 use Rattle.faults.proofs.lines.Statement.{statement}
 use Rattle.faults.proofs.lines.Tie as tie

@@ -3,7 +3,6 @@ use Rattle.checks.specs.NodeChecks.{scopeIn}
 use Rattle.faults.specs.Rows.{Passed, passed-none, passed-all}
 use Rattle.faults.specs.LineSteps.{placeAt, nodes-more, nodes-found}
 use borrow.Author.Needs.{needs}
-use native.Mathlib.Omega.{arith}
 use Rattle.faults.proofs.nodes.Statement.{statement}
 use Rattle.faults.proofs.nodes.Tie as tie
 

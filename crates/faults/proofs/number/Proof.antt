@@ -1,5 +1,4 @@
 use Rattle.text.specs.Fault.{number}
-use native.Mathlib.Omega.{arith}
 use borrow.Author.Needs.{needs}
 use Rattle.faults.proofs.number.Statement.{statement}
 use Rattle.faults.proofs.number.Tie as tie

@@ -1,5 +1,4 @@
 use Rattle.faults.specs.LineSteps.{proc-line-found, proc-nodes-found, proc-range}
-use native.Mathlib.Omega.{arith}
 use borrow.Author.Needs.{needs}
 use Rattle.faults.proofs.proc.Statement.{statement}
 use Rattle.faults.proofs.proc.Tie as tie

@@ -1,5 +1,4 @@
 use Rattle.faults.specs.UnusedLaws.{head-range, proc-good, proc-bad, values-long}
-use native.Mathlib.Omega.{arith}
 use borrow.Author.Needs.{needs}
 use Rattle.faults.proofs.proc_fits.Statement.{statement}
 use Rattle.faults.proofs.proc_fits.Tie as tie

@@ -3,7 +3,6 @@ use Rattle.table.specs.Table.{procAt}
 use Rattle.faults.specs.Lines.{procNumber, procsNumber}
 use Rattle.faults.specs.Rows.{Passed, passed-none, passed-more, passed-found, passed-all}
 use borrow.Author.Needs.{needs}
-use native.Mathlib.Omega.{arith}
 use Rattle.faults.proofs.procs.Statement.{statement}
 use Rattle.faults.proofs.procs.Tie as tie
 

@@ -5,7 +5,6 @@ use Rattle.table.specs.Table.{procAt}
 use Rattle.faults.specs.Unused.{procFits, procsTidy}
 use Rattle.faults.specs.UnusedLaws.{Cleared, cleared-none, cleared-more, cleared-bad, cleared-all}
 use borrow.Author.Needs.{needs}
-use native.Mathlib.Omega.{arith}
 use Rattle.faults.proofs.procs_tidy.Statement.{statement}
 use Rattle.faults.proofs.procs_tidy.Tie as tie
 

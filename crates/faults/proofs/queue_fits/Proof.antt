@@ -1,5 +1,4 @@
 use Rattle.faults.specs.UnusedLaws.{queue-zero, queue-cap}
-use native.Mathlib.Omega.{arith}
 use borrow.Author.Needs.{needs}
 use Rattle.faults.proofs.queue_fits.Statement.{statement}
 use Rattle.faults.proofs.queue_fits.Tie as tie

@@ -4,7 +4,6 @@ use Rattle.faults.specs.Rows.{Passed, passed-none, passed-more, passed-f
 use Rattle.table.specs.Table.{noQueue}
 use Rattle.faults.specs.Lines.{rangeNumber, queuesNumber}
 use borrow.Author.Needs.{needs}
-use native.Mathlib.Omega.{arith}
 use Rattle.faults.proofs.queues.Statement.{statement}
 use Rattle.faults.proofs.queues.Tie as tie
 

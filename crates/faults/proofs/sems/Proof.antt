@@ -4,7 +4,6 @@ use Rattle.faults.specs.Rows.{Passed, passed-none, passed-more, passed-f
 use Rattle.table.specs.Table.{noSem}
 use Rattle.faults.specs.Lines.{rangeNumber, semsNumber}
 use borrow.Author.Needs.{needs}
-use native.Mathlib.Omega.{arith}
 use Rattle.faults.proofs.sems.Statement.{statement}
 use Rattle.faults.proofs.sems.Tie as tie
 

@@ -1,5 +1,4 @@
 use Rattle.faults.specs.LineSteps.{settled-gap, settled-fault}
-use native.Mathlib.Omega.{arith}
 use borrow.Author.Needs.{needs}
 use Rattle.faults.proofs.settled.Statement.{statement}
 use Rattle.faults.proofs.settled.Tie as tie

@@ -1,5 +1,4 @@
 use Rattle.faults.specs.UnusedLaws.{place-used, place-unused}
-use native.Mathlib.Omega.{arith}
 use borrow.Author.Needs.{needs}
 use Rattle.faults.proofs.slot_fits.Statement.{statement}
 use Rattle.faults.proofs.slot_fits.Tie as tie

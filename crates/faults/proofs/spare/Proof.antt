@@ -1,6 +1,5 @@
 use Rattle.faults.specs.UnusedLaws.{spare-used, spare-unused}
 use borrow.Author.Needs.{needs}
-use native.Mathlib.Omega.{arith}
 use Rattle.faults.proofs.spare.Statement.{statement}
 use Rattle.faults.proofs.spare.Tie as tie
 

@@ -5,7 +5,6 @@ use Rattle.table.specs.Table.{noTask}
 use Rattle.checks.specs.NodeChecks.{oneNumber}
 use Rattle.faults.specs.Lines.{tasksNumber}
 use borrow.Author.Needs.{needs}
-use native.Mathlib.Omega.{arith}
 use Rattle.faults.proofs.tasks.Statement.{statement}
 use Rattle.faults.proofs.tasks.Tie as tie
 

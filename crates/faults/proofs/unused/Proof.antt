@@ -1,5 +1,4 @@
 use Rattle.faults.specs.FaultLaws.{tidy-all, tidy-not}
-use native.Mathlib.Omega.{arith}
 use borrow.Author.Needs.{needs}
 use Rattle.faults.proofs.unused.Statement.{statement}
 use Rattle.faults.proofs.unused.Tie as tie

@@ -1,5 +1,4 @@
 use Rattle.graphs.specs.GraphLaws.{read-sound, drawable, refused-printed, graph-printed}
-use native.Mathlib.Omega.{arith}
 use borrow.Author.Needs.{needs}
 use Rattle.graphs.proofs.graph_text.Statement.{statement}
 use Rattle.graphs.proofs.graph_text.Tie as tie

@@ -1,4 +1,3 @@
-use Rattle.put.specs.PutLaws.{put-after, put-more, field-then}
 use borrow.Author.Tests.{eq-eqb, ne-eqb}
 use mathlib.Core.Path.{refl}
 use native.Mathlib.Omega.{arith}

@@ -1,8 +1,6 @@
 use Rattle.text.specs.ShapeLaws.{shaped}
 use Rattle.analysis.specs.ReadyLaws.{ready}
 use Rattle.keeps.specs.Keeps.{all-kept, open-kept}
-use borrow.Author.Needs.{needs}
-use native.Mathlib.Omega.{arith}
 use Rattle.keeps.proofs.kept.Statement.{statement}
 use Rattle.keeps.proofs.kept.Tie as tie
 use Rattle.keeps.proofs.kept.Reads as reads

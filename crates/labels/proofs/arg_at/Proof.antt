@@ -1,5 +1,4 @@
 use Rattle.labels.specs.LabelLaws.{arg-last}
-use native.Mathlib.Omega.{arith}
 use borrow.Author.Needs.{needs}
 use Rattle.labels.proofs.arg_at.Statement.{statement}
 use Rattle.labels.proofs.arg_at.Tie as tie

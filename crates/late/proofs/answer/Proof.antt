@@ -1,6 +1,4 @@
 use Rattle.late.specs.Steps.{answer-good, answer-arguments, answer-closing}
-use borrow.Author.Needs.{needs}
-use native.Mathlib.Omega.{arith}
 use Rattle.late.proofs.answer.Statement.{statement}
 use Rattle.late.proofs.answer.Tie as tie
 

@@ -1,6 +1,5 @@
 use Rattle.late.specs.Steps.{arc-good, arc-bad, arc-open}
 use borrow.Author.Needs.{needs}
-use native.Mathlib.Omega.{arith}
 use Rattle.late.proofs.arc.Statement.{statement}
 use Rattle.late.proofs.arc.Tie as tie
 

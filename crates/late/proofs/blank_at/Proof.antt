@@ -1,5 +1,4 @@
 use Rattle.late.specs.Steps.{no-queue}
-use native.Mathlib.Omega.{arith}
 use borrow.Author.Needs.{needs}
 use Rattle.late.proofs.blank_at.Statement.{statement}
 use Rattle.late.proofs.blank_at.Tie as tie

@@ -1,5 +1,4 @@
 use Rattle.late.specs.Steps.{call-in}
-use native.Mathlib.Omega.{arith}
 use borrow.Author.Needs.{needs}
 use Rattle.late.proofs.call.Statement.{statement}
 use Rattle.late.proofs.call.Tie as tie

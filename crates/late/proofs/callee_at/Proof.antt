@@ -1,5 +1,4 @@
 use Rattle.late.specs.Steps.{no-callee}
-use native.Mathlib.Omega.{arith}
 use borrow.Author.Needs.{needs}
 use Rattle.late.proofs.callee_at.Statement.{statement}
 use Rattle.late.proofs.callee_at.Tie as tie

@@ -1,6 +1,5 @@
 use Rattle.late.specs.Steps.{count-same, count-other}
 use borrow.Author.Needs.{needs}
-use native.Mathlib.Omega.{arith}
 use Rattle.late.proofs.count.Statement.{statement}
 use Rattle.late.proofs.count.Tie as tie
 

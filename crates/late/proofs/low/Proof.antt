@@ -1,6 +1,5 @@
 use Rattle.late.specs.MaskLaws.{low-all}
 use Rattle.late.specs.Steps.{power-pos, low-is}
-use native.Mathlib.Omega.{arith}
 use borrow.Author.Needs.{needs}
 use Rattle.late.proofs.low.Statement.{statement}
 use Rattle.late.proofs.low.Tie as tie

@@ -2,7 +2,6 @@ use mathlib.Core.Path.{refl}
 use Rattle.table.specs.Table.{isAbsent, arcTo, arcNo}
 use Rattle.text.specs.Reader.{countRight, removedRight}
 use Rattle.late.specs.NodeLaws.{absent-late, return-late, plain-late, test-late, call-late, queue-late}
-use native.Mathlib.Omega.{arith}
 use borrow.Author.Needs.{needs}
 use Rattle.late.proofs.node.Statement.{statement}
 use Rattle.late.proofs.node.Tie as tie

@@ -1,5 +1,4 @@
 use Rattle.late.specs.Walks.{node-step}
-use native.Mathlib.Omega.{arith}
 use borrow.Author.Needs.{needs}
 use Rattle.late.proofs.node_at.Statement.{statement}
 use Rattle.late.proofs.node_at.Tie as tie

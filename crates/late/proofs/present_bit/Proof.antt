@@ -1,5 +1,4 @@
 use Rattle.late.specs.Steps.{absent-bit, present-bit}
-use native.Mathlib.Omega.{arith}
 use borrow.Author.Needs.{needs}
 use Rattle.late.proofs.present_bit.Statement.{statement}
 use Rattle.late.proofs.present_bit.Tie as tie

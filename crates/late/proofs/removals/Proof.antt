@@ -1,5 +1,4 @@
 use Rattle.late.specs.Steps.{removals-good, removals-bad}
-use native.Mathlib.Omega.{arith}
 use borrow.Author.Needs.{needs}
 use Rattle.late.proofs.removals.Statement.{statement}
 use Rattle.late.proofs.removals.Tie as tie

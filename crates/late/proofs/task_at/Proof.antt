@@ -1,6 +1,5 @@
 use Rattle.late.specs.Steps.{task-drops}
 use Rattle.late.specs.Walks.{task-step}
-use native.Mathlib.Omega.{arith}
 use borrow.Author.Needs.{needs}
 use Rattle.late.proofs.task_at.Statement.{statement}
 use Rattle.late.proofs.task_at.Tie as tie

@@ -2,7 +2,6 @@ use Rattle.late.specs.Steps.{values-long}
 use Prim.Native.Nat.{_-_}
 use Rattle.late.specs.Steps.{Filled, filled-none, filled-more, filled-terms}
 use borrow.Author.Needs.{needs}
-use native.Mathlib.Omega.{arith}
 use Rattle.late.proofs.terms_of.Statement.{statement}
 use Rattle.late.proofs.terms_of.Tie as tie
 

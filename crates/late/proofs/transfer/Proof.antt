@@ -1,5 +1,4 @@
 use Rattle.late.specs.Steps.{transfer-in}
-use native.Mathlib.Omega.{arith}
 use borrow.Author.Needs.{needs}
 use Rattle.late.proofs.transfer.Statement.{statement}
 use Rattle.late.proofs.transfer.Tie as tie

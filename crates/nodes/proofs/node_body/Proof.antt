@@ -1,5 +1,4 @@
 use Rattle.nodes.specs.NodeLaws.{body-of}
-use native.Mathlib.Omega.{arith}
 use borrow.Author.Needs.{needs}
 use Rattle.nodes.proofs.node_body.Statement.{statement}
 use Rattle.nodes.proofs.node_body.Tie as tie

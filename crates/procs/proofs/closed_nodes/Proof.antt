@@ -1,5 +1,4 @@
 use Rattle.procs.specs.NodesLaws.{closed-stop, closed-index, closed-go, node-within}
-use native.Mathlib.Omega.{arith}
 use borrow.Author.Needs.{needs}
 use Rattle.procs.proofs.closed_nodes.Statement.{statement}
 use Rattle.procs.proofs.closed_nodes.Tie as tie

@@ -2,7 +2,6 @@ use Prim.Native.Nat.{_-_}
 use Rattle.nodes.specs.Answer.{scopeIn}
 use Rattle.procs.specs.NodesLaws.{Further, further-start, further-turn, further-stop, further-end, further-less, further-index}
 use borrow.Author.Needs.{needs}
-use native.Mathlib.Omega.{arith}
 use Rattle.procs.proofs.further_nodes.Statement.{statement}
 use Rattle.procs.proofs.further_nodes.Tie as tie
 use Rattle.procs.proofs.further_nodes.Reads as reads

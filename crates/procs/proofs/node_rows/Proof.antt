@@ -1,5 +1,4 @@
 use Rattle.procs.specs.NodesLaws.{nodes-form}
-use native.Mathlib.Omega.{arith}
 use borrow.Author.Needs.{needs}
 use Rattle.procs.proofs.node_rows.Statement.{statement}
 use Rattle.procs.proofs.node_rows.Tie as tie

@@ -1,5 +1,4 @@
 use Rattle.procs.specs.NodesLaws.{stands-at, stands-differs, stands-broken}
-use native.Mathlib.Omega.{arith}
 use borrow.Author.Needs.{needs}
 use Rattle.procs.proofs.node_stands.Statement.{statement}
 use Rattle.procs.proofs.node_stands.Tie as tie

@@ -2,7 +2,6 @@ use Prim.Native.Nat.{_-_}
 use Rattle.nodes.specs.Answer.{scopeIn}
 use Rattle.procs.specs.NodesLaws.{Opening, open-start, open-turn, open-stop, open-end}
 use borrow.Author.Needs.{needs}
-use native.Mathlib.Omega.{arith}
 use Rattle.procs.proofs.open_nodes.Statement.{statement}
 use Rattle.procs.proofs.open_nodes.Tie as tie
 use Rattle.procs.proofs.open_nodes.Reads as reads

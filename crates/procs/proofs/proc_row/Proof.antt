@@ -1,5 +1,4 @@
 use Rattle.procs.specs.ProcLaws.{row-refused, row-is, head-within, scope-fits, head-nodes}
-use native.Mathlib.Omega.{arith}
 use borrow.Author.Needs.{needs}
 use Rattle.procs.proofs.proc_row.Statement.{statement}
 use Rattle.procs.proofs.proc_row.Tie as tie

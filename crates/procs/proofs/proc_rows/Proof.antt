@@ -1,7 +1,6 @@
 use Prim.Native.Nat.{_-_}
 use Rattle.procs.specs.ProcLaws.{Procing, procs-start, procs-turn, procs-stop, procs-end}
 use borrow.Author.Needs.{needs}
-use native.Mathlib.Omega.{arith}
 use Rattle.procs.proofs.proc_rows.Statement.{statement}
 use Rattle.procs.proofs.proc_rows.Tie as tie
 use Rattle.procs.proofs.proc_rows.Reads as reads

@@ -1,5 +1,4 @@
 use Rattle.procs.specs.NodesLaws.{stopped-not, stopped-is}
-use native.Mathlib.Omega.{arith}
 use borrow.Author.Needs.{needs}
 use Rattle.procs.proofs.stopped.Statement.{statement}
 use Rattle.procs.proofs.stopped.Tie as tie

@@ -1,9 +1,9 @@
 -- On from a node: the open run executes nodes that are not kept until it meets a kept one, and the closed run takes the new arc there.
 use Prim.Native.Nat.{ℕ, zero, suc}
-use mathlib.Core.Path.{_≡_, refl, sym, _∙_, ap}
+use mathlib.Core.Path.{_≡_, refl, _∙_, ap}
 use mathlib.Core.Bool.{true, false}
 use mathlib.Core.Option.{Option, some}
-use mathlib.Core.List.{List, [], _∷_, _++_, List·Memᴰ, List·Memᴰ·head, List·Memᴰ·tail, List·Memᴰ·not-nil}
+use mathlib.Core.List.{List, [], _∷_, _++_, List·Memᴰ, List·Memᴰ·head}
 use lib.IntN.{ℤ}
 use Rattle.table.specs.Mask.{members}
 use Rattle.table.specs.MaskLaws.{members-is}

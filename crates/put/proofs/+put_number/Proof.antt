@@ -1,6 +1,5 @@
 use Rattle.put.specs.PutLaws.{put-same, put-same-2, large-room, last-room, number-four}
 use borrow.Author.Needs.{needs}
-use native.Mathlib.Omega.{arith}
 use Prim.Native.Nat.{ℕ, _<_}
 use borrow.Fn.Kinds.{In}
 use borrow.Fn.PlainCycle.{Measures, is, falls, and}

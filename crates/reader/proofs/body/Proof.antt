@@ -1,5 +1,4 @@
 use Rattle.reader.specs.ReaderLaws.{objects-place, body-stop, procs-stop, body-more, body-end}
-use native.Mathlib.Omega.{arith}
 use borrow.Author.Needs.{needs}
 use Rattle.reader.proofs.body.Statement.{statement}
 use Rattle.reader.proofs.body.Tie as tie

@@ -1,5 +1,4 @@
 use Rattle.reader.specs.ReaderLaws.{rows-place, tasks-stop, sems-stop, objects-end}
-use native.Mathlib.Omega.{arith}
 use borrow.Author.Needs.{needs}
 use Rattle.reader.proofs.object_rows.Statement.{statement}
 use Rattle.reader.proofs.object_rows.Tie as tie

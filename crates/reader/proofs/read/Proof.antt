@@ -1,5 +1,4 @@
 use Rattle.reader.specs.ReaderLaws.{read-long, read-few, read-stop, read-good, read-bad}
-use native.Mathlib.Omega.{arith}
 use borrow.Author.Needs.{needs}
 use Rattle.reader.proofs.read.Statement.{statement}
 use Rattle.reader.proofs.read.Tie as tie

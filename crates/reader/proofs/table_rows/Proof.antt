@@ -1,5 +1,4 @@
 use Rattle.reader.specs.ReaderLaws.{head-stop, head-place, counts-stop, counts-place, counts-fit, table-go}
-use native.Mathlib.Omega.{arith}
 use borrow.Author.Needs.{needs}
 use Rattle.reader.proofs.table_rows.Statement.{statement}
 use Rattle.reader.proofs.table_rows.Tie as tie

@@ -1,5 +1,4 @@
 use Rattle.fields.specs.FieldLaws.{number-within, number-next, number-stop, feed-stop, feed-last}
-use native.Mathlib.Omega.{arith}
 use borrow.Author.Needs.{needs}
 use Rattle.records.proofs.task_line.Statement.{statement}
 use Rattle.records.proofs.task_line.Tie as tie

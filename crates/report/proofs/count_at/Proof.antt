@@ -1,5 +1,4 @@
 use Rattle.report.specs.RowsLaws.{count-past}
-use native.Mathlib.Omega.{arith}
 use borrow.Author.Needs.{needs}
 use Rattle.report.proofs.count_at.Statement.{statement}
 use Rattle.report.proofs.count_at.Tie as tie

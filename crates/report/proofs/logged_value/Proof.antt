@@ -1,9 +1,7 @@
-use mathlib.Core.Path.{_≡_}
 use mir.Syntax.{w32}
-use mir.Val.{toZ, ofZ}
+use mir.Val.{toZ}
 use mir.Facts.{toZ-ofZ}
 use mathlib.Core.Path.{_∙_, ap}
-use native.Mathlib.Omega.{arith}
 use borrow.Author.Needs.{needs}
 use Rattle.report.proofs.logged_value.Statement.{statement}
 use Rattle.report.proofs.logged_value.Tie as tie

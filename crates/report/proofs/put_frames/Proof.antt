@@ -1,6 +1,5 @@
 use Rattle.put.specs.RowLaws.{PutRows, rows-start, rows-turn, rows-end}
 use Prim.Native.Nat.{_-_, _≤_}
-use mathlib.Core.Path.{sym}
 use Rattle.report.specs.Rows.{frameRow}
 use borrow.Author.Needs.{needs}
 use native.Mathlib.Omega.{arith}

@@ -3,7 +3,6 @@ use mir.Syntax.{w32}
 use mir.Val.{toZ, ofZ}
 use mir.Facts.{toZ-ofZ}
 use Rattle.report.specs.ValuesLaws.{item-first, item-next}
-use native.Mathlib.Omega.{arith}
 use borrow.Author.Needs.{needs}
 use Rattle.report.proofs.put_value.Statement.{statement}
 use Rattle.report.proofs.put_value.Tie as tie

@@ -3,7 +3,6 @@ use mir.Syntax.{w32}
 use mir.Val.{toZ, ofZ}
 use mir.Facts.{toZ-ofZ}
 use Rattle.put.specs.PutLaws.{put-after}
-use native.Mathlib.Omega.{arith}
 use borrow.Author.Needs.{needs}
 use Rattle.report.proofs.put_value_line.Statement.{statement}
 use Rattle.report.proofs.put_value_line.Tie as tie

@@ -1,7 +1,6 @@
 use mathlib.Core.Path.{sym}
 use lib.ListN.{List·getD-eq-default}
 use lib.IntN.{pos}
-use native.Mathlib.Omega.{arith}
 use borrow.Author.Needs.{needs}
 use Rattle.report.proofs.value_at.Statement.{statement}
 use Rattle.report.proofs.value_at.Tie as tie

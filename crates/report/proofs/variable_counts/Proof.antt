@@ -2,7 +2,6 @@ use mathlib.Core.Path.{refl}
 use Rattle.report.specs.RowsLaws.{Counting, counting-start, counting-turn, counting-end}
 use Prim.Native.Nat.{_-_}
 use borrow.Author.Needs.{needs}
-use native.Mathlib.Omega.{arith}
 use Rattle.report.proofs.variable_counts.Statement.{statement}
 use Rattle.report.proofs.variable_counts.Tie as tie
 

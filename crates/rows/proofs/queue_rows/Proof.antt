@@ -4,7 +4,6 @@ use Rattle.table.specs.Table.{noQueue}
 use Rattle.text.specs.Reader.{queueRow}
 use Rattle.rows.specs.RowLaws.{Rowing, rows-start, rows-turn, rows-stop, rows-end, queue-step, queue-stop}
 use borrow.Author.Needs.{needs}
-use native.Mathlib.Omega.{arith}
 use Rattle.rows.proofs.queue_rows.Statement.{statement}
 use Rattle.rows.proofs.queue_rows.Tie as tie
 use Rattle.rows.proofs.queue_rows.Reads as reads

@@ -4,7 +4,6 @@ use Rattle.table.specs.Table.{noSem}
 use Rattle.text.specs.Reader.{semRow}
 use Rattle.rows.specs.RowLaws.{Rowing, rows-start, rows-turn, rows-stop, rows-end, sem-step, sem-stop}
 use borrow.Author.Needs.{needs}
-use native.Mathlib.Omega.{arith}
 use Rattle.rows.proofs.sem_rows.Statement.{statement}
 use Rattle.rows.proofs.sem_rows.Tie as tie
 use Rattle.rows.proofs.sem_rows.Reads as reads

@@ -4,7 +4,6 @@ use Rattle.table.specs.Table.{noTask}
 use Rattle.text.specs.Reader.{taskRow}
 use Rattle.rows.specs.RowLaws.{Rowing, rows-start, rows-turn, rows-stop, rows-end, task-step, task-stop}
 use borrow.Author.Needs.{needs}
-use native.Mathlib.Omega.{arith}
 use Rattle.rows.proofs.task_rows.Statement.{statement}
 use Rattle.rows.proofs.task_rows.Tie as tie
 use Rattle.rows.proofs.task_rows.Reads as reads

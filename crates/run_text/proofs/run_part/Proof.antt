@@ -1,7 +1,6 @@
 use mathlib.Core.Path.{sym}
 use lib.Seq.{length-take-le}
 use Rattle.run_text.specs.TextLaws.{part-size, part-run}
-use native.Mathlib.Omega.{arith}
 use borrow.Author.Needs.{needs}
 use Rattle.run_text.proofs.run_part.Statement.{statement}
 use Rattle.run_text.proofs.run_part.Tie as tie

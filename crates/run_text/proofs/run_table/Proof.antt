@@ -1,5 +1,4 @@
 use Rattle.run_text.specs.TextLaws.{reportable, report-is}
-use native.Mathlib.Omega.{arith}
 use borrow.Author.Needs.{needs}
 use Rattle.run_text.proofs.run_table.Statement.{statement}
 use Rattle.run_text.proofs.run_table.Tie as tie

@@ -1,5 +1,4 @@
 use Rattle.run_text.specs.TextLaws.{sound-read, least-left, least-right, run-refused, run-whole}
-use native.Mathlib.Omega.{arith}
 use borrow.Author.Needs.{needs}
 use Rattle.run_text.proofs.run_text.Statement.{statement}
 use Rattle.run_text.proofs.run_text.Tie as tie

@@ -2,7 +2,6 @@ use Rattle.arguments.specs.ItemLaws.{number-is, number-none, number-small}
 use mathlib.Core.Path.{sym}
 use lib.Seq.{length-take-le}
 use Rattle.run_words.specs.WordsLaws.{within, log-missing, log-unread, log-further, log-run}
-use native.Mathlib.Omega.{arith}
 use borrow.Author.Needs.{needs}
 use Rattle.run_words.proofs.after_most.Statement.{statement}
 use Rattle.run_words.proofs.after_most.Tie as tie

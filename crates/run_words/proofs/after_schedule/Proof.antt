@@ -3,7 +3,6 @@ use Rattle.run_words.specs.WordsLaws.{values-missing, values-unread, val
 use mathlib.Core.Path.{sym}
 use lib.Seq.{length-take-le}
 use Rattle.machine.specs.Program.{saidValue}
-use native.Mathlib.Omega.{arith}
 use borrow.Author.Needs.{needs}
 use Rattle.run_words.proofs.after_schedule.Statement.{statement}
 use Rattle.run_words.proofs.after_schedule.Tie as tie

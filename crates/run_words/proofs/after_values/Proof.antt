@@ -1,6 +1,5 @@
-use Rattle.arguments.specs.ItemLaws.{number-is, number-none, number-small}
+use Rattle.arguments.specs.ItemLaws.{number-is, number-none}
 use Rattle.run_words.specs.WordsLaws.{most-missing, most-unread, most-said}
-use native.Mathlib.Omega.{arith}
 use borrow.Author.Needs.{needs}
 use Rattle.run_words.proofs.after_values.Statement.{statement}
 use Rattle.run_words.proofs.after_values.Tie as tie

@@ -3,7 +3,6 @@ use Rattle.run_words.specs.WordsLaws.{schedule-missing, schedule-unread,
 use mathlib.Core.Path.{sym}
 use lib.Seq.{length-take-le}
 use Rattle.machine.specs.Program.{saidUpTo}
-use native.Mathlib.Omega.{arith}
 use borrow.Author.Needs.{needs}
 use Rattle.run_words.proofs.run_words.Statement.{statement}
 use Rattle.run_words.proofs.run_words.Tie as tie

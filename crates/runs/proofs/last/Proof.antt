@@ -1,6 +1,5 @@
 use mathlib.Core.Path.{sym}
 use lib.Seq.{length-take-le}
-use native.Mathlib.Omega.{arith}
 use borrow.Author.Needs.{needs}
 use Rattle.runs.proofs.last.Statement.{statement}
 use Rattle.runs.proofs.last.Tie as tie

@@ -1,4 +1,4 @@
-use mathlib.Core.Path.{_≡_, ap, _∙_}
+use mathlib.Core.Path.{_∙_}
 use lib.IntN.{_+ℤ_, _-ℤ_}
 use lib.Signed.{ltZ}
 use lib.Bits.{bitAnd, bitOr, bitXor}
@@ -6,7 +6,6 @@ use mir.Syntax.{w32}
 use mir.Facts.{toZ-ofZ}
 use Rattle.table.specs.Values.{wrap, onBits, shr, truth, eqZ, apply}
 use Rattle.values.proofs.Signed.{through}
-use native.Mathlib.Omega.{arith}
 use borrow.Author.Needs.{needs}
 use Rattle.values.proofs.apply.Statement.{statement}
 use Rattle.values.proofs.apply.Tie as tie

@@ -1,8 +1,6 @@
-use mathlib.Core.Path.{_≡_, sym, ap}
+use mathlib.Core.Path.{sym, ap}
 use Rattle.table.specs.Values.{truth}
 use Rattle.values.proofs.Signed.{same-bits, other-bits}
-use borrow.Author.Needs.{needs}
-use native.Mathlib.Omega.{arith}
 use Rattle.values.proofs.eq.Statement.{statement}
 use Rattle.values.proofs.eq.Tie as tie
 

@@ -1,9 +1,7 @@
-use mathlib.Core.Path.{_≡_, sym, ap, _∙_}
+use mathlib.Core.Path.{sym, ap, _∙_}
 use lib.Signed.{ltZ}
 use Rattle.table.specs.Values.{truth}
 use Rattle.values.proofs.Signed.{through}
-use borrow.Author.Needs.{needs}
-use native.Mathlib.Omega.{arith}
 use Rattle.values.proofs.lt.Statement.{statement}
 use Rattle.values.proofs.lt.Tie as tie
 

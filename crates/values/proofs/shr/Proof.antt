@@ -1,4 +1,4 @@
-use mathlib.Core.Path.{_≡_, ap, _∙_}
+use mathlib.Core.Path.{ap, _∙_}
 use Prim.Native.Nat.{ℕ, _%_, _^_}
 use lib.IntN.{ℤ}
 use lib.Signed.{shrZ}
@@ -7,7 +7,6 @@ use mir.Val.{toZ, ofZ}
 use mir.Facts.{toZ-ofZ}
 use Rattle.table.specs.Values.{shr}
 use Rattle.values.proofs.Signed.{mod-bits, shr-fits}
-use native.Mathlib.Omega.{arith}
 use borrow.Author.Needs.{needs}
 use Rattle.values.proofs.shr.Statement.{statement}
 use Rattle.values.proofs.shr.Tie as tie
