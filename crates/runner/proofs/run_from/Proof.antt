@@ -32,21 +32,21 @@ use Rattle.runner.proofs.run_from.Statement.{statement}
 use Rattle.runner.proofs.run_from.Tie as tie
 
 abbrev Inv-loop2 : tie.InvT-loop2
-Inv-loop2 t before schedule values most log keep row caps procs nodes vars lens items depth lost sems rest n used k at i d f tp tn a back g to p o pi kp w₀ far₀ arc₀ us₀ m₀ w far arc us m =
+Inv-loop2 t before schedule values most log keep row caps procs nodes vars lens items depth lost sems w₀ rest n used k at i d f tp tn a back g to p o pi kp far₀ arc₀ us₀ m₀ w far arc us m =
     let l₀ = set (getD vars g []) (o .var) (o .value) in
     ((mm : Memory) → met (heading t values p most (withVars mm l₀) (o .arc) (o .used)) ≡ met (heading t values p m (withVars mm (pick far w l₀)) arc us)) × ((us ≤ length values) × (length (pick far w l₀) ≡ 16))
 
 abbrev μ-loop2 : tie.MeasureT-loop2
-μ-loop2 t before schedule values most log keep row caps procs nodes vars lens items depth lost sems rest n used k at i d f tp tn a back g to p o pi kp w₀ far₀ arc₀ us₀ m₀ w far arc us m = m
+μ-loop2 t before schedule values most log keep row caps procs nodes vars lens items depth lost sems w₀ rest n used k at i d f tp tn a back g to p o pi kp far₀ arc₀ us₀ m₀ w far arc us m = m
 
 abbrev Inv-loop : tie.InvT-loop
-Inv-loop t before schedule values most log₀ keep row caps procs₀ nodes₀ vars₀ lens₀ items₀ depth₀ lost₀ sems₀ rest₀ n₀ used₀ log procs nodes vars lens items depth lost sems rest n used =
+Inv-loop t before schedule values most log₀ keep row caps procs₀ nodes₀ vars₀ lens₀ items₀ depth₀ lost₀ sems₀ w₀ rest₀ n₀ used₀ log procs nodes vars lens items depth lost sems w rest n used =
     let u = stateOf depth lost procs nodes vars sems lens items in
     (runFrom t (keptIn t) most values schedule 0 (stateOf depth₀ lost₀ procs₀ nodes₀ vars₀ sems₀ lens₀ items₀) (drop before values) log₀ ≡ runFrom t (keptIn t) most values rest n u (drop used values) log) ×
     (Good t u × (Shape procs nodes vars lens items × ((used ≤ length values) × ((8 * n ≤ length log) × ((length log ≡ length log₀) × (length log < 18446744073709551616))))))
 
 abbrev μ-loop : tie.MeasureT-loop
-μ-loop t before schedule values most log₀ keep row caps procs₀ nodes₀ vars₀ lens₀ items₀ depth₀ lost₀ sems₀ rest₀ n₀ used₀ log procs nodes vars lens items depth lost sems rest n used = length rest
+μ-loop t before schedule values most log₀ keep row caps procs₀ nodes₀ vars₀ lens₀ items₀ depth₀ lost₀ sems₀ w₀ rest₀ n₀ used₀ log procs nodes vars lens items depth lost sems w rest n used = length rest
 
 begins : (c : tie.After-items Inv-loop2 μ-loop2 Inv-loop μ-loop) → stateOf ((c .before .before .before .before .before .before .before .before .before .before .args) .s .depth) ((c .before .before .before .before .before .before .before .before .before .before .args) .s .lost) ((c .before .before .before .before .procs) .result) ((c .before .before .before .nodes) .result) ((c .before .before .vars) .result) ((c .before .before .before .before .before .before .before .before .before .before .args) .s .sems) ((c .before .lens) .result) ((c .items) .result) ≡ (c .before .before .before .before .before .before .before .before .before .before .args) .s
 begins c = state-of ((c .before .before .before .before .before .before .before .before .before .before .pre) .1 .0) ((c .before .before .before .before .procs) .ensures) ((c .before .before .before .nodes) .ensures) ((c .before .before .vars) .ensures) ((c .before .lens) .ensures .0) ((c .items) .ensures .0)
