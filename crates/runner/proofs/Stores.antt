@@ -2,13 +2,13 @@
 use mathlib.Core.Path.{_≡_, refl, sym, _∙_, ap}
 use mathlib.Core.Bool.{Bool, true, false}
 use mathlib.Core.List.{List, [], _∷_, _++_}
-use Prim.Native.Nat.{ℕ, suc, _<_}
+use Prim.Native.Nat.{ℕ, suc, _-_, _<_}
 use native.Mathlib.Omega.{arith}
 use lib.ListN.{length, getD, set, length-set}
 use lib.Seq.{set-getD, getD-set-other}
 use lib.Dec.{eqb}
 use lib.IntN.{ℤ, pos}
-use borrow.Author.Tests.{eqb-true, eqb-false}
+use borrow.Author.Tests.{eqb-false, eq-eqb, ne-eqb}
 use Rattle.table.specs.Mask.{pick}
 use Rattle.table.specs.declared.Table.{Table}
 use Rattle.machine.specs.declared.Frame.{Frame}
@@ -102,33 +102,77 @@ module _ {ps ns : List ℕ} {vs : List (List ℤ)} {ls : List ℕ} {is : List (L
     pub shape-after : Shape ps ns vs (lensAfter ls how at c) (itemsAfter is ls how at x)
     shape-after = record { procs = shape .procs; nodes = shape .nodes; vars = shape .vars; lens = lens-long; items = items-long .0; rows = items-long .1 }
 
--- ---- two frames stored: the topmost's place, then that of the frame that goes on
+-- ---- the topmost frame's place, cleared on a return alone, then that of the frame that goes on
 
-pub frames-after : (ps ns : List ℕ) (vs : List (List ℤ)) (f g p n : ℕ) (u l : List ℤ)
-    → framesOf (set (set ps f 0) g p) (set (set ns f 0) g n) (set (set vs f u) g l) ≡ set (set (framesOf ps ns vs) f (record { proc = 0; node = 0; vars = u })) g (record { proc = p; node = n; vars = l })
-frames-after ps ns vs f g p n u l = frame-set (set ps f 0) (set ns f 0) (set vs f u) g p n l ∙ ap (λ (r : List Frame). set r g (record { proc = p; node = n; vars = l })) (frame-set ps ns vs f 0 0 u)
+module _ (ps ns : List ℕ) (vs : List (List ℤ)) (ds : List ℕ) (f i back : ℕ) where
+  -- what then stands in the topmost frame's place
+  abbrev pub onTop : Frame
+  onTop = record { proc = pick (eqb back 0) (getD ps f 0) 0; node = pick (eqb back 0) (getD ns f 0) 0; vars = pick (eqb back 0) (getD vs f []) noVars }
 
-module _ (vs : List (List ℤ)) (f g back : ℕ) (apart : (back ≡ 0 → ⊥) → g ≡ f → ⊥) where
-  abbrev cleared : List ℤ
-  cleared = pick (eqb back 0) (getD vs f []) noVars
+  pub record Closed (ps′ ns′ : List ℕ) (vs′ : List (List ℤ)) (ds′ : List ℕ) : Type 0 where
+    pub procs : ps′ ≡ set ps f (onTop .proc)
+    pub nodes : ns′ ≡ set ns f (onTop .node)
+    pub vars : vs′ ≡ set vs f (onTop .vars)
+    pub depth : ds′ ≡ set ds i (getD ds i 0 - back)
 
-  pub vars-still : getD (set vs f cleared) g [] ≡ getD vs g []
-  vars-still = go (eqb back 0) refl
+  module _ {ps′ ns′ : List ℕ} {vs′ : List (List ℤ)} {ds′ : List ℕ} where
+    pub stays-open : back ≡ 0 → ps′ ≡ ps → ns′ ≡ ns → vs′ ≡ vs → ds′ ≡ ds → Closed ps′ ns′ vs′ ds′
+    stays-open z a b c d =
+        let k : getD ds i 0 - back ≡ getD ds i 0 = omega arith in
+        record {
+          procs = rw (eq-eqb back 0 z) (a ∙ sym (set-getD ps f 0));
+          nodes = rw (eq-eqb back 0 z) (b ∙ sym (set-getD ns f 0));
+          vars = rw (eq-eqb back 0 z) (c ∙ sym (set-getD vs f []));
+          depth = rw k (d ∙ sym (set-getD ds i 0));
+        }
+
+    pub is-closed : {u : List ℤ} → (back ≡ 0 → ⊥) → u ≡ onTop .vars → ps′ ≡ set ps f 0 → ns′ ≡ set ns f 0 → vs′ ≡ set vs f u → ds′ ≡ set ds i (getD ds i 0 - back) → Closed ps′ ns′ vs′ ds′
+    is-closed h e a b c d = record { procs = rw (ne-eqb back 0 h) a; nodes = rw (ne-eqb back 0 h) b; vars = c ∙ ap (set vs f) e; depth = d }
+
+  pub top-none : (back ≡ 0 → ⊥) → onTop ≡ noFrame
+  top-none h = rw (ne-eqb back 0 h) refl
+
+  pub top-good : getD ps f 0 < 8 → getD ns f 0 < 32 → length (getD vs f []) ≡ 16 → FrameGood onTop
+  top-good p n l = record { proc = at-proc (eqb back 0); node = at-node (eqb back 0); vars = at-vars (eqb back 0) }
     where
-      go : (b : Bool) → eqb back 0 ≡ b → getD (set vs f (pick b (getD vs f []) noVars)) g [] ≡ getD vs g []
-      go true e = ap (λ (l : List (List ℤ)). getD l g []) (set-getD vs f [])
-      go false e = getD-set-other vs f g noVars [] (apart (eqb-false back 0 e))
+      at-proc : (b : Bool) → pick b (getD ps f 0) 0 < 8
+      at-proc true = p
+      at-proc false = omega arith
 
-  pub cleared-none : (back ≡ 0 → ⊥) → _≡_ {A = Frame} (record { proc = 0; node = 0; vars = cleared }) noFrame
-  cleared-none h = go (eqb back 0) refl
-    where
-      go : (b : Bool) → eqb back 0 ≡ b → _≡_ {A = Frame} (record { proc = 0; node = 0; vars = pick b (getD vs f []) noVars }) noFrame
-      go true e = absurd (h (eqb-true back 0 e))
-      go false e = refl
+      at-node : (b : Bool) → pick b (getD ns f 0) 0 < 32
+      at-node true = n
+      at-node false = omega arith
 
-  pub cleared-good : length (getD vs f []) ≡ 16 → FrameGood (record { proc = 0; node = 0; vars = cleared })
-  cleared-good h = record { proc = omega arith; node = omega arith; vars = go (eqb back 0) }
-    where
-      go : (b : Bool) → length (pick b (getD vs f []) noVars) ≡ 16
-      go true = h
-      go false = refl
+      at-vars : (b : Bool) → length (pick b (getD vs f []) noVars) ≡ 16
+      at-vars true = l
+      at-vars false = refl
+
+  module _ (g : ℕ) (apart : (back ≡ 0 → ⊥) → g ≡ f → ⊥) {ps′ ns′ : List ℕ} {vs′ : List (List ℤ)} {ds′ : List ℕ} (shut : Closed ps′ ns′ vs′ ds′) where
+    still : {A : Type 0} (l : List A) (x y : A) → getD (set l f (pick (eqb back 0) (getD l f x) y)) g x ≡ getD l g x
+    still {A} l x y = go (eqb back 0) refl
+      where
+        go : (b : Bool) → eqb back 0 ≡ b → getD (set l f (pick b (getD l f x) y)) g x ≡ getD l g x
+        go true e = ap (λ (r : List A). getD r g x) (set-getD l f x)
+        go false e = getD-set-other l f g y x (apart (eqb-false back 0 e))
+
+    pub vars-still : getD vs′ g [] ≡ getD vs g []
+    vars-still = ap (λ (l : List (List ℤ)). getD l g []) (shut .vars) ∙ still vs [] noVars
+
+    proc-still : ps′ ≡ set (set ps f (onTop .proc)) g (getD ps g 0)
+    proc-still = shut .procs ∙ sym (set-getD (set ps f (onTop .proc)) g 0) ∙ ap (set (set ps f (onTop .proc)) g) (still ps 0 0)
+
+    pub frames-after : (n : ℕ) (l : List ℤ) → framesOf ps′ (set ns′ g n) (set vs′ g l) ≡ set (set (framesOf ps ns vs) f onTop) g (record { proc = getD ps g 0; node = n; vars = l })
+    frames-after n l =
+        (λ j. framesOf (proc-still j) (set (shut .nodes j) g n) (set (shut .vars j) g l)) ∙
+        frame-set (set ps f (onTop .proc)) (set ns f (onTop .node)) (set vs f (onTop .vars)) g (getD ps g 0) n l ∙
+        ap (λ (r : List Frame). set r g (record { proc = getD ps g 0; node = n; vars = l })) (frame-set ps ns vs f (onTop .proc) (onTop .node) (onTop .vars))
+
+    pub shape-closed : (n : ℕ) (l : List ℤ) {ls : List ℕ} {is : List (List ℤ)} → Shape ps ns vs ls is → Shape ps′ (set ns′ g n) (set vs′ g l) ls is
+    shape-closed n l shape = record {
+      procs = ap length (shut .procs) ∙ length-set ps f (onTop .proc) ∙ shape .procs;
+      nodes = length-set ns′ g n ∙ ap length (shut .nodes) ∙ length-set ns f (onTop .node) ∙ shape .nodes;
+      vars = length-set vs′ g l ∙ ap length (shut .vars) ∙ length-set vs f (onTop .vars) ∙ shape .vars;
+      lens = shape .lens;
+      items = shape .items;
+      rows = shape .rows;
+    }

@@ -1,11 +1,11 @@
 -- What the proofs of the small functions lean on.
 use mathlib.Core.Path.{_≡_, refl, _∙_, ap}
 use mathlib.Core.Bool.{Bool, true, false}
-use mathlib.Core.List.{List, [], _∷_, _++_}
+use mathlib.Core.List.{List, [], _∷_}
 use Prim.Native.Nat.{ℕ, zero, suc, _+_, _-_, _/_, _%_, _^_, _<_, _≤_}
 use native.Mathlib.Omega.{arith}
 use native.Mathlib.Numerals.{add-one}
-use lib.ListN.{length, getD, set, drop}
+use lib.ListN.{length, getD, set}
 use lib.Seq.{sets}
 use lib.Dec.{ltb}
 use lib.IntN.{ℤ, pos, negsuc}
@@ -92,20 +92,20 @@ entering-is l q xs h e f g k =
     rw (le-ltb 4 (xs .len) (omega arith), le-ltb 5 (xs .len) (omega arith), le-ltb 6 (xs .len) (omega arith), le-ltb 7 (xs .len) (omega arith), le-ltb 8 (xs .len) (omega arith), le-ltb 9 (xs .len) (omega arith), le-ltb 10 (xs .len) (omega arith), le-ltb 11 (xs .len) (omega arith), le-ltb 12 (xs .len) (omega arith), le-ltb 13 (xs .len) (omega arith), le-ltb 14 (xs .len) (omega arith), le-ltb 15 (xs .len) (omega arith)) refl
 
 -- ---- queues
-abbrev shifted : List ℤ → List ℤ
-shifted a = getD a 1 (pos 0) ∷ getD a 2 (pos 0) ∷ getD a 3 (pos 0) ∷ getD a 4 (pos 0) ∷ getD a 5 (pos 0) ∷ getD a 6 (pos 0) ∷ getD a 7 (pos 0) ∷ pos 0 ∷ []
 
-shift-is : (l : List ℤ) → length l ≡ 8 → shifted l ≡ drop 1 l ++ (pos 0 ∷ [])
-shift-is (a ∷ b ∷ c ∷ d ∷ e ∷ f ∷ g ∷ h ∷ []) z = refl
-shift-is [] z = absurd (omega arith)
-shift-is (a ∷ []) z = absurd (omega arith)
-shift-is (a ∷ b ∷ []) z = absurd (omega arith)
-shift-is (a ∷ b ∷ c ∷ []) z = absurd (omega arith)
-shift-is (a ∷ b ∷ c ∷ d ∷ []) z = absurd (omega arith)
-shift-is (a ∷ b ∷ c ∷ d ∷ e ∷ []) z = absurd (omega arith)
-shift-is (a ∷ b ∷ c ∷ d ∷ e ∷ f ∷ []) z = absurd (omega arith)
-shift-is (a ∷ b ∷ c ∷ d ∷ e ∷ f ∷ g ∷ []) z = absurd (omega arith)
-shift-is (a ∷ b ∷ c ∷ d ∷ e ∷ f ∷ g ∷ h ∷ i ∷ l) z = absurd (omega arith)
+pub popped-is : (l : List ℤ) {a b c d e f g : ℤ} → length l ≡ 8
+    → a ≡ getD l 1 (pos 0) → b ≡ getD (set l 0 a) 2 (pos 0) → c ≡ getD (set (set l 0 a) 1 b) 3 (pos 0) → d ≡ getD (set (set (set l 0 a) 1 b) 2 c) 4 (pos 0) → e ≡ getD (set (set (set (set l 0 a) 1 b) 2 c) 3 d) 5 (pos 0) → f ≡ getD (set (set (set (set (set l 0 a) 1 b) 2 c) 3 d) 4 e) 6 (pos 0) → g ≡ getD (set (set (set (set (set (set l 0 a) 1 b) 2 c) 3 d) 4 e) 5 f) 7 (pos 0)
+    → set (set (set (set (set (set (set (set l 0 a) 1 b) 2 c) 3 d) 4 e) 5 f) 6 g) 7 (pos 0) ≡ shiftedOf l
+popped-is (x ∷ y ∷ z ∷ u ∷ v ∷ w ∷ s ∷ t ∷ []) k ea eb ec ed ee ef eg = λ i. ea i ∷ eb i ∷ ec i ∷ ed i ∷ ee i ∷ ef i ∷ eg i ∷ pos 0 ∷ []
+popped-is [] k ea eb ec ed ee ef eg = absurd (omega arith)
+popped-is (x ∷ []) k ea eb ec ed ee ef eg = absurd (omega arith)
+popped-is (x ∷ y ∷ []) k ea eb ec ed ee ef eg = absurd (omega arith)
+popped-is (x ∷ y ∷ z ∷ []) k ea eb ec ed ee ef eg = absurd (omega arith)
+popped-is (x ∷ y ∷ z ∷ u ∷ []) k ea eb ec ed ee ef eg = absurd (omega arith)
+popped-is (x ∷ y ∷ z ∷ u ∷ v ∷ []) k ea eb ec ed ee ef eg = absurd (omega arith)
+popped-is (x ∷ y ∷ z ∷ u ∷ v ∷ w ∷ []) k ea eb ec ed ee ef eg = absurd (omega arith)
+popped-is (x ∷ y ∷ z ∷ u ∷ v ∷ w ∷ s ∷ []) k ea eb ec ed ee ef eg = absurd (omega arith)
+popped-is (x ∷ y ∷ z ∷ u ∷ v ∷ w ∷ s ∷ t ∷ r ∷ l) k ea eb ec ed ee ef eg = absurd (omega arith)
 
 -- ---- eight bytes of the log
 pub put-is : (l : List ℕ) (at a b c d e f g h : ℕ)
@@ -120,8 +120,3 @@ put-is l at a b c d e f g h =
     let e6 : at + 6 ≡ suc (suc (suc (suc (suc (suc at))))) = omega arith in
     let e7 : at + 7 ≡ suc (suc (suc (suc (suc (suc (suc at)))))) = omega arith in
     rw (e1, e2, e3, e4, e5, e6, e7) refl
-
-pub popped-is : (l : List ℤ) {a b c d f g h : ℤ} → length l ≡ 8
-    → a ≡ getD l 1 (pos 0) → b ≡ getD l 2 (pos 0) → c ≡ getD l 3 (pos 0) → d ≡ getD l 4 (pos 0) → f ≡ getD l 5 (pos 0) → g ≡ getD l 6 (pos 0) → h ≡ getD l 7 (pos 0)
-    → (a ∷ b ∷ c ∷ d ∷ f ∷ g ∷ h ∷ pos 0 ∷ []) ≡ shiftedOf l
-popped-is l z ea eb ec ed ef eg eh = (λ i. ea i ∷ eb i ∷ ec i ∷ ed i ∷ ef i ∷ eg i ∷ eh i ∷ pos 0 ∷ []) ∙ shift-is l z

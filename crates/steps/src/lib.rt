@@ -483,14 +483,14 @@ fn pop(items: &mut [i32; 8])
     requires { ⌜ length (now items) ≡ 8 ⌝ }
     ensures { λ _. ⌜ now (items .exit) ≡ shiftedOf (now (items .entry)) ⌝ }
 {
-    let a = items[1];
-    let b = items[2];
-    let c = items[3];
-    let d = items[4];
-    let e = items[5];
-    let f = items[6];
-    let g = items[7];
-    *items = [a, b, c, d, e, f, g, 0];
+    items[0] = items[1];
+    items[1] = items[2];
+    items[2] = items[3];
+    items[3] = items[4];
+    items[4] = items[5];
+    items[5] = items[6];
+    items[6] = items[7];
+    items[7] = 0;
 }
 
 pub fn affect<'a>(

@@ -3,39 +3,71 @@ use Rattle.steps.proofs.Leaves.{again, popped-is}
 use Rattle.steps.proofs.pop.Statement.{statement}
 use Rattle.steps.proofs.pop.Tie as tie
 
-element-copy-out-a : tie.Need-element-copy-out-a
-element-copy-out-a c = search needs
+element-copy-out-items : tie.Need-element-copy-out-items
+element-copy-out-items c = search needs
 
-element-copy-out-b : tie.Need-element-copy-out-b
-element-copy-out-b c = search needs
+element-set-from-items : tie.Need-element-set-from-items
+element-set-from-items c = search needs
 
-element-copy-out-c : tie.Need-element-copy-out-c
-element-copy-out-c c = search needs
+element-copy-out-items-2 : tie.Need-element-copy-out-items-2
+element-copy-out-items-2 c = search needs
 
-element-copy-out-d : tie.Need-element-copy-out-d
-element-copy-out-d c = search needs
+element-set-from-items-2 : tie.Need-element-set-from-items-2
+element-set-from-items-2 c = search needs
 
-element-copy-out-e : tie.Need-element-copy-out-e
-element-copy-out-e c = search needs
+element-copy-out-items-3 : tie.Need-element-copy-out-items-3
+element-copy-out-items-3 c = search needs
 
-element-copy-out-f : tie.Need-element-copy-out-f
-element-copy-out-f c = search needs
+element-set-from-items-3 : tie.Need-element-set-from-items-3
+element-set-from-items-3 c = search needs
 
-element-copy-out-g : tie.Need-element-copy-out-g
-element-copy-out-g c = search needs
+element-copy-out-items-4 : tie.Need-element-copy-out-items-4
+element-copy-out-items-4 c = search needs
+
+element-set-from-items-4 : tie.Need-element-set-from-items-4
+element-set-from-items-4 c = search needs
+
+element-copy-out-items-5 : tie.Need-element-copy-out-items-5
+element-copy-out-items-5 c = search needs
+
+element-set-from-items-5 : tie.Need-element-set-from-items-5
+element-set-from-items-5 c = search needs
+
+element-copy-out-items-6 : tie.Need-element-copy-out-items-6
+element-copy-out-items-6 c = search needs
+
+element-set-from-items-6 : tie.Need-element-set-from-items-6
+element-set-from-items-6 c = search needs
+
+element-copy-out-items-7 : tie.Need-element-copy-out-items-7
+element-copy-out-items-7 c = search needs
+
+element-set-from-items-7 : tie.Need-element-set-from-items-7
+element-set-from-items-7 c = search needs
+
+element-set-of-items : tie.Need-element-set-of-items
+element-set-of-items c = search needs
 
 returns : tie.Need-returns
-returns c = popped-is ((c .before .before .before .before .before .before .before .before .args) .items .now) ((c .before .before .before .before .before .before .before .before .pre)) (again _ (record { sfits = (c .before .before .before .before .before .before .before .a) .given })) (again _ (record { sfits = (c .before .before .before .before .before .before .b) .given })) (again _ (record { sfits = (c .before .before .before .before .before .c) .given })) (again _ (record { sfits = (c .before .before .before .before .d) .given })) (again _ (record { sfits = (c .before .before .before .e) .given })) (again _ (record { sfits = (c .before .before .f) .given })) (again _ (record { sfits = (c .before .g) .given }))
+returns c = popped-is ((c .before .before .before .before .before .before .before .args) .items .now) (c .before .before .before .before .before .before .before .pre) (again _ (record { sfits = (c .before .before .before .before .before .before .items) .given })) (again _ (record { sfits = (c .before .before .before .before .before .items2) .given })) (again _ (record { sfits = (c .before .before .before .before .items3) .given })) (again _ (record { sfits = (c .before .before .before .items4) .given })) (again _ (record { sfits = (c .before .before .items5) .given })) (again _ (record { sfits = (c .before .items6) .given })) (again _ (record { sfits = (c .items7) .given }))
 
 pub pop-spec : {M : Type 1} → statement M
 pop-spec =
     tie.close
     (tie.spec
-    element-copy-out-a
-    element-copy-out-b
-    element-copy-out-c
-    element-copy-out-d
-    element-copy-out-e
-    element-copy-out-f
-    element-copy-out-g
+    element-copy-out-items
+    element-set-from-items
+    element-copy-out-items-2
+    element-set-from-items-2
+    element-copy-out-items-3
+    element-set-from-items-3
+    element-copy-out-items-4
+    element-set-from-items-4
+    element-copy-out-items-5
+    element-set-from-items-5
+    element-copy-out-items-6
+    element-set-from-items-6
+    element-copy-out-items-7
+    element-set-from-items-7
+    element-set-of-items
     returns)
