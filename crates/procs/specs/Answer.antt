@@ -1,17 +1,19 @@
 -- What the readers of procedures answer.
-use Prim.Native.Nat.{ℕ, suc, _+_, _≤_}
+use Prim.Native.Nat.{ℕ, zero, suc, _+_, _≤_}
 use mathlib.Core.Path.{_≡_}
 use mathlib.Core.Bool.{Bool, true, false}
 use mathlib.Core.List.{List}
+use lib.Dec.{ltb}
 use lib.ListN.{drop, replicate}
+use Rattle.table.specs.Mask.{pick}
 use Rattle.table.specs.Table.{noProc}
 use Rattle.table.specs.declared.Slot.{Slot}
 use Rattle.table.specs.declared.Proc.{Proc}
 use Rattle.text.specs.declared.Fault.{Fault}
 use Rattle.text.specs.Number.{bytes}
-use Rattle.text.specs.Line.{Parser, _>>=_, give, After, at as stands, differs, broken, after}
+use Rattle.text.specs.Line.{Parser, After, at as stands, differs, broken, after}
 use Rattle.text.specs.Format.{Scope as Judged}
-use Rattle.text.specs.Reader.{nodeRow, slotOf, furtherNodes, nodesOf, procRow}
+use Rattle.text.specs.Reader.{nodesOf, procRow}
 use Rattle.records.specs.declared.Counts.{Counts}
 use Rattle.records.specs.declared.ProcHead.{ProcHead}
 use Rattle.records.specs.declared.ProcLine.{ProcLine}
@@ -39,15 +41,19 @@ stood broken = false
 abbrev pub nodeStands : List ℕ → ℕ → Bool
 nodeStands s at = stood (after (bytes "node=") (drop at s))
 
--- open form: the line whose number is j
-abbrev pub openRow : Judged → ℕ → Parser Slot
-openRow c j = nodeRow c j (suc j) >>= λ x. give (slotOf x)
+-- the next line is a further one: in closed form, behind the first; next is the least number that it may have
+abbrev pub isFurther : Bool → ℕ → Bool
+isFurther false next = false
+isFurther true zero = false
+isFurther true (suc last) = true
 
--- closed form: the lines behind the first
-pub record FurtherAt (c : Judged) (first : List Slot) (s : List ℕ) (at line : ℕ) (r : Slots) : Type 0 where
-  pub same : endIn s (r .line) (r .slots) (r .end) ≡ furtherNodes c (c .nodes) 0 first line (drop at s)
-  pub within : endWithin s (r .end)
-  pub lines : r .line ≤ line + 31
+-- a line is due
+abbrev pub lineDue : Bool → ℕ → ℕ → List ℕ → ℕ → Bool
+lineDue closed next n s at = pick (isFurther closed next) (nodeStands s at) (ltb next n)
+
+-- what the next line's number stays below
+abbrev pub numberBelow : Bool → ℕ → ℕ → ℕ
+numberBelow closed next n = pick (isFurther closed next) n (suc next)
 
 -- the node lines of a procedure
 pub record SlotsAt (c : Judged) (closed : Bool) (s : List ℕ) (at line : ℕ) (r : Slots) : Type 0 where

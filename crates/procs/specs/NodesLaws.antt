@@ -1,11 +1,13 @@
 -- Node line after node line: what is left to do from here gives the whole.
-use Prim.Native.Nat.{ℕ, suc, _+_, _-_, _≤_, _<_}
+use Prim.Native.Nat.{ℕ, zero, suc, _+_, _-_, _≤_, _<_}
 use mathlib.Core.Path.{_≡_, refl, sym, _∙_, ap}
 use mathlib.Core.Bool.{Bool, true, false}
 use mathlib.Core.List.{List}
 use native.Mathlib.Omega.{arith}
 use native.Mathlib.Numerals.{add-one}
+use lib.Dec.{ltb}
 use lib.ListN.{length, drop, set, length-set}
+use borrow.Author.Tests.{ltb-true, ltb-false, lt-ltb}
 use Rattle.table.specs.Table.{noSlots}
 use Rattle.table.specs.declared.Node.{Node}
 use Rattle.table.specs.declared.Slot.{Slot}
@@ -14,12 +16,12 @@ use Rattle.text.specs.declared.Fault.the-variants.{Form, Index}
 use Rattle.text.specs.Number.{bytes}
 use Rattle.text.specs.Value.{check, number}
 use Rattle.text.specs.ValueLaws.{no}
-use Rattle.text.specs.Line.{took, refused, Parser, After, at as stands, differs, broken, line, lineFault}
+use Rattle.text.specs.Line.{took, refused, Parser, _>>=_, give, After, at as stands, differs, broken, line, lineFault}
 use Rattle.text.specs.LineLaws.{line-read}
 use Rattle.text.specs.RowLaws.{or-left}
 use Rattle.text.specs.NodeLaws.{number-fact}
 use Rattle.text.specs.Format.{Scope as Judged, nodeLine}
-use Rattle.text.specs.Reader.{Numbered, nodeRow, ifKey, furtherNodes}
+use Rattle.text.specs.Reader.{rows, Numbered, nodeRow, slotOf, ifKey, furtherNodes, nodesOf}
 use Rattle.scan.specs.declared.Found.{Found}
 use Rattle.scan.specs.declared.Found.the-variants.{At as FoundAt, Differs, Broken}
 use Rattle.scan.specs.Place.{AfterKey}
@@ -28,9 +30,8 @@ use Rattle.nodes.specs.declared.Line.{Line}
 use Rattle.nodes.specs.declared.Line.the-variants.{Node as IsNode, Refused as NotNode}
 use Rattle.nodes.specs.Answer.{numbered, NodeAt}
 use Rattle.rows.specs.declared.End.the-variants.{At, Refused}
-use Rattle.rows.specs.RowLaws.{Stop, Rowing, rows-start, rows-turn, rows-stop, rows-end}
 use Rattle.procs.specs.declared.Slots.{Slots}
-use Rattle.procs.specs.Answer.{stoppedOf, stood, nodeStands, openRow, FurtherAt, SlotsAt}
+use Rattle.procs.specs.Answer.{stoppedOf, stood, nodeStands, isFurther, lineDue, numberBelow, SlotsAt}
 
 -- ---- a refused line; a line beginning `node=`
 module _ {r : Line} {l : List Slot} where
@@ -58,17 +59,17 @@ module _ {c : Judged} {lo n : ℕ} {s : List ℕ} {p l : ℕ} {r : Line} (m : No
   node-refused : {f : Fault} {k : ℕ} → r ≡ NotNode f k → nodeRow c lo n l (drop p s) ≡ refused f l
   node-refused q = sym (m .is .same l) ∙ rw q
 
-  pub node-line : {f : Fault} {k : ℕ} → r ≡ NotNode f k → k ≡ l
+  node-line : {f : Fault} {k : ℕ} → r ≡ NotNode f k → k ≡ l
   node-line q = rw q at (m .fits)
 
-  pub node-within : {x : Node} {j e : ℕ} → r ≡ IsNode x j e → e ≤ length s
+  node-within : {x : Node} {j e : ℕ} → r ≡ IsNode x j e → e ≤ length s
   node-within q = rw q at (m .is .within)
 
-  pub node-below : {x : Node} {j e : ℕ} → r ≡ IsNode x j e → j < n
+  node-below : {x : Node} {j e : ℕ} → r ≡ IsNode x j e → j < n
   node-below q = rw q at (m .fits)
 
   -- a number that was read is in its range
-  pub node-from : {x : Node} {j e : ℕ} → r ≡ IsNode x j e → lo ≤ j
+  node-from : {x : Node} {j e : ℕ} → r ≡ IsNode x j e → lo ≤ j
   unfolding lineFault
   node-from {x} {j} {e} q =
       let t = onto-got (line (nodeLine c lo n) l (drop p s)) (numbered c lo n) {b = record { at = j; node = x }} {l = suc l} {s = drop e s} (node-took q) in
@@ -78,53 +79,64 @@ module _ {c : Judged} {lo n : ℕ} {s : List ℕ} {p l : ℕ} {r : Line} (m : No
       let d : w .0 ≡ j = ap (λ (y : Numbered). y .at) (t .2) in
       omega arith
 
--- ---- open form
-pub record Opening (c : Judged) (s : List ℕ) (at line : ℕ) (acc : List Slot) (p l i : ℕ) : Type 0 where
-  pub rowing : Rowing (openRow c) (c .nodes) noSlots s at line acc p l i
-  pub lines : l ≤ line + i
-  pub few : c .nodes ≤ 32
+-- ---- whether a line is due, and what its number stays below
+pub further-closed : (closed : Bool) (next : ℕ) → closed ≡ true → ltb 0 next ≡ isFurther closed next
+further-closed true zero e = refl
+further-closed true (suc last) e = lt-ltb 0 (suc last) (omega arith)
+further-closed false next e = no (cc)
 
-pub open-start : {c : Judged} {s : List ℕ} {at line : ℕ} → at ≤ length s → c .nodes ≤ 32 → Opening c s at line noSlots at line 0
-open-start h k = record { rowing = rows-start h; lines = omega arith; few = k }
+pub further-open : (closed : Bool) (next : ℕ) → closed ≡ false → false ≡ isFurther closed next
+further-open closed next e = rw e
 
-module _ {c : Judged} {s : List ℕ} {at line : ℕ} {acc : List Slot} {p l i : ℕ} (o : Opening c s at line acc p l i) where
-  pub open-turn : i < c .nodes → {r : Line} → NodeAt c i (i + 1) s p l r → {x : Node} {j e : ℕ} → r ≡ IsNode x j e
-      → Opening c s at line (set acc i (record { node = x })) e (l + 1) (i + 1)
-  open-turn h {r} m {x} {j} {e} q =
-      let u = node-took m q in
-      record {
-        rowing = rows-turn (o .rowing) h (record { same = rw (add-one l) (ap (λ v. v) (rw (← add-one i, u))); within = node-within m q });
-        lines = omega (arith, o .lines);
-        few = o .few;
-      }
+module _ (closed : Bool) (next n : ℕ) {b : Bool} (g : b ≡ isFurther closed next) where
+  pub due-further : b ≡ true → (s : List ℕ) (p : ℕ) {d : Bool} → d ≡ nodeStands s p → d ≡ lineDue closed next n s p
+  due-further e s p h = rw (← g, e) h
 
-  pub open-stop : i < c .nodes → {r : Line} → NodeAt c i (i + 1) s p l r → {f : Fault} {k : ℕ} → r ≡ NotNode f k → {y : Slots} → y ≡ stoppedOf r acc
-      → SlotsAt c false s at line y
-  open-stop h {r} m {f} {k} q d =
-      let e : k ≡ l = node-line m q in
-      let u : Stop (openRow c) i s p l f l = record { same = rw (← add-one i, node-refused m q) } in
-      let w = rows-stop (o .rowing) h u {a = acc} in
-      rw (d, q, e) (record { same = w .same; within = tt; lines = omega (arith, o .lines, o .few) })
+  pub due-next : b ≡ false → (s : List ℕ) (p : ℕ) → ltb next n ≡ lineDue closed next n s p
+  due-next e s p = rw (← g, e)
 
-  pub open-end : c .nodes ≤ i → SlotsAt c false s at line (record { end = At p; line = l; slots = acc })
-  open-end h =
-      let w = rows-end (o .rowing) h in
-      let k = o .rowing .count in
-      record { same = w .same; within = w .within; lines = omega (arith, o .lines, o .few) }
+  pub below-further : b ≡ true → n ≡ numberBelow closed next n
+  below-further e = rw (← g, e)
 
--- ---- closed form
-pub record Further (c : Judged) (first : List Slot) (s : List ℕ) (at line : ℕ) (acc : List Slot) (p l last : ℕ) : Type 0 where
+  pub below-next : b ≡ false → next + 1 ≡ numberBelow closed next n
+  below-next e = rw (← g, e, add-one next)
+
+-- ---- node line after node line
+
+-- what is left to read: in open form the lines from number next on; in closed form all lines, or the further ones, of which at most f are looked at
+abbrev pub nodesFrom : Judged → Bool → ℕ → ℕ → List Slot → Parser (List Slot)
+nodesFrom c false f next l = rows (λ j. nodeRow c j (suc j) >>= λ x. give (slotOf x)) (c .nodes - next) next l
+nodesFrom c true f zero l = nodeRow c 0 1 >>= λ x. furtherNodes c (c .nodes) 0 (set l 0 (slotOf x))
+nodesFrom c true f (suc last) l = furtherNodes c f last l
+
+-- the lines whose numbers are below next are in acc
+pub record Noding (c : Judged) (closed : Bool) (s : List ℕ) (at line : ℕ) (acc : List Slot) (p l next : ℕ) : Type 0 where
   pub fuel : ℕ
-  pub same : furtherNodes c fuel last acc l (drop p s) ≡ furtherNodes c (c .nodes) 0 first line (drop at s)
-  pub enough : c .nodes ≤ fuel + last
-  pub below : last < c .nodes
+  pub same : nodesFrom c closed fuel next acc l (drop p s) ≡ nodesOf c closed line (drop at s)
+  pub enough : c .nodes ≤ fuel + (next - 1)
+  pub count : next ≤ c .nodes
   pub place : p ≤ length s
-  pub lines : l ≤ line + last
-  pub size : length acc ≡ length first
+  pub lines : l ≤ line + next
+  pub size : length acc ≡ 32
+  pub some : 0 < c .nodes
   pub few : c .nodes ≤ 32
 
-pub further-start : {c : Judged} {first : List Slot} {s : List ℕ} {at line : ℕ} → at ≤ length s → 0 < c .nodes → c .nodes ≤ 32 → Further c first s at line first at line 0
-further-start {c} h k few = record { fuel = c .nodes; same = refl; enough = omega arith; below = k; place = h; lines = omega arith; size = refl; few = few }
+from-start : (c : Judged) (closed : Bool) (l : ℕ) (s : List ℕ) → nodesFrom c closed (c .nodes) 0 noSlots l s ≡ nodesOf c closed l s
+from-start c false l s = let e : c .nodes - 0 ≡ c .nodes = omega arith in rw e
+from-start c true l s = refl
+
+pub nodes-start : {c : Judged} {closed : Bool} {s : List ℕ} {at line : ℕ} → at ≤ length s → 0 < c .nodes → c .nodes ≤ 32 → Noding c closed s at line noSlots at line 0
+nodes-start {c} {closed} {s} {at} {line} h k few = record {
+  fuel = c .nodes;
+  same = from-start c closed line (drop at s);
+  enough = omega arith;
+  count = omega arith;
+  place = h;
+  lines = omega arith;
+  size = refl;
+  some = k;
+  few = few;
+}
 
 key-true : {A : Type 0} (o : After) (p q : Parser A) → stood o ≡ true → ifKey o p q ≡ p
 key-true (stands s) p q e = refl
@@ -136,71 +148,98 @@ key-false (stands s) p q e = no (cc)
 key-false differs p q e = refl
 key-false broken p q e = refl
 
-module _ {c : Judged} {first : List Slot} {s : List ℕ} {at line : ℕ} {acc : List Slot} {p l last : ℕ} (o : Further c first s at line acc p l last) where
-  more : o .fuel ≡ suc (o .fuel - 1)
-  more = omega (arith, o .enough, o .below)
+-- one line more in each form: it was read, it was refused, or there is none
+module _ {c : Judged} {s : List ℕ} {at line : ℕ} {acc : List Slot} {p l : ℕ} where
+  below-count : (closed : Bool) (next : ℕ) → Noding c closed s at line acc p l next → lineDue closed next (c .nodes) s p ≡ true → numberBelow closed next (c .nodes) ≤ c .nodes
+  below-count false next o d = ltb-true next (c .nodes) d
+  below-count true zero o d = ltb-true 0 (c .nodes) d
+  below-count true (suc last) o d = omega arith
 
-  pub further-turn : {b : Bool} → b ≡ nodeStands s p → b ≡ true → {r : Line} → NodeAt c (last + 1) (c .nodes) s p l r → {x : Node} {j e : ℕ} → r ≡ IsNode x j e
-      → Further c first s at line (set acc j (record { node = x })) e (l + 1) j
-  unfolding furtherNodes
-  further-turn g₁ g₂ {r} m {x} {j} {e} q =
-      let g = node-from m q in
-      record {
-        fuel = o .fuel - 1;
-        same = rw (add-one l) (rw (more, key-true _ _ _ (sym g₁ ∙ g₂), ← add-one last, node-took m q) at (o .same));
-        enough = omega (arith, o .enough, o .below);
-        below = node-below m q;
-        place = node-within m q;
-        lines = omega (arith, o .lines);
-        size = length-set acc j (record { node = x }) ∙ o .size;
-        few = o .few;
-      }
+  from-took : (closed : Bool) (next : ℕ) (o : Noding c closed s at line acc p l next) → lineDue closed next (c .nodes) s p ≡ true
+      → {r : Line} → NodeAt c next (numberBelow closed next (c .nodes)) s p l r → {x : Node} {j e : ℕ} → r ≡ IsNode x j e
+      → (f : ℕ) × (nodesFrom c closed f (suc j) (set acc j (record { node = x })) (suc l) (drop e s) ≡ nodesOf c closed line (drop at s)) × (c .nodes ≤ f + j)
+  unfolding rows furtherNodes
+  from-took false next o d m {x} {j} q =
+      let h : next < c .nodes = ltb-true next (c .nodes) d in
+      let a : c .nodes - next ≡ suc (c .nodes - suc next) = omega arith in
+      let z : j ≡ next = omega (arith, node-from m q, node-below m q) in
+      (c .nodes, rw z (rw (a, node-took m q) at (o .same)), omega arith)
+  from-took true zero o d m {x} {j} q =
+      let z : j ≡ 0 = omega (arith, node-below m q) in
+      (c .nodes, rw z (rw (node-took m q) at (o .same)), omega arith)
+  from-took true (suc last) o d m q =
+      let a : o .fuel ≡ suc (o .fuel - 1) = omega (arith, o .enough, o .count) in
+      let h = node-from m q in
+      (o .fuel - 1, rw (a, key-true _ _ _ d, node-took m q) at (o .same), omega (arith, o .enough))
 
-  pub further-stop : {b : Bool} → b ≡ nodeStands s p → b ≡ true → {r : Line} → NodeAt c (last + 1) (c .nodes) s p l r → {f : Fault} {k : ℕ} → r ≡ NotNode f k → {y : Slots} → y ≡ stoppedOf r acc
-      → FurtherAt c first s at line y
-  unfolding furtherNodes
-  further-stop g₁ g₂ {r} m {f} {k} q d =
-      let e : k ≡ l = node-line m q in
-      rw (d, q, e) (record {
-        same = rw (more, key-true _ _ _ (sym g₁ ∙ g₂), ← add-one last, node-refused m q) at (o .same);
-        within = tt;
-        lines = omega (arith, o .lines, o .below, o .few);
-      })
+  from-refused : (closed : Bool) (next : ℕ) (o : Noding c closed s at line acc p l next) → lineDue closed next (c .nodes) s p ≡ true
+      → {r : Line} → NodeAt c next (numberBelow closed next (c .nodes)) s p l r → {f : Fault} {k : ℕ} → r ≡ NotNode f k → refused f l ≡ nodesOf c closed line (drop at s)
+  unfolding rows furtherNodes
+  from-refused false next o d m q =
+      let h : next < c .nodes = ltb-true next (c .nodes) d in
+      let a : c .nodes - next ≡ suc (c .nodes - suc next) = omega arith in
+      rw (a, node-refused m q) at (o .same)
+  from-refused true zero o d m q = rw (node-refused m q) at (o .same)
+  from-refused true (suc last) o d m q =
+      let a : o .fuel ≡ suc (o .fuel - 1) = omega (arith, o .enough, o .count) in
+      rw (a, key-true _ _ _ d, node-refused m q) at (o .same)
 
-  pub further-end : {b : Bool} → b ≡ nodeStands s p → b ≡ false → FurtherAt c first s at line (record { end = At p; line = l; slots = acc })
-  unfolding furtherNodes
-  further-end g₁ g₂ = record {
-    same = rw (more, key-false _ _ _ (sym g₁ ∙ g₂)) at (o .same);
+  from-end : (closed : Bool) (next : ℕ) (o : Noding c closed s at line acc p l next) → lineDue closed next (c .nodes) s p ≡ false → took acc l (drop p s) ≡ nodesOf c closed line (drop at s)
+  unfolding rows furtherNodes
+  from-end false next o d =
+      let h : c .nodes ≤ next = ltb-false next (c .nodes) d in
+      let a : c .nodes - next ≡ 0 = omega arith in
+      rw a at (o .same)
+  from-end true zero o d = let h : c .nodes ≤ 0 = ltb-false 0 (c .nodes) d in absurd (omega (arith, o .some))
+  from-end true (suc last) o d =
+      let a : o .fuel ≡ suc (o .fuel - 1) = omega (arith, o .enough, o .count) in
+      rw (a, key-false _ _ _ d) at (o .same)
+
+module _ {c : Judged} {closed : Bool} {s : List ℕ} {at line : ℕ} {acc : List Slot} {p l next : ℕ} (o : Noding c closed s at line acc p l next)
+    {d : Bool} (due : d ≡ lineDue closed next (c .nodes) s p) where
+  pub nodes-end : d ≡ false → SlotsAt c closed s at line (record { end = At p; line = l; slots = acc })
+  nodes-end e = record {
+    same = from-end closed next o (sym due ∙ e);
     within = o .place;
-    lines = omega (arith, o .lines, o .below, o .few);
+    lines = omega (arith, o .lines, o .count, o .few);
   }
 
-  pub further-less : {r : Line} → NodeAt c (last + 1) (c .nodes) s p l r → {x : Node} {j e : ℕ} → r ≡ IsNode x j e → c .nodes - j < c .nodes - last
-  further-less m {x} {j} q =
-      let g : last + 1 ≤ j = node-from m q in
-      let h : j < c .nodes = node-below m q in
-      omega arith
+  module _ (e : d ≡ true) {n : ℕ} (b : n ≡ numberBelow closed next (c .nodes)) where
+    within : n ≤ c .nodes
+    within = rw b (below-count closed next o (sym due ∙ e))
 
-  pub further-index : {r : Line} → NodeAt c (last + 1) (c .nodes) s p l r → {x : Node} {j e : ℕ} → r ≡ IsNode x j e → j < 32
-  further-index m {x} {j} q =
-      let h : j < c .nodes = node-below m q in
-      omega (arith, o .few)
+    pub nodes-below : n ≤ 32
+    nodes-below = omega (arith, within, o .few)
 
--- ---- both forms
-module _ {c : Judged} {s : List ℕ} {at line : ℕ} {r : Line} (m : NodeAt c 0 1 s at line r) where
-  pub closed-stop : {f : Fault} {k : ℕ} → r ≡ NotNode f k → {y : Slots} → y ≡ stoppedOf r noSlots → SlotsAt c true s at line y
-  closed-stop {f} {k} q d =
-      let e : k ≡ line = node-line m q in
-      rw (d, q, e) (record { same = rw (node-refused m q); within = tt; lines = omega arith })
+    module _ {r : Line} (m : NodeAt c next n s p l r) where
+      pub nodes-stop : {f : Fault} {k : ℕ} → r ≡ NotNode f k → {y : Slots} → y ≡ stoppedOf r acc → SlotsAt c closed s at line y
+      nodes-stop {f} {k} q h =
+          let z : k ≡ l = node-line m q in
+          rw (h, q, z) (record {
+            same = from-refused closed next o (sym due ∙ e) (rw b at m) q;
+            within = tt;
+            lines = omega (arith, o .lines, o .count, o .few);
+          })
 
-  pub closed-index : {x : Node} {j e : ℕ} → r ≡ IsNode x j e → j < 32
-  closed-index q = omega (arith, node-below m q)
+      module _ {x : Node} {j to : ℕ} (q : r ≡ IsNode x j to) where
+        pub nodes-index : j < 32
+        nodes-index = omega (arith, node-below m q, within, o .few)
 
-  pub closed-go : {x : Node} {j e : ℕ} → r ≡ IsNode x j e → {y : Slots} → FurtherAt c (set noSlots j (record { node = x })) s e (line + 1) y → SlotsAt c true s at line y
-  closed-go {x} {j} q u =
-      let z : j ≡ 0 = omega (arith, node-below m q) in
-      let v = rw z at (u .same) in
-      record { same = rw (node-took m q, ← add-one line) v; within = u .within; lines = omega (arith, u .lines) }
+        pub nodes-less : {k : ℕ} → k ≡ c .nodes → k - (j + 1) < k - next
+        nodes-less h = omega (arith, node-below m q, node-from m q, within)
 
-pub nodes-form : {c : Judged} {closed b : Bool} {s : List ℕ} {at line : ℕ} {r : Slots} → closed ≡ b → SlotsAt c b s at line r → SlotsAt c closed s at line r
-nodes-form q u = rw q u
+        pub nodes-turn : Noding c closed s at line (set acc j (record { node = x })) to (l + 1) (j + 1)
+        nodes-turn =
+            let h = node-from m q in
+            let t = from-took closed next o (sym due ∙ e) (rw b at m) q in
+            record {
+              fuel = t .0;
+              same = rw (add-one l, add-one j) (t .1);
+              enough = omega (arith, t .2);
+              count = omega (arith, node-below m q, within);
+              place = node-within m q;
+              lines = omega (arith, o .lines);
+              size = length-set acc j (record { node = x }) ∙ o .size;
+              some = o .some;
+              few = o .few;
+            }

@@ -4,7 +4,7 @@ ghost use mathlib.Core.Path.{_≡_};
 ghost use mathlib.Core.Bool.{true, false};
 ghost use lib.ListN.{length};
 ghost use Rattle.nodes.specs.Answer.{scopeIn, Fits};
-ghost use Rattle.procs.specs.Answer.{stoppedOf, nodeStands, FurtherAt, SlotsAt, rowOf, procFault, ProcRowAt, ProcsAt};
+ghost use Rattle.procs.specs.Answer.{stoppedOf, nodeStands, isFurther, lineDue, numberBelow, SlotsAt, rowOf, procFault, ProcRowAt, ProcsAt};
 ghost use Rattle.records.specs.Answer.{Counted};
 ghost use Rattle.table.specs.Table.{noProc};
 
@@ -49,37 +49,6 @@ fn stopped(row: nodes::Line, slots: [table::Slot; 32]) -> Slots
     }
 }
 
-// n lines whose numbers count up from 0.
-fn open_nodes(s: &[u8], at: usize, line: usize, c: nodes::Scope) -> Slots
-    requires { ⌜ (at ≤ length (now s)) × Fits c × (line ≤ 1000) ⌝ }
-    ensures { λ r. ⌜ SlotsAt (scopeIn c) false (now (s .entry)) at line r ⌝ }
-{
-    let none = table::Slot {
-        node: table::Node::Absent,
-    };
-    let mut slots = [none; 32];
-    let n = c.nodes as usize;
-    let mut p = at;
-    let mut l = line;
-    let mut i = 0;
-    while i < n {
-        let j = i as u64;
-        let row = line_reader::next_node(s, p, l, c, j, j + 1);
-        let nodes::Line::Node(node, _, e) = row else {
-            return stopped(row, slots);
-        };
-        slots[i] = table::Slot { node };
-        p = e;
-        l += 1;
-        i += 1;
-    }
-    Slots {
-        end: rows::End::At(p),
-        line: l,
-        slots,
-    }
-}
-
 // Whether a line beginning `node=` stands there.
 fn node_stands(s: &[u8], at: usize) -> bool
     requires { ⌜ at ≤ length (now s) ⌝ }
@@ -92,24 +61,55 @@ fn node_stands(s: &[u8], at: usize) -> bool
     }
 }
 
-// "Each further line beginning `node=` belongs to the procedure before it"; numbers ascend strictly.
-fn further_nodes(
-    s: &[u8],
-    at: usize,
-    line: usize,
-    c: nodes::Scope,
-    first: [table::Slot; 32],
-) -> Slots
-    requires { ⌜ (at ≤ length (now s)) × Fits c × (0 < c .nodes) × (line ≤ 1000) ⌝ }
-    ensures { λ r. ⌜ FurtherAt (scopeIn c) first (now (s .entry)) at line r ⌝ }
+// Whether the next line is a further one: in closed form, behind the first. `next` is the least number that it may have.
+fn further(closed: bool, next: u64) -> bool
+    ensures { λ r. ⌜ r ≡ isFurther closed next ⌝ }
 {
+    if closed {
+        return 0 < next;
+    }
+    false
+}
+
+// Whether a line is due: in open form until n are read; in closed form the first, and then
+// "each further line beginning `node=` belongs to the procedure before it".
+fn due(s: &[u8], at: usize, closed: bool, next: u64, n: u64) -> bool
+    requires { ⌜ at ≤ length (now s) ⌝ }
+    ensures { λ r. ⌜ r ≡ lineDue closed next n (now (s .entry)) at ⌝ }
+{
+    if further(closed, next) {
+        return node_stands(s, at);
+    }
+    next < n
+}
+
+// What the next line's number stays below: a further line's may be any below n, each other line's is `next`.
+fn below(closed: bool, next: u64, n: u64) -> u64
+    requires { ⌜ next ≤ 32 ⌝ }
+    ensures { λ r. ⌜ r ≡ numberBelow closed next n ⌝ }
+{
+    if further(closed, next) {
+        return n;
+    }
+    next + 1
+}
+
+// In open form n lines whose numbers count up from 0; in closed form the first line's number is 0, and numbers ascend strictly.
+// `next_node` is called here alone, so that the compiler writes the line reader out in this loop.
+fn node_rows(s: &[u8], at: usize, line: usize, c: nodes::Scope) -> Slots
+    requires { ⌜ (at ≤ length (now s)) × Fits c × (0 < c .nodes) × (line < 1000) ⌝ }
+    ensures { λ r. ⌜ SlotsAt (scopeIn c) (c .closed) (now (s .entry)) at line r ⌝ }
+{
+    let none = table::Slot {
+        node: table::Node::Absent,
+    };
+    let mut slots = [none; 32];
     let n = c.nodes;
-    let mut slots = first;
     let mut p = at;
     let mut l = line;
-    let mut last = 0u64;
-    while node_stands(s, p) {
-        let row = line_reader::next_node(s, p, l, c, last + 1, n);
+    let mut next = 0u64;
+    while due(s, p, c.closed, next, n) {
+        let row = line_reader::next_node(s, p, l, c, next, below(c.closed, next, n));
         let nodes::Line::Node(node, j, e) = row else {
             return stopped(row, slots);
         };
@@ -117,41 +117,13 @@ fn further_nodes(
         slots[k] = table::Slot { node };
         p = e;
         l += 1;
-        last = j as u64;
+        next = j as u64 + 1;
     }
     Slots {
         end: rows::End::At(p),
         line: l,
         slots,
     }
-}
-
-// The first line's number is 0.
-fn closed_nodes(s: &[u8], at: usize, line: usize, c: nodes::Scope) -> Slots
-    requires { ⌜ (at ≤ length (now s)) × Fits c × (0 < c .nodes) × (line < 1000) ⌝ }
-    ensures { λ r. ⌜ SlotsAt (scopeIn c) true (now (s .entry)) at line r ⌝ }
-{
-    let none = table::Slot {
-        node: table::Node::Absent,
-    };
-    let mut slots = [none; 32];
-    let row = line_reader::next_node(s, at, line, c, 0, 1);
-    let nodes::Line::Node(node, j, e) = row else {
-        return stopped(row, slots);
-    };
-    let k = j as usize;
-    slots[k] = table::Slot { node };
-    further_nodes(s, e, line + 1, c, slots)
-}
-
-fn node_rows(s: &[u8], at: usize, line: usize, c: nodes::Scope) -> Slots
-    requires { ⌜ (at ≤ length (now s)) × Fits c × (0 < c .nodes) × (line < 1000) ⌝ }
-    ensures { λ r. ⌜ SlotsAt (scopeIn c) (c .closed) (now (s .entry)) at line r ⌝ }
-{
-    if c.closed {
-        return closed_nodes(s, at, line, c);
-    }
-    open_nodes(s, at, line, c)
 }
 
 // ---- procedures
