@@ -4,7 +4,6 @@ use mathlib.Core.Path.{_≡_}
 use mathlib.Core.List.{List}
 use mathlib.Core.Bool.{Bool}
 use Rattle.table.specs.declared.Op.{Op}
-use Rattle.table.specs.declared.Operand.{Operand}
 use Rattle.table.specs.declared.Node.{Node}
 use Rattle.text.specs.declared.Fault.{Fault}
 use Rattle.text.specs.Number.{bytes}
@@ -60,7 +59,7 @@ bodyFault (NotBody f) = f
 pub record BodyAt (c : Judged) (k : NodeKind) (s : List ℕ) (at : ℕ) (r : Body) : Type 0 where
   pub is : LineAt (fields c k) (nodeOf c k) s at (bodyIn r)
 
--- behind a set node's operation, and behind a test's first operand
+-- behind the operation of a set node, and of a test
 abbrev pub setLine : Judged → Line
 setLine c =
     field (bytes " a=") (operand (c .vars)) λ a.
@@ -72,13 +71,14 @@ setNode c v o w = Node.Set v o (w .0) (w .1 .0) (setOf (w .1 .1 .0))
 
 abbrev pub testLine : Judged → Line
 testLine c =
+    field (bytes " a=") (operand (c .vars)) λ a.
     field (bytes " b=") (operand (c .vars)) λ b.
     field (bytes " yes=") (targets c) λ y.
     field (bytes " no=") (targets c) λ n.
     end
 
-abbrev pub testNode : (c : Judged) → Op → Operand → Vals (testLine c) → Node
-testNode c o a w = Node.Test o a (w .0) (setOf (w .1 .0)) (setOf (w .1 .1 .0))
+abbrev pub testNode : (c : Judged) → Op → Vals (testLine c) → Node
+testNode c o w = Node.Test o (w .0) (w .1 .0) (setOf (w .1 .1 .0)) (setOf (w .1 .1 .1 .0))
 
 abbrev pub numbered : (c : Judged) (lo n : ℕ) → Vals (nodeLine c lo n) → Numbered
 numbered c lo n w = record { at = w .0; node = nodeOf c (w .1 .0) (w .1 .1) }

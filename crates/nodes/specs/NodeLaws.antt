@@ -9,12 +9,14 @@ use Rattle.table.specs.declared.Operand.{Operand}
 use Rattle.table.specs.declared.Args.{Args}
 use Rattle.text.specs.declared.Fault.{Fault}
 use Rattle.text.specs.Value.{NodeKind}
+use Rattle.text.specs.ValueLaws.{no}
 use Rattle.text.specs.Line.{end, Vals, line}
 use Rattle.text.specs.Format.{setOf, Scope as Judged, fields, nodeOf}
 use Rattle.text.specs.Reader.{Numbered}
 use Rattle.scan.specs.declared.Ended.{Ended}
 use Rattle.scan.specs.declared.Ended.the-variants.{Is as Fed, Not as Unfed}
 use Rattle.scan.specs.Place.{FeedAt}
+use Rattle.scan.specs.declared.Operand.the-variants.{Is as IsOperand, Not as NotOperand}
 use Rattle.words.specs.declared.NodeKind.{NodeKind as Word}
 use Rattle.lists.specs.declared.Set.{Set as Mask}
 use Rattle.lists.specs.declared.Set.the-variants.{Is as IsSet, Not as NotSet}
@@ -80,9 +82,6 @@ module _ {m x : ℕ} (p : x ≡ m) where
   pub start-to : Start m ≡ Start x
   start-to = rw p
 
-  pub set-to : {v : ℕ} {o : Op} {a b : Operand} → Set v o a b m ≡ Set v o a b x
-  set-to = rw p
-
   pub read-to : {v : ℕ} → Read v m ≡ Read v x
   read-to = rw p
 
@@ -105,8 +104,16 @@ module _ {v y : ℕ} (q : y ≡ v) {m x : ℕ} (p : x ≡ m) where
   pub recv-to : {u : ℕ} → Recv u v m ≡ Recv u y x
   recv-to = rw (q, p)
 
-  pub test-no : {o : Op} {a b : Operand} → Test o a b v m ≡ Test o a b y x
-  test-no = rw (q, p)
-
 pub call-to : {a y : Args} → y ≡ a → {m x : ℕ} → x ≡ m → {u : ℕ} → Call u a m ≡ Call u y x
 call-to q p = rw (q, p)
+
+-- ---- an operand that is taken out of its answer after the place was: the answer is no fault, and its operand is the node's
+pub no-fault : {P : Type 0} {a : Operand} {e : ℕ} {f : Fault} → IsOperand a e ≡ NotOperand f → P
+no-fault q = no (cc)
+
+module _ {a b c d : Operand} {i j k l : ℕ} (p : IsOperand a i ≡ IsOperand c j) (q : IsOperand b k ≡ IsOperand d l) {m x : ℕ} (r : x ≡ m) {o : Op} where
+  pub set-to : {v : ℕ} → Set v o c d m ≡ Set v o a b x
+  set-to = cc
+
+  pub test-no : {n y : ℕ} → y ≡ n → Test o c d m n ≡ Test o a b x y
+  test-no s = cc

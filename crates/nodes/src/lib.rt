@@ -82,22 +82,29 @@ fn start_node(s: &[u8], at: usize, c: Scope) -> Body
     Body::Is(table::Node::Start { to }, e)
 }
 
-// What stands behind a set node's operation.
+// What stands behind a set node's operation. The operands are taken out of their answers last: an answer is written in small pieces, and read as a
+// whole directly after that it makes the processor wait.
 fn set_operands(s: &[u8], at: usize, c: Scope, var: u8, op: table::Op) -> Body
     requires { ⌜ (at ≤ length (now s)) × Fits c ⌝ }
     ensures { λ r. ⌜ LineAt (setLine (scopeIn c)) (setNode (scopeIn c) var op) (now (s .entry)) at (bodyIn r) ⌝ }
 {
     let a_field = scan::operand_field(s, at, 97, c.vars);
-    let scan::Operand::Is(a, p) = a_field else {
+    let scan::Operand::Is(_, p) = a_field else {
         return Body::Not(fields::operand_fault(a_field));
     };
     let b_field = scan::operand_field(s, p, 98, c.vars);
-    let scan::Operand::Is(b, q) = b_field else {
+    let scan::Operand::Is(_, q) = b_field else {
         return Body::Not(fields::operand_fault(b_field));
     };
     let last = targets_end(s, q, 116, 111, !c.closed, c.nodes);
     let To::Is(to, e) = last else {
         return Body::Not(to_fault(last));
+    };
+    let scan::Operand::Is(a, _) = a_field else {
+        return Body::Not(fields::operand_fault(a_field));
+    };
+    let scan::Operand::Is(b, _) = b_field else {
+        return Body::Not(fields::operand_fault(b_field));
     };
     Body::Is(table::Node::Set { var, op, a, b, to }, e)
 }
@@ -117,22 +124,32 @@ fn set_node(s: &[u8], at: usize, c: Scope) -> Body
     set_operands(s, b, c, var, op)
 }
 
-// What stands behind a test's first operand.
-fn test_targets(s: &[u8], at: usize, c: Scope, op: table::Op, a: table::Operand) -> Body
+// What stands behind a test's operation. Its operands too are taken out of their answers last.
+fn test_operands(s: &[u8], at: usize, c: Scope, op: table::Op) -> Body
     requires { ⌜ (at ≤ length (now s)) × Fits c ⌝ }
-    ensures { λ r. ⌜ LineAt (testLine (scopeIn c)) (testNode (scopeIn c) op a) (now (s .entry)) at (bodyIn r) ⌝ }
+    ensures { λ r. ⌜ LineAt (testLine (scopeIn c)) (testNode (scopeIn c) op) (now (s .entry)) at (bodyIn r) ⌝ }
 {
-    let b_field = scan::operand_field(s, at, 98, c.vars);
-    let scan::Operand::Is(b, p) = b_field else {
+    let a_field = scan::operand_field(s, at, 97, c.vars);
+    let scan::Operand::Is(_, p) = a_field else {
+        return Body::Not(fields::operand_fault(a_field));
+    };
+    let b_field = scan::operand_field(s, p, 98, c.vars);
+    let scan::Operand::Is(_, q) = b_field else {
         return Body::Not(fields::operand_fault(b_field));
     };
-    let yes_field = lists::ascending_word(s, p, 32, 121, 101, 115, b"=", !c.closed, 1, c.nodes);
-    let lists::Set::Is(yes, q) = yes_field else {
+    let yes_field = lists::ascending_word(s, q, 32, 121, 101, 115, b"=", !c.closed, 1, c.nodes);
+    let lists::Set::Is(yes, t) = yes_field else {
         return Body::Not(fields::set_fault(yes_field));
     };
-    let last = targets_end(s, q, 110, 111, !c.closed, c.nodes);
+    let last = targets_end(s, t, 110, 111, !c.closed, c.nodes);
     let To::Is(no, e) = last else {
         return Body::Not(to_fault(last));
+    };
+    let scan::Operand::Is(a, _) = a_field else {
+        return Body::Not(fields::operand_fault(a_field));
+    };
+    let scan::Operand::Is(b, _) = b_field else {
+        return Body::Not(fields::operand_fault(b_field));
     };
     Body::Is(table::Node::Test { op, a, b, yes, no }, e)
 }
@@ -145,11 +162,7 @@ fn test_node(s: &[u8], at: usize, c: Scope) -> Body
     let words::Operation::Is(op, p) = word else {
         return Body::Not(fields::op_fault(word));
     };
-    let a_field = scan::operand_field(s, p, 97, c.vars);
-    let scan::Operand::Is(a, q) = a_field else {
-        return Body::Not(fields::operand_fault(a_field));
-    };
-    test_targets(s, q, c, op, a)
+    test_operands(s, p, c, op)
 }
 
 fn read_node(s: &[u8], at: usize, c: Scope) -> Body

@@ -1,12 +1,11 @@
 use Rattle.fields.specs.FieldLaws.{operand-next, operand-stop, operand-within}
-use Rattle.nodes.specs.NodeLaws.{last-got, last-stop}
-use Rattle.nodes.specs.NodeLaws.{set-to}
+use Rattle.nodes.specs.NodeLaws.{last-got, last-stop, no-fault, set-to}
 use borrow.Author.Needs.{needs}
 use Rattle.nodes.proofs.set_operands.Statement.{statement}
 use Rattle.nodes.proofs.set_operands.Tie as tie
 
 operand-field-requires : tie.Need-operand-field-requires
-operand-field-requires c κs = search (needs, operand-within)
+operand-field-requires c κs = search needs
 
 enum-known-a-field : tie.Need-enum-known-a-field
 enum-known-a-field c = search needs
@@ -18,7 +17,7 @@ operand-fault-requires : tie.Need-operand-fault-requires
 operand-fault-requires c κs = search needs
 
 returns : tie.Need-returns
-returns c = search (needs, operand-next, operand-stop)
+returns c = search (needs, operand-stop)
 
 operand-field-requires-2 : tie.Need-operand-field-requires-2
 operand-field-requires-2 c κs = search (needs, operand-within)
@@ -48,10 +47,34 @@ to-fault-requires : tie.Need-to-fault-requires
 to-fault-requires c κs = search needs
 
 returns-3 : tie.Need-returns-3
-returns-3 c = search (needs, operand-next, operand-stop, last-stop)
+returns-3 c = search (needs, operand-next, last-stop)
+
+enum-known-a-field-2 : tie.Need-enum-known-a-field-2
+enum-known-a-field-2 c = search needs
+
+enum-told-4 : tie.Need-enum-told-4
+enum-told-4 c = search needs
+
+operand-fault-requires-3 : tie.Need-operand-fault-requires-3
+operand-fault-requires-3 c κs = search needs
 
 returns-4 : tie.Need-returns-4
-returns-4 c = search (needs, operand-next, last-got, set-to)
+returns-4 c = no-fault (c .before .enum-told4 .given .1)
+
+enum-known-b-field-2 : tie.Need-enum-known-b-field-2
+enum-known-b-field-2 c = search needs
+
+enum-told-5 : tie.Need-enum-told-5
+enum-told-5 c = search needs
+
+operand-fault-requires-4 : tie.Need-operand-fault-requires-4
+operand-fault-requires-4 c κs = search needs
+
+returns-5 : tie.Need-returns-5
+returns-5 c = no-fault (c .before .enum-told5 .given .1)
+
+returns-6 : tie.Need-returns-6
+returns-6 c = search (needs, operand-next, last-got, set-to)
 
 pub set-operands-spec : {M : Type 1} → statement M
 set-operands-spec =
@@ -72,4 +95,12 @@ set-operands-spec =
     enum-told-3
     to-fault-requires
     returns-3
-    returns-4)
+    enum-known-a-field-2
+    enum-told-4
+    operand-fault-requires-3
+    returns-4
+    enum-known-b-field-2
+    enum-told-5
+    operand-fault-requires-4
+    returns-5
+    returns-6)
