@@ -8,9 +8,11 @@ use Rattle.table.specs.Table.{noTask, noSem, noQueue}
 use Rattle.table.specs.declared.Task.{Task}
 use Rattle.table.specs.declared.Sem.{Sem}
 use Rattle.table.specs.declared.Queue.{Queue}
+use Rattle.table.specs.declared.Table.{Table}
 use Rattle.text.specs.declared.Fault.{Fault}
-use Rattle.text.specs.Line.{Parser, _>>=_, give}
-use Rattle.text.specs.Reader.{rows, taskRow, semRow, queueRow, body, table}
+use Rattle.text.specs.declared.Reading.{Reading}
+use Rattle.text.specs.Line.{Outcome, Parser, _>>=_, give}
+use Rattle.text.specs.Reader.{rows, taskRow, semRow, queueRow, body, resultOf, reading}
 use Rattle.records.specs.declared.Counts.{Counts}
 use Rattle.records.specs.declared.HeadLine.{HeadLine}
 use Rattle.records.specs.declared.HeadLine.the-variants.{Is as IsHead, Refused as NotHead}
@@ -19,9 +21,7 @@ use Rattle.records.specs.declared.CountsLine.the-variants.{Is as IsCounts, Refu
 use Rattle.rows.specs.declared.End.{End}
 use Rattle.rows.specs.declared.End.the-variants.{At, Refused}
 use Rattle.rows.specs.Rows.{endIn, endWithin}
-use Rattle.late.specs.Late.{Counted as Few}
 use Rattle.reader.specs.declared.Objects.{Objects}
-use Rattle.reader.specs.declared.Whole.{Whole}
 
 abbrev pub headFault : HeadLine → Fault
 headFault (IsHead n c e) = Fault.Form
@@ -61,15 +61,10 @@ pub record ObjectsAt (closed : Bool) (x : Counts) (s : List ℕ) (at line : ℕ)
   pub within : endWithin s (r .end)
   pub lines : r .line ≤ 23
 
--- the counts of a table that was read are in range
-abbrev pub endFew : Whole → End → Type 0
-endFew r (At e) = Few (r .table)
-endFew r (Refused f) = Unit {0}
+-- what is answered to the outcome of the lines: faults 6 and 7 come after all of them
+abbrev pub answered : Outcome Table → Reading
+answered o = reading (resultOf o)
 
-pub record BodyAt (trap : ℕ) (closed : Bool) (x : Counts) (s : List ℕ) (at : ℕ) (r : Whole) : Type 0 where
-  pub same : endIn s (r .line) (r .table) (r .end) ≡ body trap closed (x .tasks) (x .procs) (x .sems) (x .queues) 3 (drop at s)
-  pub few : endFew r (r .end)
-
-pub record WholeAt (s : List ℕ) (r : Whole) : Type 0 where
-  pub same : endIn s (r .line) (r .table) (r .end) ≡ table 1 s
-  pub few : endFew r (r .end)
+-- the lines behind the first two
+abbrev pub bodyIn : ℕ → Bool → Counts → List ℕ → Outcome Table
+bodyIn trap closed x s = body trap closed (x .tasks) (x .procs) (x .sems) (x .queues) 3 s

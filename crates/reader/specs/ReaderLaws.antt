@@ -43,8 +43,7 @@ use Rattle.late.specs.declared.Late.{Late}
 use Rattle.late.specs.declared.Late.the-variants.{Good, Bad}
 use Rattle.late.specs.Late.{lateIn, Counted as Few}
 use Rattle.reader.specs.declared.Objects.{Objects}
-use Rattle.reader.specs.declared.Whole.{Whole}
-use Rattle.reader.specs.Answer.{headFault, countsFault, faultOf, Lists, lists, listsOf, queueRows, semRows, objectRows, ObjectsAt, BodyAt, WholeAt}
+use Rattle.reader.specs.Answer.{headFault, countsFault, faultOf, Lists, lists, listsOf, queueRows, semRows, objectRows, ObjectsAt, answered, bodyIn}
 
 module _ {A : Type 0} {f : ℕ → Parser A} {n : ℕ} {acc : List A} {s : List ℕ} {at line : ℕ} {e : End} {l : ℕ} {a : List A} (m : RowsAt f n acc s at line e l a) where
   rows-took : {p : ℕ} → e ≡ At p → rows f n 0 acc line (drop at s) ≡ took a l (drop p s)
@@ -185,57 +184,70 @@ small-row closed procs sems queues i l s a l′ r e = record {
   only = λ h. absurd h;
 }
 
-module _ {trap : ℕ} {closed : Bool} {x : Counts} {s : List ℕ} {at : ℕ} {o : Objects} (m : ObjectsAt closed x s at 3 o) where
-  pub body-stop : {y : Fault} → o .end ≡ Refused y → {t : Table} → BodyAt trap closed x s at (record { end = o .end; line = o .line; table = t })
-  body-stop q = record { same = rw (← body-parts trap closed x 3 (drop at s), ← m .same, q); few = rw q tt }
+-- a refusal at the outcome's fault and line
+stopped-is : (o : Outcome Table) {f y : Fault} {l : ℕ} → o ≡ refused f l → y ≡ f → {r : Reading} → r ≡ reading (bad y l) → r ≡ answered o
+stopped-is o q d p = p ∙ rw (d, q)
+
+module _ (trap : ℕ) {closed : Bool} {x : Counts} {s : List ℕ} {at : ℕ} {o : Objects} (m : ObjectsAt closed x s at 3 o) where
+  pub body-stop : {f : Fault} → o .end ≡ Refused f → {y : Fault} → y ≡ faultOf (o .end) → {r : Reading} → r ≡ reading (bad y (o .line))
+      → r ≡ answered (bodyIn trap closed x (drop at s))
+  body-stop {f} q d = stopped-is (bodyIn trap closed x (drop at s)) {f = f} (rw (← body-parts trap closed x 3 (drop at s), ← m .same, q)) (d ∙ rw q)
 
   module _ {p : ℕ} (q : o .end ≡ At p) {b : Procs} (n : ProcsAt closed x s p (o .line) b) where
-    pub procs-stop : {y : Fault} → b .end ≡ Refused y → {t : Table} → BodyAt trap closed x s at (record { end = b .end; line = b .line; table = t })
-    procs-stop r = record { same = rw (← body-parts trap closed x 3 (drop at s), ← m .same, q, r, rows-refused (n .rows) r); few = rw r tt }
+    pub procs-stop : {f : Fault} → b .end ≡ Refused f → {y : Fault} → y ≡ faultOf (b .end) → {r : Reading} → r ≡ reading (bad y (b .line))
+        → r ≡ answered (bodyIn trap closed x (drop at s))
+    procs-stop {f} u d = stopped-is (bodyIn trap closed x (drop at s)) {f = f} (rw (← body-parts trap closed x 3 (drop at s), ← m .same, q, rows-refused (n .rows) u)) (d ∙ rw u)
 
-    pub body-more : {e : ℕ} → b .end ≡ At e → e < length s → {t : Table} → BodyAt trap closed x s at (record { end = Refused Ended; line = b .line; table = t })
-    body-more {e} r h = record { same = rw (← body-parts trap closed x 3 (drop at s), ← m .same, q, rows-took (n .rows) r, drop-cons s e 0 h); few = tt }
+    pub body-more : {e : ℕ} → b .end ≡ At e → e < length s → {r : Reading} → r ≡ reading (bad Ended (b .line)) → r ≡ answered (bodyIn trap closed x (drop at s))
+    body-more {e} u h = stopped-is (bodyIn trap closed x (drop at s)) (rw (← body-parts trap closed x 3 (drop at s), ← m .same, q, rows-took (n .rows) u, drop-cons s e 0 h)) refl
 
-    pub body-end : Counted x → {e : ℕ} → b .end ≡ At e → length s ≤ e
-        → BodyAt trap closed x s at (record { end = At e; line = b .line; table = tableOf trap closed x (listsOf o) (b .proc) })
-    body-end c {e} r h =
-        let t = rows-took (n .rows) r in
-        let f = rows-fill small (procRow closed (x .procs) (x .sems) (x .queues)) (small-row closed (x .procs) (x .sems) (x .queues)) (x .procs) 0 (x .procs) (replicate 8 noProc) (o .line) (drop p s) (b .proc) (b .line) (drop e s) (omega arith) (omega (arith, c .procs)) t in
-        record {
-          same = rw (← body-parts trap closed x 3 (drop at s), ← m .same, q, t, drop-of-length-le s h);
-          few = record { tasks = omega (arith, c .tasks); procs = omega (arith, c .procs); nodes = λ i k. f .fine i (omega arith) k };
-        }
+    module _ {e : ℕ} (u : b .end ≡ At e) (h : length s ≤ e) where
+      -- the counts of a table that was read are in range
+      pub body-few : Counted x → Few (tableOf trap closed x (listsOf o) (b .proc))
+      body-few c =
+          let f = rows-fill small (procRow closed (x .procs) (x .sems) (x .queues)) (small-row closed (x .procs) (x .sems) (x .queues)) (x .procs) 0 (x .procs) (replicate 8 noProc) (o .line) (drop p s) (b .proc) (b .line) (drop e s) (omega arith) (omega (arith, c .procs)) (rows-took (n .rows) u) in
+          record { tasks = omega (arith, c .tasks); procs = omega (arith, c .procs); nodes = λ i k. f .fine i (omega arith) k }
+
+      module _ (l : Late) (v : lateIn (tableOf trap closed x (listsOf o) (b .proc)) l ≡ firstLate (tableOf trap closed x (listsOf o) (b .proc)) 1 (late (tableOf trap closed x (listsOf o) (b .proc)))) where
+        found : reading (lateIn (tableOf trap closed x (listsOf o) (b .proc)) l) ≡ answered (bodyIn trap closed x (drop at s))
+        found = ap reading v ∙ rw (← body-parts trap closed x 3 (drop at s), ← m .same, q, rows-took (n .rows) u, drop-of-length-le s h)
+
+        pub body-good : l ≡ Good → _≡_ {A = Reading} (record { number = 0; line = 0; table = tableOf trap closed x (listsOf o) (b .proc) }) (answered (bodyIn trap closed x (drop at s)))
+        body-good g = rw g at found
+
+        pub body-bad : {f : Fault} {k : ℕ} → l ≡ Bad f k → {r : Reading} → r ≡ reading (bad f k) → r ≡ answered (bodyIn trap closed x (drop at s))
+        body-bad g d = d ∙ (rw g at found)
 
 -- ---- the whole text
-module _ {s : List ℕ} {r : HeadLine} (m : LineAt headLine (λ w. w) s 0 (headIn r)) where
-  pub head-stop : {f y : Fault} → r ≡ NotHead f → y ≡ headFault r → {t : Table} → WholeAt s (record { end = Refused y; line = 1; table = t })
+module _ {s : List ℕ} {k : HeadLine} (m : LineAt headLine (λ w. w) s 0 (headIn k)) where
+  pub head-stop : {f : Fault} → k ≡ NotHead f → {y : Fault} → y ≡ headFault k → {r : Reading} → r ≡ reading (bad y 1) → r ≡ answered (table 1 s)
   unfolding table
-  head-stop {f} q d = rw (d, q) (record { same = rw (onto-stop (line headLine 1 s) (λ w. w) {f = f} {l = 1} (sym (m .same 1) ∙ rw q)); few = tt })
+  head-stop {f} q d = stopped-is (table 1 s) {f = f} (rw (onto-stop (line headLine 1 s) (λ w. w) {f = f} {l = 1} (sym (m .same 1) ∙ rw q))) (d ∙ rw q)
 
-  pub head-place : {n : ℕ} {c : Bool} {a : ℕ} → r ≡ IsHead n c a → a ≤ length s
+  pub head-place : {n : ℕ} {c : Bool} {a : ℕ} → k ≡ IsHead n c a → a ≤ length s
   head-place q = rw q at (m .within)
 
-  head-got : {n : ℕ} {c : Bool} {a : ℕ} → r ≡ IsHead n c a → line headLine 1 s ≡ took (n, (c, tt)) 2 (drop a s)
+  head-got : {n : ℕ} {c : Bool} {a : ℕ} → k ≡ IsHead n c a → line headLine 1 s ≡ took (n, (c, tt)) 2 (drop a s)
   head-got {n} {c} {a} q =
       let t = onto-got (line headLine 1 s) (λ w. w) {b = (n, (c, tt))} {l = 2} {s = drop a s} (sym (m .same 1) ∙ rw q) in
       t .1 ∙ rw (t .2)
 
-  module _ {n : ℕ} {c : Bool} {a : ℕ} (q : r ≡ IsHead n c a) {k : CountsLine} (o : CountsAt countsLine (λ w. w) s a k) where
-    pub counts-stop : {f y : Fault} → k ≡ NotCounts f → y ≡ countsFault k → {t : Table} → WholeAt s (record { end = Refused y; line = 2; table = t })
+  module _ {n : ℕ} {c : Bool} {a : ℕ} (q : k ≡ IsHead n c a) {j : CountsLine} (o : CountsAt countsLine (λ w. w) s a j) where
+    pub counts-stop : {f : Fault} → j ≡ NotCounts f → {y : Fault} → y ≡ countsFault j → {r : Reading} → r ≡ reading (bad y 2) → r ≡ answered (table 1 s)
     unfolding table
-    counts-stop {f} p d = rw (d, p) (record { same = rw (head-got q, onto-stop (line countsLine 2 (drop a s)) (λ w. w) {f = f} {l = 2} (sym (o .is .same 2) ∙ rw p)); few = tt })
+    counts-stop {f} p d = stopped-is (table 1 s) {f = f} (rw (head-got q, onto-stop (line countsLine 2 (drop a s)) (λ w. w) {f = f} {l = 2} (sym (o .is .same 2) ∙ rw p))) (d ∙ rw p)
 
-    pub counts-place : {x : Counts} {b : ℕ} → k ≡ IsCounts x b → b ≤ length s
+    pub counts-place : {x : Counts} {b : ℕ} → j ≡ IsCounts x b → b ≤ length s
     counts-place p = rw p at (o .is .within)
 
-    pub counts-fit : {x : Counts} {b : ℕ} → k ≡ IsCounts x b → Counted x
+    pub counts-fit : {x : Counts} {b : ℕ} → j ≡ IsCounts x b → Counted x
     counts-fit p = rw p at (o .fit)
 
-    pub table-go : {x : Counts} {b : ℕ} → k ≡ IsCounts x b → {w : Whole} → BodyAt n c x s b w → WholeAt s w
+    pub table-go : {x : Counts} {b : ℕ} → j ≡ IsCounts x b → {r : Reading} → r ≡ answered (bodyIn n c x (drop b s)) → r ≡ answered (table 1 s)
     unfolding table
-    table-go {x} {b} p {w} u =
+    table-go {x} {b} p u =
         let t = onto-got (line countsLine 2 (drop a s)) (λ w. w) {b = valsOf x} {l = 3} {s = drop b s} (sym (o .is .same 2) ∙ rw p) in
-        record { same = u .same ∙ rw (head-got q, t .1, t .2); few = u .few }
+        u ∙ rw (head-got q, t .1, t .2)
 
 -- ---- the answer
 pub refused-is : (f : Fault) {l n : ℕ} {t : Table} → n ≡ number f → t ≡ noTable → _≡_ {A = Reading} (record { number = n; line = l; table = t }) (reading (bad f l))
@@ -245,24 +257,6 @@ pub read-long : (s : List ℕ) → 65536 < length s → {r : Reading} → r ≡ 
 unfolding read
 read-long s h q = q ∙ rw (lt-ltb 65536 (length s) h, read)
 
-module _ {s : List ℕ} {w : Whole} (m : WholeAt s w) where
-  pub read-few : {e : ℕ} → w .end ≡ At e → Few (w .table)
-  read-few q = rw q at (m .few)
-
-  module _ (h : length s ≤ 65536) where
-    answer : (o : Outcome Table) → table 1 s ≡ o → reading (resultOf o) ≡ read s
-    unfolding read readLines
-    answer o q = rw (le-ltb 65536 (length s) h, read, readLines, q)
-
-    pub read-stop : {f : Fault} → w .end ≡ Refused f → {y : Fault} → y ≡ faultOf (w .end) → {r : Reading} → r ≡ reading (bad y (w .line)) → r ≡ read s
-    read-stop {f} q d p = p ∙ rw (d, q) (answer (refused f (w .line)) (sym (m .same) ∙ rw q))
-
-    module _ {e : ℕ} (q : w .end ≡ At e) (l : Late) (n : lateIn (w .table) l ≡ firstLate (w .table) 1 (late (w .table))) where
-      found : reading (lateIn (w .table) l) ≡ read s
-      found = ap reading n ∙ answer (took (w .table) (w .line) (drop e s)) (sym (m .same) ∙ rw q)
-
-      pub read-good : l ≡ Good → _≡_ {A = Reading} (record { number = 0; line = 0; table = w .table }) (read s)
-      read-good p = rw p at found
-
-      pub read-bad : {f : Fault} {k : ℕ} → l ≡ Bad f k → {r : Reading} → r ≡ reading (bad f k) → r ≡ read s
-      read-bad p d = d ∙ (rw p at found)
+pub read-lines : (s : List ℕ) → length s ≤ 65536 → {r : Reading} → r ≡ answered (table 1 s) → r ≡ read s
+unfolding read readLines
+read-lines s h q = q ∙ rw (le-ltb 65536 (length s) h, read, readLines)

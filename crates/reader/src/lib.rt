@@ -11,11 +11,11 @@ use text::Fault;
 use text::Reading;
 ghost use Prim.Native.Nat.{_≤_};
 ghost use mathlib.Core.Path.{_≡_};
-ghost use lib.ListN.{length};
+ghost use lib.ListN.{length, drop};
 ghost use Rattle.table.specs.Table.{noTable};
-ghost use Rattle.text.specs.Reader.{bad, reading, read};
+ghost use Rattle.text.specs.Reader.{table, bad, reading, read};
 ghost use Rattle.records.specs.Answer.{Counted};
-ghost use Rattle.reader.specs.Answer.{ObjectsAt, BodyAt, WholeAt, faultOf, headFault, countsFault};
+ghost use Rattle.reader.specs.Answer.{ObjectsAt, answered, bodyIn, faultOf, headFault, countsFault};
 
 // A table all 0.
 pub fn no_table() -> Table
@@ -63,13 +63,6 @@ struct Objects {
     task: [Task; 4],
     sem: [Sem; 8],
     queue: [Queue; 8],
-}
-
-// The table that the lines of a text say, with the line reached; or their first fault, with its line.
-struct Whole {
-    end: rows::End,
-    line: usize,
-    table: Table,
 }
 
 fn head_fault(row: records::HeadLine) -> Fault
@@ -145,81 +138,7 @@ fn object_rows(s: &[u8], at: usize, line: usize, closed: bool, counts: records::
     }
 }
 
-// The lines behind the first two.
-fn body(s: &[u8], at: usize, trap: u8, closed: bool, counts: records::Counts) -> Whole
-    requires { ⌜ (at ≤ length (now s)) × Counted counts ⌝ }
-    ensures { λ r. ⌜ BodyAt trap closed counts (now (s .entry)) at r ⌝ }
-{
-    let o = object_rows(s, at, 3, closed, counts);
-    let first = o.end;
-    let rows::End::At(p) = first else {
-        return Whole {
-            end: first,
-            line: o.line,
-            table: blank_table(at),
-        };
-    };
-    let b = procs::proc_rows(s, p, o.line, closed, counts);
-    let second = b.end;
-    let rows::End::At(e) = second else {
-        return Whole {
-            end: second,
-            line: b.line,
-            table: blank_table(at),
-        };
-    };
-    if e < s.len() {
-        return Whole {
-            end: rows::End::Refused(Fault::Ended),
-            line: b.line,
-            table: blank_table(at),
-        };
-    }
-    let task = o.task;
-    let sem = o.sem;
-    let queue = o.queue;
-    let proc = b.proc;
-    Whole {
-        end: rows::End::At(e),
-        line: b.line,
-        table: Table {
-            trap,
-            closed,
-            tasks: counts.tasks,
-            procs: counts.procs,
-            sems: counts.sems,
-            queues: counts.queues,
-            task,
-            sem,
-            queue,
-            proc,
-        },
-    }
-}
-
-// The lines of a whole text.
-fn table_rows(s: &[u8]) -> Whole
-    ensures { λ r. ⌜ WholeAt (now (s .entry)) r ⌝ }
-{
-    let head = line_reader::next_head(s, 0);
-    let records::HeadLine::Is(trap, closed, a) = head else {
-        return Whole {
-            end: rows::End::Refused(head_fault(head)),
-            line: 1,
-            table: blank_table(s.len()),
-        };
-    };
-    let row = line_reader::next_counts(s, a);
-    let records::CountsLine::Is(counts, b) = row else {
-        return Whole {
-            end: rows::End::Refused(counts_fault(row)),
-            line: 2,
-            table: blank_table(a),
-        };
-    };
-    body(s, b, trap, closed, counts)
-}
-
+// The answer where a fault was found.
 fn refused(f: Fault, line: usize) -> Reading
     ensures { λ r. ⌜ r ≡ reading (bad f line) ⌝ }
 {
@@ -231,19 +150,40 @@ fn refused(f: Fault, line: usize) -> Reading
     }
 }
 
-// Any bytes: the table, or the number and line of the first fault with a table all 0.
-pub fn read(s: &[u8]) -> Reading
-    ensures { λ r. ⌜ r ≡ read (now (s .entry)) ⌝ }
+// The lines behind the first two, then faults 6 and 7.
+fn body(s: &[u8], at: usize, trap: u8, closed: bool, counts: records::Counts) -> Reading
+    requires { ⌜ (at ≤ length (now s)) × Counted counts ⌝ }
+    ensures { λ r. ⌜ r ≡ answered (bodyIn trap closed counts (drop at (now (s .entry)))) ⌝ }
 {
-    if s.len() > 65536 {
-        return refused(Fault::Long, 0);
-    }
-    let w = table_rows(s);
-    let end = w.end;
-    let rows::End::At(_) = end else {
-        return refused(fault_of(end), w.line);
+    let o = object_rows(s, at, 3, closed, counts);
+    let first = o.end;
+    let rows::End::At(p) = first else {
+        return refused(fault_of(first), o.line);
     };
-    let table = w.table;
+    let b = procs::proc_rows(s, p, o.line, closed, counts);
+    let second = b.end;
+    let rows::End::At(e) = second else {
+        return refused(fault_of(second), b.line);
+    };
+    if e < s.len() {
+        return refused(Fault::Ended, b.line);
+    }
+    let task = o.task;
+    let sem = o.sem;
+    let queue = o.queue;
+    let proc = b.proc;
+    let table = Table {
+        trap,
+        closed,
+        tasks: counts.tasks,
+        procs: counts.procs,
+        sems: counts.sems,
+        queues: counts.queues,
+        task,
+        sem,
+        queue,
+        proc,
+    };
     match late::find(table) {
         late::Late::Good => Reading {
             number: 0,
@@ -252,4 +192,29 @@ pub fn read(s: &[u8]) -> Reading
         },
         late::Late::Bad(f, line) => refused(f, line),
     }
+}
+
+// The lines of a whole text.
+fn table_rows(s: &[u8]) -> Reading
+    ensures { λ r. ⌜ r ≡ answered (table 1 (now (s .entry))) ⌝ }
+{
+    let head = line_reader::next_head(s, 0);
+    let records::HeadLine::Is(trap, closed, a) = head else {
+        return refused(head_fault(head), 1);
+    };
+    let row = line_reader::next_counts(s, a);
+    let records::CountsLine::Is(counts, b) = row else {
+        return refused(counts_fault(row), 2);
+    };
+    body(s, b, trap, closed, counts)
+}
+
+// Any bytes: the table, or the number and line of the first fault with a table all 0.
+pub fn read(s: &[u8]) -> Reading
+    ensures { λ r. ⌜ r ≡ read (now (s .entry)) ⌝ }
+{
+    if s.len() > 65536 {
+        return refused(Fault::Long, 0);
+    }
+    table_rows(s)
 }

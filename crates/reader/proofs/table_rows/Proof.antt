@@ -15,8 +15,8 @@ enum-told c = search needs
 head-fault-requires : tie.Need-head-fault-requires
 head-fault-requires c κs = search needs
 
-blank-table-requires : tie.Need-blank-table-requires
-blank-table-requires c κs = search needs
+refused-requires : tie.Need-refused-requires
+refused-requires c κs = search needs
 
 returns : tie.Need-returns
 returns c = search (needs, head-stop)
@@ -33,8 +33,8 @@ enum-told-2 c = search needs
 counts-fault-requires : tie.Need-counts-fault-requires
 counts-fault-requires c κs = search needs
 
-blank-table-requires-2 : tie.Need-blank-table-requires-2
-blank-table-requires-2 c κs = search needs
+refused-requires-2 : tie.Need-refused-requires-2
+refused-requires-2 c κs = search needs
 
 returns-2 : tie.Need-returns-2
 returns-2 c = search (needs, counts-stop)
@@ -53,13 +53,13 @@ table-rows-spec =
     enum-known-head
     enum-told
     head-fault-requires
-    blank-table-requires
+    refused-requires
     returns
     next-counts-requires
     enum-known-row
     enum-told-2
     counts-fault-requires
-    blank-table-requires-2
+    refused-requires-2
     returns-2
     body-requires
     returns-3)
