@@ -3,7 +3,7 @@ use Prim.Native.Nat.{ℕ, zero, suc, _+_, _≤_, _<_}
 use mathlib.Core.Path.{_≡_}
 use mathlib.Core.List.{List, [], _∷_}
 use mathlib.Core.Option.{Option, none, some}
-use mathlib.Core.Bool.{Bool, not, _||_}
+use mathlib.Core.Bool.{Bool, true, not, _||_}
 use lib.Dec.{eqb}
 use lib.ListN.{getD}
 use Rattle.table.specs.Mask.{pick, bit, members, maskOf}
@@ -63,6 +63,10 @@ pub record TermsOf (t : Table) (c : Terms) : Type 0 where
 -- the set of a procedure's nodes
 abbrev pub presentIn : Proc → ℕ
 presentIn q = maskOf 32 (λ i. not (isAbsent (nodeIn q i)))
+
+-- m is that set, if the table is closed
+pub record PresentIf (closed : Bool) (q : Proc) (m : ℕ) : Type 0 where
+  pub right : closed ≡ true → m ≡ presentIn q
 
 -- 7 where a test fails in closed form
 abbrev pub ifClosed : Bool → Bool → ℕ

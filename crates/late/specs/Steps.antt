@@ -2,7 +2,7 @@
 use Prim.Native.Nat.{ℕ, suc, _+_, _-_, _%_, _^_, _≤_, _<_}
 use mathlib.Core.Path.{_≡_, refl, sym, _∙_, ap}
 use mathlib.Core.List.{List, map}
-use mathlib.Core.Bool.{Bool, true, false, not}
+use mathlib.Core.Bool.{Bool, true, false, not, false≢true}
 use native.Mathlib.Omega.{arith}
 use native.Mathlib.Nat.{lt-of-lt-of-le}
 use lib.Bits.{bitAnd}
@@ -28,7 +28,7 @@ use Rattle.late.specs.declared.Callee.{Callee}
 use Rattle.late.specs.declared.Terms.{Terms}
 use Rattle.late.specs.declared.At.{At}
 use Rattle.late.specs.declared.Late.the-variants.{Good, Bad}
-use Rattle.late.specs.Late.{TermsOf, lateOf, noCallee, presentIn, ifClosed, callIn, transferIn}
+use Rattle.late.specs.Late.{TermsOf, lateOf, noCallee, presentIn, PresentIf, ifClosed, callIn, transferIn}
 use Rattle.late.specs.MaskLaws.{removed-right, all-dropped, present-is}
 
 pub count-same : (a b : ℕ) → a ≡ b → _≡_ {A = ℕ} 0 (pick (eqb a b) 0 6)
@@ -47,14 +47,21 @@ closed-bad b a r e p z = rw (e, ← p, z)
 pub closed-open : (b a : Bool) → b ≡ false → 0 ≡ ifClosed b a
 closed-open b a e = rw e
 
-pub arc-good : (b : Bool) (m to : ℕ) → b ≡ true → to < 4294967296 → bitAnd to m ≡ to → (q : Proc) → m ≡ presentIn q → 0 ≡ ifClosed b (allPresent q (members to))
-arc-good b m to e l h q p = closed-good b _ true e (sym (present-is q to l ∙ eq-eqb (bitAnd to (presentIn q)) to (rw p at h))) refl
+pub arc-good : (b : Bool) (m to : ℕ) → b ≡ true → to < 4294967296 → bitAnd to m ≡ to → (q : Proc) → PresentIf b q m → 0 ≡ ifClosed b (allPresent q (members to))
+arc-good b m to e l h q p = closed-good b _ true e (sym (present-is q to l ∙ eq-eqb (bitAnd to (presentIn q)) to (rw (p .right e) at h))) refl
 
-pub arc-bad : (b : Bool) (m to : ℕ) → b ≡ true → to < 4294967296 → (bitAnd to m ≡ to → ⊥) → (q : Proc) → m ≡ presentIn q → 7 ≡ ifClosed b (allPresent q (members to))
-arc-bad b m to e l h q p = closed-bad b _ false e (sym (present-is q to l ∙ ne-eqb (bitAnd to (presentIn q)) to (rw p at h))) refl
+pub arc-bad : (b : Bool) (m to : ℕ) → b ≡ true → to < 4294967296 → (bitAnd to m ≡ to → ⊥) → (q : Proc) → PresentIf b q m → 7 ≡ ifClosed b (allPresent q (members to))
+arc-bad b m to e l h q p = closed-bad b _ false e (sym (present-is q to l ∙ ne-eqb (bitAnd to (presentIn q)) to (rw (p .right e) at h))) refl
 
-pub arc-open : (b : Bool) (m to : ℕ) → b ≡ false → (q : Proc) → m ≡ presentIn q → 0 ≡ ifClosed b (allPresent q (members to))
+pub arc-open : (b : Bool) (m to : ℕ) → b ≡ false → (q : Proc) → PresentIf b q m → 0 ≡ ifClosed b (allPresent q (members to))
 arc-open b m to e q p = closed-open b _ e
+
+-- the set that a procedure's nodes are judged by
+pub present-closed : (b : Bool) (q : Proc) (m : ℕ) → m ≡ presentIn q → PresentIf b q m
+present-closed b q m h = record { right = λ e. h }
+
+pub present-open : (b : Bool) (q : Proc) (m : ℕ) → b ≡ false → PresentIf b q m
+present-open b q m h = record { right = λ e. absurd (false≢true (sym h ∙ e)) }
 
 module _ (b : Bool) (xs : Args) (d : ℕ) {m k : ℕ} (e : b ≡ true) (p : m ≡ maskOf 4 (λ i. removedAt (xs .len) i (argAt xs i))) (h : k ≡ d % 2 ^ xs .len) where
   pub removals-good : m ≡ k → 0 ≡ ifClosed b (allBelow (xs .len) (λ i. iff (isRemoved (argAt xs i)) (bit i d)))

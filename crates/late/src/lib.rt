@@ -17,7 +17,7 @@ ghost use Rattle.table.specs.Mask.{pick, bit, members, maskOf};
 ghost use Rattle.table.specs.Table.{noQueue, procAt, taskAt, argAt, isAbsent};
 ghost use Rattle.text.specs.Reader.{allBelow, allPresent, isRemoved, iff, firstLate, late as lateList, taskFault, nodeLate, procLate};
 ghost use Rattle.checks.specs.ArgumentChecks.{removedAt};
-ghost use Rattle.late.specs.Late.{Counted, lateIn, firstAt, stepAt, lateOf, noCallee, TermsOf, presentIn, ifClosed, callIn, transferIn, lateNumber, nodesLate};
+ghost use Rattle.late.specs.Late.{Counted, lateIn, firstAt, stepAt, lateOf, noCallee, TermsOf, presentIn, PresentIf, ifClosed, callIn, transferIn, lateNumber, nodesLate};
 ghost use Rattle.late.specs.Walks.{tasksLate};
 
 const ARGUMENTS: u8 = 6;
@@ -59,7 +59,7 @@ fn count(len: u8, params: u8) -> u8
 
 // In closed form every target is a node.
 fn arc(closed: bool, present: u32, to: u32) -> u8
-    ensures { λ r. ⌜ ((q : Proc) → present ≡ presentIn q → r ≡ ifClosed closed (allPresent q (members to))) ⌝ }
+    ensures { λ r. ⌜ ((q : Proc) → PresentIf closed q present → r ≡ ifClosed closed (allPresent q (members to))) ⌝ }
 {
     if closed {
         if to & present == to {
@@ -177,7 +177,7 @@ fn blank_at(queue: [Queue; 8], k: u8) -> bool
 }
 
 fn call(c: Terms, present: u32, callee: u8, args: Args, to: u32) -> u8
-    ensures { λ r. ⌜ ((q : Proc) → present ≡ presentIn q → r ≡ callIn c q callee args to) ⌝ }
+    ensures { λ r. ⌜ ((q : Proc) → PresentIf (c .closed) q present → r ≡ callIn c q callee args to) ⌝ }
 {
     let cs = c.callee;
     let p = callee_at(cs, callee);
@@ -189,7 +189,7 @@ fn call(c: Terms, present: u32, callee: u8, args: Args, to: u32) -> u8
 
 // A send or a recv.
 fn transfer(c: Terms, present: u32, queue: u8, var: u8, to: u32) -> u8
-    ensures { λ r. ⌜ ((q : Proc) → present ≡ presentIn q → r ≡ transferIn c q queue var to) ⌝ }
+    ensures { λ r. ⌜ ((q : Proc) → PresentIf (c .closed) q present → r ≡ transferIn c q queue var to) ⌝ }
 {
     let qs = c.queue;
     let b = blank_at(qs, queue);
@@ -198,9 +198,9 @@ fn transfer(c: Terms, present: u32, queue: u8, var: u8, to: u32) -> u8
     checks::first(a, m)
 }
 
-// A node of the procedure whose nodes are the set present.
+// A node of the procedure whose nodes are the set present, which counts in closed form only.
 fn node(x: Node, c: Terms, present: u32) -> u8
-    ensures { λ r. ⌜ ((t : Table) (q : Proc) → TermsOf t c → present ≡ presentIn q → r ≡ lateNumber t q x) ⌝ }
+    ensures { λ r. ⌜ ((t : Table) (q : Proc) → TermsOf t c → PresentIf (c .closed) q present → r ≡ lateNumber t q x) ⌝ }
 {
     match x {
         Node::Absent => 0,
@@ -259,7 +259,7 @@ fn lines(x: Node) -> usize
 
 fn node_at(x: Node, c: Terms, present: u32, line: usize) -> At
     requires { ⌜ line ≤ 4096 ⌝ }
-    ensures found { λ a. ⌜ ((t : Table) (q : Proc) → TermsOf t c → present ≡ presentIn q → a ≡ firstAt line (nodeLate t q x)) ⌝ }
+    ensures found { λ a. ⌜ ((t : Table) (q : Proc) → TermsOf t c → PresentIf (c .closed) q present → a ≡ firstAt line (nodeLate t q x)) ⌝ }
     ensures near { λ a. ⌜ a .line ≤ line + 1 ⌝ }
 {
     let r = node(x, c, present);
@@ -292,7 +292,7 @@ fn present(q: Proc) -> u32
 }
 
 fn nodes(q: Proc, c: Terms, m: u32, line: usize) -> At
-    requires { ⌜ (q .nodes ≤ 32) × ((line ≤ 4000) × (m ≡ presentIn q)) ⌝ }
+    requires { ⌜ (q .nodes ≤ 32) × ((line ≤ 4000) × PresentIf (c .closed) q m) ⌝ }
     ensures found { λ a. ⌜ ((t : Table) → TermsOf t c → a ≡ firstAt line (nodesLate t q)) ⌝ }
     ensures near { λ a. ⌜ a .line ≤ line + 32 ⌝ }
 {
@@ -362,7 +362,7 @@ fn proc_at(q: Proc, c: Terms, line: usize) -> At
     ensures found { λ a. ⌜ ((t : Table) (p : ℕ) → TermsOf t c → procAt t p ≡ q → a ≡ firstAt line (procLate t p)) ⌝ }
     ensures near { λ a. ⌜ a .line ≤ line + 33 ⌝ }
 {
-    let m = present(q);
+    let m = if c.closed { present(q) } else { 0 };
     nodes(q, c, m, line + 1)
 }
 

@@ -4,7 +4,7 @@ use mathlib.Core.Path.{_≡_}
 use mathlib.Core.Bool.{true, false}
 use mathlib.Core.Logic.{_⊎_, _↔_}
 use mathlib.Core.List.{List}
-use lib.ListN.{length, getD}
+use lib.ListN.{getD}
 use lib.Bits.{bitOr, bitAnd, bitXor}
 use lib.Count.{leadingZeros}
 use Rattle.table.specs.Mask.{bit}
@@ -40,10 +40,11 @@ pub record Own (kept : ℕ) (l : List ℕ) : Type 0 where
 unfoldable pub joined : List ℕ → List ℕ → ℕ → List ℕ
 joined ends l i = grown l i (bitOr (cell l (firstOf ends i)) (cell l (secondOf ends i)))
 
--- for each node those of the first n that have it as a target
-pub record Sources (ends : List ℕ) (n : ℕ) (r : List ℕ) : Type 0 where
-  pub size : length r ≡ 32
-  pub all : (a m : ℕ) → a < n → IsEnd ends a m → bit a (cell r m) ≡ true
+-- 32 masks of nodes of gone: for each node those that have it as a target, but for those of left
+pub record Sources (ends : List ℕ) (gone left : ℕ) (r : List ℕ) : Type 0 where
+  pub masks : Masks 32 32 r
+  pub only : (a m : ℕ) → bit a (cell r m) ≡ true → bit a gone ≡ true
+  pub all : (a m : ℕ) → bit a gone ≡ true → bit a left ≡ false → IsEnd ends a m → bit a (cell r m) ≡ true
 
 -- the nodes that are not kept
 abbrev pub droppedOf : ℕ → ℕ

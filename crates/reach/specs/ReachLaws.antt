@@ -1,53 +1,125 @@
 -- The cells say exactly where each node leads, once no node that is not kept has anything to get from its targets.
-use Prim.Native.Nat.{ℕ, _+_, _*_, _-_, _^_, _<_}
+use Prim.Native.Nat.{ℕ, _*_, _-_, _^_, _<_}
 use native.Mathlib.Omega.{arith}
 use native.Mathlib.Nat.{lt-of-le-of-lt, lt-trans, pow-suc, one-mul}
 use mathlib.Core.Path.{_≡_, refl, sym, _∙_, ap, subst}
 use mathlib.Core.Bool.{Bool, true, false, not, _&&_, _||_, false≢true, true≢false}
 use mathlib.Core.Logic.{_⊎_, inl, inr, _≢_}
 use mathlib.Core.List.{List}
-use lib.ListN.{length, List·getD-eq-default}
+use lib.ListN.{replicate, length-replicate, List·getD-eq-default}
 use lib.Seq.{getD-set-other}
-use lib.Bits.{bitOr, bitAnd, or-lt, xor-lt, and-le-l, and-le-r, or-shifted}
+use lib.Bits.{bitOr, bitAnd, or-lt, xor-lt, and-le-l, or-shifted}
 use lib.Count.{leading-top}
-use lib.Dec.{eqb, ltb}
-use borrow.Author.Tests.{ltb-true, ltb-false, eqb-true, eqb-false}
+use lib.Pow.{pow-lt}
+use lib.Dec.{ltb}
+use borrow.Author.Tests.{ltb-true, ltb-false}
 use Rattle.table.specs.Mask.{pick, bit}
 use Rattle.masks.specs.Bits.{bit-zero, bit-one, bit-one-out, bit-low, bit-or, bit-minus, bit-and-out, bit-and-in, bit-or-out, bit-or-l, bit-or-r, without, without-less, without-out}
-use Rattle.masks.specs.Cells.{cell, sum, grown, Masks, masks-sum, Flag, grown-masks, Sound, grown-sound, grown-has, grown-adds, grown-grows}
+use Rattle.masks.specs.Cells.{cell, sum, grown, Masks, masks-sum, Flag, grown-masks, Sound, grown-sound, grown-has, grown-adds, cell-zeros}
 use Rattle.masks.specs.Left.{left, less-left}
 use Rattle.reach.specs.Reach.{firstOf, secondOf, IsEnd, Leads, here, via, Reaches, Own, joined, Sources, droppedOf, lastOf}
 
--- ---- the nodes that have one as a target
+-- ---- members of a mask
 
-module _ (ends : List ℕ) where
-  pub sources-none : {r : List ℕ} → length r ≡ 32 → Sources ends 0 r
-  sources-none e = record { size = e; all = λ a m h. absurd (omega arith) }
+last-bit : (m : ℕ) → m < 2 ^ 32 → m ≢ 0 → bit (lastOf m) m ≡ true
+last-bit m h z =
+    let w = leading-top 32 m (omega (arith, z)) h in
+    let j = w .0 in
+    let e : lastOf m ≡ j = omega (arith, w .1) in
+    let d : m < 2 ^ j * 2 = rw pow-suc at (w .3) in
+    let s : m ≡ bitOr (1 * 2 ^ j) (m - 2 ^ j) = sym (or-shifted 1 j (m - 2 ^ j) (omega (arith, d, w .2)) ∙ omega (arith, w .2)) in
+    rw e (subst (λ (x : ℕ). bit j x ≡ true) (sym s) (bit-or-l j (1 * 2 ^ j) (m - 2 ^ j) (rw (one-mul (2 ^ j)) (bit-one j))))
 
-  sources-more : {r r1 r2 : List ℕ} (n : ℕ) → n < 32 → Sources ends n r → r1 ≡ grown r (firstOf ends n) (2 ^ n) → r2 ≡ grown r1 (secondOf ends n) (2 ^ n) → Sources ends (n + 1) r2
-  sources-more {r} {r1} {r2} n h s e f = rw (f, e) (record { size = s2 ∙ s1 ∙ s .size; all = λ a m i x. go a m i x (eqb a n) refl })
-    where
-      q : List ℕ
-      q = grown r (firstOf ends n) (2 ^ n)
+without-in : (m i n : ℕ) → bit n (without m i) ≡ true → bit n m ≡ true
+without-in m i n h = go (bit n m) (bit n (2 ^ i)) refl (rw bit-minus at h)
+  where
+    go : (x y : Bool) → bit n m ≡ x → x && not y ≡ true → bit n m ≡ true
+    go true y u v = u
+    go false y u v = absurd (false≢true v)
 
-      s1 : length q ≡ length r
-      s1 = grown-grows r (firstOf ends n) (2 ^ n) .same-size
+-- ---- the nodes of gone that have one as a target
 
-      s2 : length (grown q (secondOf ends n) (2 ^ n)) ≡ length q
-      s2 = grown-grows q (secondOf ends n) (2 ^ n) .same-size
+module _ (ends : List ℕ) (gone : ℕ) where
+  -- left has the nodes of gone that are still to be added
+  pub record Gathers (left : ℕ) (r : List ℕ) : Type 0 where
+    pub sources : Sources ends gone left r
+    pub small : left < 2 ^ 32
+    pub within : (a : ℕ) → bit a left ≡ true → bit a gone ≡ true
 
-      own : (m : ℕ) → IsEnd ends n m → bit n (cell (grown q (secondOf ends n) (2 ^ n)) m) ≡ true
-      own m (inl z) = rw z (grown-has q (secondOf ends n) (2 ^ n) (firstOf ends n) n (grown-adds r (firstOf ends n) (2 ^ n) n (omega (arith, s .size)) (bit-one n)))
-      own m (inr z) = rw z (grown-adds q (secondOf ends n) (2 ^ n) n (omega (arith, s .size, s1)) (bit-one n))
+  pub gather-start : gone < 2 ^ 32 → Gathers gone (replicate 32 0)
+  gather-start h = record {
+    sources = record {
+      masks = record { size = length-replicate {A = ℕ} 32 0; below = λ a. rw (cell-zeros 32 a) (omega arith) };
+      only = λ a m b. absurd (false≢true (sym (bit-zero a) ∙ (rw (cell-zeros 32 m) at b)));
+      all = λ a m b c x. absurd (true≢false (sym b ∙ c));
+    };
+    small = h;
+    within = λ a b. b;
+  }
 
-      go : (a m : ℕ) → a < n + 1 → IsEnd ends a m → (b : Bool) → eqb a n ≡ b → bit a (cell (grown q (secondOf ends n) (2 ^ n)) m) ≡ true
-      go a m i x true y = let z : a ≡ n = eqb-true a n y in rw z (own m (subst (λ (j : ℕ). IsEnd ends j m) z x))
-      go a m i x false y = grown-has q (secondOf ends n) (2 ^ n) m a (grown-has r (firstOf ends n) (2 ^ n) m a (s .all a m (omega (arith, eqb-false a n y)) x))
+  pub gather-end : {left : ℕ} {r : List ℕ} → Gathers left r → left ≡ 0 → Sources ends gone 0 r
+  gather-end {left} {r} s e = subst (λ (x : ℕ). Sources ends gone x r) e (s .sources)
 
   -- f and g: the two targets of node n
-  pub sources-next : {r r1 r2 : List ℕ} (n f g m : ℕ) → n < 32 → Sources ends n r → f ≡ firstOf ends n → g ≡ secondOf ends n → m ≡ 2 ^ n → r1 ≡ grown r f m → r2 ≡ grown r1 g m → Sources ends (n + 1) r2
-  sources-next {r} {r1} {r2} n f g m h s u v w x y = sources-more n h s (x ∙ ap (λ (a : ℕ). grown r a m) u ∙ ap (grown r (firstOf ends n)) w) (y ∙ ap (λ (a : ℕ). grown r1 a m) v ∙ ap (grown r1 (secondOf ends n)) w)
+  module _ {r r1 r2 : List ℕ} {left left′ n f g m : ℕ} (s : Gathers left r) (z : left ≢ 0) (at : n ≡ lastOf left) (e : f ≡ firstOf ends n) (e′ : g ≡ secondOf ends n) (w : m ≡ 2 ^ n) (p : r1 ≡ grown r f m) (p′ : r2 ≡ grown r1 g m)
+      (d : left′ ≡ without left n) where
+    low : n < 32
+    low = omega arith
 
+    held : bit n left ≡ true
+    held = rw at (last-bit left (s .small) z)
+
+    fewer : without left n < left
+    fewer = without-less left n (s .small) low held
+
+    m-small : m < 2 ^ 32
+    m-small = rw w (pow-lt {i = n} {j = 32} low)
+
+    m-only : (a : ℕ) → bit a m ≡ true → bit a gone ≡ true
+    m-only a h = let y : a ≡ n = bit-one-out a n (rw w at h) in rw y (s .within n held)
+
+    first-masks : Masks 32 32 r1
+    first-masks = rw p (grown-masks f m (s .sources .masks) m-small)
+
+    both-masks : Masks 32 32 r2
+    both-masks = rw p′ (grown-masks g m first-masks m-small)
+
+    first-only : Sound (λ b a. bit a gone ≡ true) r1
+    unfolding Sound
+    first-only = rw p (grown-sound (λ b a. bit a gone ≡ true) r f m (λ b a h. s .sources .only a b h) m-only)
+
+    both-only : Sound (λ b a. bit a gone ≡ true) r2
+    both-only = rw p′ (grown-sound (λ b a. bit a gone ≡ true) r1 g m first-only m-only)
+
+    first-has : (a b : ℕ) → bit a (cell r b) ≡ true → bit a (cell r1 b) ≡ true
+    first-has a b h = rw p (grown-has r f m b a h)
+
+    second-has : (a b : ℕ) → bit a (cell r1 b) ≡ true → bit a (cell r2 b) ≡ true
+    second-has a b h = rw p′ (grown-has r1 g m b a h)
+
+    own : (b : ℕ) → IsEnd ends n b → bit n (cell r2 b) ≡ true
+    own b (inl y) = second-has n b (rw (y ∙ sym e, p) (grown-adds r f m n (omega (arith, s .sources .masks .size)) (rw w (bit-one n))))
+    own b (inr y) = rw (y ∙ sym e′, p′) (grown-adds r1 g m n (omega (arith, first-masks .size)) (rw w (bit-one n)))
+
+    all-in : (a b : ℕ) → bit a gone ≡ true → bit a (without left n) ≡ false → IsEnd ends a b → bit a (cell r2 b) ≡ true
+    all-in a b h k x = go (without-out left n a k)
+      where
+        go : (bit a left ≡ false) ⊎ (a ≡ n) → bit a (cell r2 b) ≡ true
+        go (inl y) = second-has a b (first-has a b (s .sources .all a b h y x))
+        go (inr y) = rw y (own b (subst (λ (j : ℕ). IsEnd ends j b) y x))
+
+    pub gather-next : Gathers left′ r2
+    unfolding Sound
+    gather-next = rw d (record {
+      sources = record { masks = both-masks; only = λ a b h. both-only b a h; all = all-in };
+      small = lt-trans fewer (s .small);
+      within = λ a h. s .within a (without-in left n a h);
+    })
+
+    pub gather-less : left′ < left
+    gather-less = rw d fewer
+
+module _ (ends : List ℕ) where
   pub joined-is : {l1 : List ℕ} (l : List ℕ) (i f g : ℕ) → f ≡ firstOf ends i → g ≡ secondOf ends i → l1 ≡ grown l i (bitOr (cell l f) (cell l g)) → l1 ≡ joined ends l i
   unfolding joined
   joined-is l i f g u v x = x ∙ ap (λ (a : ℕ). grown l i (bitOr (cell l a) (cell l g))) u ∙ ap (λ (a : ℕ). grown l i (bitOr (cell l (firstOf ends i)) (cell l a))) v
@@ -134,15 +206,6 @@ module _ (kept : ℕ) (ends : List ℕ) where
 
   -- ---- the search
 
-  last-bit : (m : ℕ) → m < 2 ^ 32 → m ≢ 0 → bit (lastOf m) m ≡ true
-  last-bit m h z =
-      let w = leading-top 32 m (omega (arith, z)) h in
-      let j = w .0 in
-      let e : lastOf m ≡ j = omega (arith, w .1) in
-      let d : m < 2 ^ j * 2 = rw pow-suc at (w .3) in
-      let s : m ≡ bitOr (1 * 2 ^ j) (m - 2 ^ j) = sym (or-shifted 1 j (m - 2 ^ j) (omega (arith, d, w .2)) ∙ omega (arith, w .2)) in
-      rw e (subst (λ (x : ℕ). bit j x ≡ true) (sym s) (bit-or-l j (1 * 2 ^ j) (m - 2 ^ j) (rw (one-mul (2 ^ j)) (bit-one j))))
-
   dropped-small : droppedOf kept < 2 ^ 32
   dropped-small = xor-lt 32 4294967295 (bitAnd 4294967295 kept) (omega arith) (lt-of-le-of-lt (and-le-l 4294967295 kept) (omega arith))
 
@@ -170,8 +233,8 @@ module _ (kept : ℕ) (ends : List ℕ) where
   pub search-end : {l : List ℕ} {todo : ℕ} → Search l todo → todo ≡ 0 → Reaches kept ends l
   search-end {l} s e = decided l (s .good) (λ n h b. s .done n h b (rw e (bit-zero n)))
 
-  module _ {l l′ from : List ℕ} {fresh : Bool} {i gone todo todo′ : ℕ} (s : Search l todo) (z : todo ≢ 0) (at : i ≡ lastOf todo) (sr : Sources ends 32 from) (e : l′ ≡ joined ends l i) (f : Flag l l′ fresh)
-      (w : gone ≡ droppedOf kept) (d₀ : todo′ ≡ pick fresh (bitOr (without todo i) (bitAnd (cell from i) gone)) (without todo i)) where
+  module _ {l l′ from : List ℕ} {fresh : Bool} {i gone todo todo′ : ℕ} (s : Search l todo) (z : todo ≢ 0) (at : i ≡ lastOf todo) (sr₀ : Sources ends gone 0 from) (e : l′ ≡ joined ends l i) (f : Flag l l′ fresh)
+      (w : gone ≡ droppedOf kept) (d : todo′ ≡ pick fresh (bitOr (without todo i) (cell from i)) (without todo i)) where
     here-low : i < 32
     here-low = omega arith
 
@@ -182,13 +245,10 @@ module _ (kept : ℕ) (ends : List ℕ) where
     less = without-less todo i (s .small) here-low seen
 
     abbrev again : ℕ
-    again = bitAnd (cell from i) (droppedOf kept)
+    again = cell from i
 
-    d : todo′ ≡ pick fresh (bitOr (without todo i) again) (without todo i)
-    d = d₀ ∙ ap (λ (x : ℕ). pick fresh (bitOr (without todo i) (bitAnd (cell from i) x)) (without todo i)) w
-
-    again-small : again < 2 ^ 32
-    again-small = lt-of-le-of-lt (and-le-r (cell from i) (droppedOf kept)) dropped-small
+    sr : Sources ends (droppedOf kept) 0 from
+    sr = subst (λ (x : ℕ). Sources ends x 0 from) w sr₀
 
     next-good : Good l′
     next-good = rw e (step-good l i (s .only i seen) (s .good))
@@ -196,28 +256,21 @@ module _ (kept : ℕ) (ends : List ℕ) where
     own-rests : Rests l′ i
     own-rests = rw e (joined-own l i here-low (s .good))
 
-    before : (n : ℕ) → bit n (without todo i) ≡ true → bit n todo ≡ true
-    before n h = go (bit n todo) (bit n (2 ^ i)) refl (rw bit-minus at h)
-      where
-        go : (x y : Bool) → bit n todo ≡ x → x && not y ≡ true → bit n todo ≡ true
-        go true y u v = u
-        go false y u v = absurd (false≢true v)
-
     -- i is no target of a node that is not seen again
     apart : (n : ℕ) → n < 32 → bit n kept ≡ false → bit n again ≡ false → IsEnd ends n i → ⊥
-    apart n h b y x = true≢false (sym (bit-and-in n (cell from i) (droppedOf kept) (sr .all n i h x) (dropped-has n h b)) ∙ y)
+    apart n h b y x = true≢false (sym (sr .all n i (dropped-has n h b) (bit-zero n) x) ∙ y)
 
     next-small : (b : Bool) → pick b (bitOr (without todo i) again) (without todo i) < 2 ^ 32
-    next-small true = or-lt 32 _ _ (lt-trans less (s .small)) again-small
+    next-small true = or-lt 32 _ _ (lt-trans less (s .small)) (sr .masks .below i)
     next-small false = lt-trans less (s .small)
 
     next-only : (b : Bool) (n : ℕ) → bit n (pick b (bitOr (without todo i) again) (without todo i)) ≡ true → bit n kept ≡ false
     next-only true n h = go (bit-or-out n (without todo i) again h)
       where
         go : (bit n (without todo i) ≡ true) ⊎ (bit n again ≡ true) → bit n kept ≡ false
-        go (inl y) = s .only n (before n y)
-        go (inr y) = dropped-out n (bit-and-out n (cell from i) (droppedOf kept) y .1)
-    next-only false n h = s .only n (before n h)
+        go (inl y) = s .only n (without-in todo i n y)
+        go (inr y) = dropped-out n (sr .only n i y)
+    next-only false n h = s .only n (without-in todo i n h)
 
     not-in : (n x y : ℕ) → bit n (bitOr x y) ≡ false → (bit n x ≡ false) × (bit n y ≡ false)
     not-in n x y h = go (bit n x) (bit n y) refl refl (rw bit-or at h)

@@ -60,20 +60,21 @@ fn own(kept: u32) -> [u32; 32]
     cells
 }
 
-// For each node those that have it as a target.
-fn sources(ends: &[u32; 32]) -> [u32; 32]
-    ensures { λ r. ⌜ Sources (now (ends .entry)) 32 r ⌝ }
+// For each node those of gone that have it as a target.
+fn sources(ends: &[u32; 32], gone: u32) -> [u32; 32]
+    ensures { λ r. ⌜ Sources (now (ends .entry)) gone 0 r ⌝ }
 {
     let mut r = [0u32; 32];
-    let mut n: usize = 0;
-    while n < 32 {
+    let mut left = gone;
+    while left != 0 {
+        let n = last(left);
         let e = ends[n];
         let f = first(e);
         let s = second(e);
         let m = 1 << (n as u32);
         grow(&mut r, f, m);
         grow(&mut r, s, m);
-        n += 1;
+        left = masks::minus(left, n);
     }
     r
 }
@@ -107,13 +108,13 @@ pub fn reach(kept: u32, ends: &[u32; 32]) -> [u32; 32]
     ensures { λ r. ⌜ Reaches kept (now (ends .entry)) r ⌝ }
 {
     let mut cells = own(kept);
-    let from = sources(ends);
     let gone = dropped(kept);
+    let from = sources(ends, gone);
     let mut todo = gone;
     while todo != 0 {
         let i = last(todo);
         let fresh = step(ends, i, &mut cells);
-        let m = from[i] & gone;
+        let m = from[i];
         todo = next(todo, i, fresh, m);
     }
     cells

@@ -7,22 +7,22 @@ use Rattle.reach.proofs.reach.Statement.{statement}
 use Rattle.reach.proofs.reach.Tie as tie
 
 abbrev Inv-loop : tie.InvT-loop
-Inv-loop kept ends cells₀ from gone todo₀ cells todo = Search kept ends cells todo
+Inv-loop kept ends cells₀ gone from todo₀ cells todo = Search kept ends cells todo
 
 abbrev μ-loop : tie.MeasureT-loop
-μ-loop kept ends cells₀ from gone todo₀ cells todo = left 32 (2 ^ 32) cells todo
+μ-loop kept ends cells₀ gone from todo₀ cells todo = left 32 (2 ^ 32) cells todo
 
 own-requires : tie.Need-own-requires Inv-loop μ-loop
 own-requires c κs = search needs
 
-sources-requires : tie.Need-sources-requires Inv-loop μ-loop
-sources-requires c κs = search needs
-
 dropped-requires : tie.Need-dropped-requires Inv-loop μ-loop
 dropped-requires c κs = search needs
 
+sources-requires : tie.Need-sources-requires Inv-loop μ-loop
+sources-requires c κs = search needs
+
 loop-holds : tie.Need-loop-holds Inv-loop μ-loop
-loop-holds c = search-start _ _ (c .before .before .own .ensures) (c .dropped .ensures)
+loop-holds c = search-start _ _ (c .before .before .own .ensures) (c .before .dropped .ensures)
 
 last-requires : tie.Need-last-requires Inv-loop μ-loop
 last-requires c κs = search needs
@@ -40,10 +40,10 @@ next-requires : tie.Need-next-requires Inv-loop μ-loop
 next-requires c κs = omega (arith, c .before .before .last .ensures)
 
 loop-less : tie.Need-loop-less Inv-loop μ-loop
-loop-less c = search-less _ _ (c .before .before .before .before .before .loop .inv) (c .before .before .before .before .loop-test .taken) (c .before .before .before .last .ensures) (c .before .before .before .before .before .before .before .sources .ensures) (c .before .step .ensures .0) (c .before .step .ensures .1) (c .before .before .before .before .before .before .dropped .ensures) (c .next .ensures)
+loop-less c = search-less _ _ (c .before .before .before .before .before .loop .inv) (c .before .before .before .before .loop-test .taken) (c .before .before .before .last .ensures) (c .before .before .before .before .before .before .sources .ensures) (c .before .step .ensures .0) (c .before .step .ensures .1) (c .before .before .before .before .before .before .before .dropped .ensures) (c .next .ensures)
 
 loop-again : tie.Need-loop-again Inv-loop μ-loop
-loop-again c = search-next _ _ (c .before .before .before .before .before .loop .inv) (c .before .before .before .before .loop-test .taken) (c .before .before .before .last .ensures) (c .before .before .before .before .before .before .before .sources .ensures) (c .before .step .ensures .0) (c .before .step .ensures .1) (c .before .before .before .before .before .before .dropped .ensures) (c .next .ensures)
+loop-again c = search-next _ _ (c .before .before .before .before .before .loop .inv) (c .before .before .before .before .loop-test .taken) (c .before .before .before .last .ensures) (c .before .before .before .before .before .before .sources .ensures) (c .before .step .ensures .0) (c .before .step .ensures .1) (c .before .before .before .before .before .before .before .dropped .ensures) (c .next .ensures)
 
 returns : tie.Need-returns Inv-loop μ-loop
 returns c = search-end _ _ (c .before .loop .inv) (c .loop-test .left)
@@ -55,8 +55,8 @@ reach-spec =
     Inv-loop
     μ-loop
     own-requires
-    sources-requires
     dropped-requires
+    sources-requires
     loop-holds
     last-requires
     step-requires

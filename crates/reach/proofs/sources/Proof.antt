@@ -1,28 +1,28 @@
-use Rattle.reach.specs.Reach.{Sources}
-use Rattle.reach.specs.ReachLaws.{sources-none, sources-next}
+use Rattle.reach.specs.ReachLaws.{Gathers, gather-start, gather-next, gather-less, gather-end}
 use Rattle.masks.specs.Bits.{one-shl}
-use lib.ListN.{length-replicate}
-use Prim.Native.Nat.{ℕ, _≤_, _-_}
-use mathlib.Core.Path.{_≡_, _∙_, subst}
+use mathlib.Core.Path.{_∙_}
 use native.Mathlib.Omega.{arith}
 use borrow.Author.Needs.{needs}
 use Rattle.reach.proofs.sources.Statement.{statement}
 use Rattle.reach.proofs.sources.Tie as tie
 
 abbrev Inv-loop : tie.InvT-loop
-Inv-loop ends r₀ n₀ r n = (n ≤ 32) × Sources ends n r
+Inv-loop ends gone r₀ left₀ r left = Gathers ends gone left r
 
 abbrev μ-loop : tie.MeasureT-loop
-μ-loop ends r₀ n₀ r n = 32 - n
+μ-loop ends gone r₀ left₀ r left = left
 
 loop-holds : tie.Need-loop-holds Inv-loop μ-loop
-loop-holds c = (search needs, sources-none _ (length-replicate {A = ℕ} 32 0))
+loop-holds c = gather-start _ _ (search needs)
+
+last-requires : tie.Need-last-requires Inv-loop μ-loop
+last-requires c κs = search needs
 
 mul-e : tie.Need-mul-e Inv-loop μ-loop
-mul-e c = search needs
+mul-e c = omega (arith, c .last .ensures)
 
 element-copy-out-e : tie.Need-element-copy-out-e Inv-loop μ-loop
-element-copy-out-e c = search needs
+element-copy-out-e c = omega (arith, c .last .ensures)
 
 first-requires : tie.Need-first-requires Inv-loop μ-loop
 first-requires c κs = search needs
@@ -31,28 +31,28 @@ second-requires : tie.Need-second-requires Inv-loop μ-loop
 second-requires c κs = search needs
 
 cast-m : tie.Need-cast-m Inv-loop μ-loop
-cast-m c = search needs
+cast-m c = omega (arith, c .before .before .before .last .ensures)
 
 shl-m : tie.Need-shl-m Inv-loop μ-loop
-shl-m c = search needs
+shl-m c = omega (arith, c .before .before .before .last .ensures)
 
 grow-requires : tie.Need-grow-requires Inv-loop μ-loop
-grow-requires c κs = (omega (arith, c .before .before .first .ensures), c .before .before .before .before .before .loop .inv .1 .size)
+grow-requires c κs = (omega (arith, c .before .before .first .ensures), c .before .before .before .before .before .before .loop .inv .sources .masks .size)
 
 grow-requires-2 : tie.Need-grow-requires-2 Inv-loop μ-loop
-grow-requires-2 c κs = (omega (arith, c .before .before .before .second .ensures), c .before .grow .ensures .1 .grows .same-size ∙ c .before .before .before .before .before .before .before .loop .inv .1 .size)
+grow-requires-2 c κs = (omega (arith, c .before .before .before .second .ensures), c .before .grow .ensures .1 .grows .same-size ∙ c .before .before .before .before .before .before .before .before .loop .inv .sources .masks .size)
 
-add-n : tie.Need-add-n Inv-loop μ-loop
-add-n c = search needs
+minus-requires : tie.Need-minus-requires Inv-loop μ-loop
+minus-requires c κs = omega (arith, c .before .before .before .before .before .before .before .last .ensures)
 
 loop-less : tie.Need-loop-less Inv-loop μ-loop
-loop-less c = search needs
+loop-less c = gather-less _ _ (c .before .before .before .before .before .before .before .before .before .before .loop .inv) (c .before .before .before .before .before .before .before .before .before .loop-test .taken) (c .before .before .before .before .before .before .before .before .last .ensures) (c .before .before .before .before .before .before .first .ensures) (c .before .before .before .before .before .second .ensures) (one-shl 32 _ (omega (arith, c .before .before .before .before .before .before .before .before .last .ensures))) (c .before .before .before .grow .ensures .0) (c .before .grow2 .ensures .0) (c .minus .ensures)
 
 loop-again : tie.Need-loop-again Inv-loop μ-loop
-loop-again c = let h = c .before .before .before .before .before .before .before .before .loop in (omega (arith, c .before .before .before .before .before .before .before .loop-test .taken), sources-next _ (h .n) _ _ _ (c .before .before .before .before .before .before .before .loop-test .taken) (h .inv .1) (c .before .before .before .before .before .first .ensures) (c .before .before .before .before .second .ensures) (one-shl 32 (h .n) (c .before .before .before .before .before .before .before .loop-test .taken)) (c .before .before .grow .ensures .0) (c .grow2 .ensures .0))
+loop-again c = gather-next _ _ (c .before .before .before .before .before .before .before .before .before .before .loop .inv) (c .before .before .before .before .before .before .before .before .before .loop-test .taken) (c .before .before .before .before .before .before .before .before .last .ensures) (c .before .before .before .before .before .before .first .ensures) (c .before .before .before .before .before .second .ensures) (one-shl 32 _ (omega (arith, c .before .before .before .before .before .before .before .before .last .ensures))) (c .before .before .before .grow .ensures .0) (c .before .grow2 .ensures .0) (c .minus .ensures)
 
 returns : tie.Need-returns Inv-loop μ-loop
-returns c = let h = c .before .loop in let z : h .n ≡ 32 = omega (arith, h .inv .0, c .loop-test .left) in subst (λ (x : ℕ). Sources (c .before .before .args .ends .now) x (h .r)) z (h .inv .1)
+returns c = gather-end _ _ (c .before .loop .inv) (c .loop-test .left)
 
 pub sources-spec : {M : Type 1} → statement M
 sources-spec =
@@ -61,6 +61,7 @@ sources-spec =
     Inv-loop
     μ-loop
     loop-holds
+    last-requires
     mul-e
     element-copy-out-e
     first-requires
@@ -69,7 +70,7 @@ sources-spec =
     shl-m
     grow-requires
     grow-requires-2
-    add-n
+    minus-requires
     loop-less
     loop-again
     returns)
