@@ -2,6 +2,7 @@
 use Prim.Native.Nat.{ℕ, zero, suc, _+_, _*_, _-_, _^_, _<_, _≤_}
 use native.Mathlib.Omega.{arith}
 use native.Mathlib.Nat.{one-mul, lt-trans}
+use native.Mathlib.Numerals.{add-one}
 use mathlib.Core.Path.{_≡_, refl, sym, _∙_, ap, subst}
 use mathlib.Core.Bool.{Bool, true, false, false≢true, true≢false}
 use mathlib.Core.Logic.{_⊎_, inl, inr, _≢_}
@@ -24,9 +25,9 @@ use Rattle.flow.specs.Flow.{flowOf}
 use Rattle.closing.specs.ReachLaws.{cases}
 use Rattle.analysis.specs.Ready.{Ready}
 use Rattle.analysis.specs.Decides.{Decides}
-use Rattle.analysis.specs.Steps.{entered, passedOn, stepWith, Held, Rests}
+use Rattle.analysis.specs.Steps.{entered, passedOn, stepWith, Held, Rests, topStep}
 use Rattle.analysis.specs.NodeLaws.{Places, flow-places, flow-small}
-use Rattle.analysis.specs.Decide.{Good, step-good, decided}
+use Rattle.analysis.specs.Decide.{Upto, top-begun, step-good, decided}
 use Rattle.analysis.specs.Todo.{Leads, Took}
 use Rattle.analysis.specs.Receivers.{Receivers, flow-blank}
 
@@ -224,19 +225,34 @@ held-more h w = record { first = λ k b. h _ k (w .first k b); second = λ k b. 
 -- ---- the worklist of a table
 
 module _ (t : Table) (o : Ready t) where
-  pub record Work (l w : List ℕ) : Type 0 where
-    pub good : Good t o l
+  -- with the parameters of the first k tasks' top procedures
+  pub record WorkUpto (k : ℕ) (l w : List ℕ) : Type 0 where
+    pub good : Upto t o k l
     pub todo : Masks 8 32 w
     pub done : (p n : ℕ) → p < 8 → n < 32 → bit n (cell w p) ≡ false → Rests t l p n
 
-  pub work-start : {l w : List ℕ} → Good t o l → Full w → Work l w
+  abbrev pub Work : List ℕ → List ℕ → Type 0
+  Work l w = WorkUpto (t .tasks) l w
+
+  pub work-start : {l w : List ℕ} → Upto t o 0 l → Full w → WorkUpto 0 l w
   work-start {l} {w} g f = record { good = g; todo = full-masks f; done = λ p n hp hn h. absurd (true≢false (sym (full-bit w p n hp hn f) ∙ h)) }
+
+  -- the cells have what goes out of a node that is not to be seen, since what comes to it is the same
+  rests-on : {r l w l′ w′ : List ℕ} (a b : ℕ) → a < 8 → b < 32 → Receivers t r → Moves r l w l′ w′ → bit b (cell w′ a) ≡ false → (bit b (cell w a) ≡ false → Held (flowOf (nodeAt t a b) b (cell l (a * 32 + b)) (cell l 264)) a l′) → Rests t l′ a b
+  rests-on {r} {l} {w} {l′} {w′} a b ha hb rc m h f = let j = m .keeps a b ha hb h in rw (j .1, flow-blank (nodeAt t a b) b (cell l (a * 32 + b)) (cell l 264) (cell l′ 264) (λ y. j .2 (rc .right a b ha hb ∙ y))) (f (j .0))
+
+  pub work-top : {r l w l′ w′ : List ℕ} (k : ℕ) → k < t .tasks → Receivers t r → WorkUpto k l w → l′ ≡ topStep t l k → Moves r l w l′ w′ → WorkUpto (k + 1) l′ w′
+  work-top {r} {l} k h rc g e m = record {
+    good = rw (e, add-one) (top-begun t o k l h (g .good));
+    todo = m .small (g .todo);
+    done = λ a b ha hb z. rests-on a b ha hb rc m z (λ y. held-more (m .has) (g .done a b ha hb y));
+  }
 
   work-next : {r l w w1 l′ w′ : List ℕ} (p n : ℕ) → p < 8 → Receivers t r → Work l w → Took w p n w1 → l′ ≡ stepped (nodeAt t p n) p n l → Moves r l w1 l′ w′ → Work l′ w′
   work-next {r} {l} {w} {w1} {l′} {w′} p n hp rc k c e m = record {
     good = rw e (step-good t o l p n hp (c .low) (k .good));
     todo = m .small (c .small);
-    done = λ a b ha hb h. let j = m .keeps a b ha hb h in rw (j .1, flow-blank (nodeAt t a b) b (cell l (a * 32 + b)) (cell l 264) (cell l′ 264) (λ y. j .2 (rc .right a b ha hb ∙ y))) (go a b ha hb (c .other a b (j .0)));
+    done = λ a b ha hb h. rests-on a b ha hb rc m h (λ y. go a b ha hb (c .other a b y));
   }
     where
       own : Held (flowOf (nodeAt t p n) n (cell l (p * 32 + n)) (cell l 264)) p l′
@@ -334,9 +350,6 @@ cell-each (suc n) v (suc a) h = cell-each n v a (omega arith)
 
 pub full : Full (replicate 8 4294967295)
 full = (length-replicate {A = ℕ} 8 4294967295, λ a h. cell-each 8 4294967295 a h)
-
-pub full-pending : {w : List ℕ} → Full w → Pending w 0
-full-pending f = record { some′ = λ h e. let z = f .1 0 h in omega arith; none′ = λ h. absurd (omega arith) }
 
 -- ---- the nodes r are woken, procedure by procedure
 

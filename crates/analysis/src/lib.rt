@@ -9,17 +9,17 @@ ghost use mathlib.Core.Path.{_≡_};
 ghost use mathlib.Core.Bool.{true};
 ghost use mathlib.Core.List.{List};
 ghost use Prim.Native.Nat.{ℕ, _<_, _≤_, _^_, _+_, _-_, _*_};
-ghost use lib.ListN.{length, replicate};
+ghost use lib.ListN.{length};
 ghost use lib.Bits.{bitOr};
 ghost use Rattle.table.specs.Mask.{pick, maskOf};
-ghost use Rattle.masks.specs.Cells.{cell, grown, Flag, sweep, Masks};
+ghost use Rattle.masks.specs.Cells.{cell, grown, Flag, Masks};
 ghost use Rattle.flow.specs.Flow.{flowOf, passOf, afterPass};
 ghost use Rattle.analysis.specs.Ready.{Ready};
 ghost use Rattle.analysis.specs.Decides.{Decides, KeptMasks};
-ghost use Rattle.analysis.specs.Steps.{entered, passedOn, stepWith, topStep, keptIn};
+ghost use Rattle.analysis.specs.Steps.{entered, passedOn, stepWith, keptIn};
 ghost use Rattle.analysis.specs.Todo.{Leads, Took};
-ghost use Rattle.analysis.specs.Receivers.{isRecv, recvIn, Receivers};
-ghost use Rattle.analysis.specs.Plans.{Planned, Plans};
+ghost use Rattle.analysis.specs.Receivers.{isRecv, recvIn};
+ghost use Rattle.analysis.specs.Plans.{Planned};
 ghost use Rattle.analysis.specs.Work.{Sized, Moves, Woken, Works, Pending};
 
 // The mask m is added to the cell a; the answer says whether something was new.
@@ -244,26 +244,6 @@ fn low_bits(k: u8) -> u32
     (1 << (k as u32)) - 1
 }
 
-// The parameters of the tasks' top procedures are dropped.
-fn start(t: Table) -> [u32; 265]
-    requires { ⌜ Ready t ⌝ }
-    ensures { λ r. ⌜ r ≡ sweep (topStep t) (t .tasks) (replicate 265 0) ⌝ }
-{
-    let mut cells = [0u32; 265];
-    let tasks = t.tasks as usize;
-    let mut k: usize = 0;
-    while k < tasks {
-        let w = t.task[k];
-        let p = w.top as usize;
-        let q = t.proc[p];
-        let m = low_bits(q.params);
-        grow(&mut cells, p * 32, m);
-        grow(&mut cells, 256 + p, m);
-        k += 1;
-    }
-    cells
-}
-
 // Whether a node receives.
 fn is_recv(x: Node) -> bool
     ensures { λ r. ⌜ r ≡ isRecv x ⌝ }
@@ -325,20 +305,7 @@ fn recv_mask(q: Proc) -> u32
     m
 }
 
-// The receiving nodes of each procedure.
-fn receivers(t: Table) -> [u32; 8]
-    ensures { λ r. ⌜ Receivers t r ⌝ }
-{
-    let mut r = [0u32; 8];
-    let mut p: usize = 0;
-    while p < 8 {
-        let q = t.proc[p];
-        r[p] = recv_mask(q);
-        p += 1;
-    }
-    r
-}
-
+// The plan of a procedure.
 fn plan_of(q: Proc) -> Plan
     ensures { λ r. ⌜ Planned q r ⌝ }
 {
@@ -357,37 +324,39 @@ fn plan_of(q: Proc) -> Plan
     Plan { passes }
 }
 
-// The plan of each procedure.
-fn plans_of(t: Table) -> [Plan; 8]
-    ensures { λ r. ⌜ Plans t r ⌝ }
+// What is dirty: each node is seen at first, and again after what comes to it has grown.
+pub fn dirty_cells(t: Table) -> [u32; 265]
+    requires { ⌜ Ready t ⌝ }
+    ensures { λ r. ⌜ Decides t r ⌝ }
 {
-    let none = Plan {
+    let mut recvs = [0u32; 8];
+    let mut plans = [Plan {
         passes: [Pass {
             uses: 0,
             sets: 0,
             to: 0,
         }; 32],
-    };
-    let mut r = [none; 8];
+    }; 8];
     let mut p: usize = 0;
     while p < 8 {
         let q = t.proc[p];
-        r[p] = plan_of(q);
+        recvs[p] = recv_mask(q);
+        plans[p] = plan_of(q);
         p += 1;
     }
-    r
-}
-
-// What is dirty: each node at first, and again after what comes to it has grown.
-pub fn dirty_cells(t: Table) -> [u32; 265]
-    requires { ⌜ Ready t ⌝ }
-    ensures { λ r. ⌜ Decides t r ⌝ }
-{
-    let recvs = receivers(t);
-    let plans = plans_of(t);
-    let mut cells = start(t);
+    let mut cells = [0u32; 265];
     let mut todo = [4294967295u32; 8];
-    let mut p: usize = 0;
+    let tasks = t.tasks as usize;
+    let mut k: usize = 0;
+    while k < tasks {
+        let w = t.task[k];
+        let top = w.top as usize;
+        let q = t.proc[top];
+        let m = low_bits(q.params);
+        enter(&mut cells, &mut todo, top, m);
+        k += 1;
+    }
+    p = pending(&todo);
     while p < 8 {
         let q = t.proc[p];
         let plan = plans[p];
