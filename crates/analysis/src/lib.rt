@@ -19,7 +19,7 @@ ghost use Rattle.analysis.specs.Decides.{Decides, KeptMasks};
 ghost use Rattle.analysis.specs.Steps.{entered, passedOn, stepWith, keptIn};
 ghost use Rattle.analysis.specs.Todo.{Leads, Took};
 ghost use Rattle.analysis.specs.Receivers.{isRecv, recvIn};
-ghost use Rattle.analysis.specs.Plans.{Planned};
+ghost use Rattle.analysis.specs.Plans.{passAt, Planned, Plans};
 ghost use Rattle.analysis.specs.Work.{Sized, Moves, Woken, Works, Pending};
 
 // The mask m is added to the cell a; the answer says whether something was new.
@@ -189,21 +189,30 @@ fn take(p: usize, n: usize, todo: &mut [u32; 8])
     todo[p] = masks::minus(m, n);
 }
 
-// What each node of a procedure does, if it has one target.
-struct Plan {
-    passes: [Pass; 32],
+// What the node at place `at` does, if it has one target.
+fn pass_at(uses: &[u32; 256], sets: &[u32; 256], tos: &[u8; 256], at: usize) -> Pass
+    requires { ⌜ (at < 256) × (cell (now tos) at ≤ 32) ⌝ }
+    ensures { λ r. ⌜ r ≡ passAt (now (uses .entry)) (now (sets .entry)) (now (tos .entry)) at ⌝ }
+{
+    Pass {
+        uses: uses[at],
+        sets: sets[at],
+        to: tos[at] as usize,
+    }
 }
 
 // The nodes of procedure p, until none is to be seen: along each chain as far as it leads.
 fn proc_work(
     q: Proc,
-    plan: Plan,
     p: usize,
+    uses: &[u32; 256],
+    sets: &[u32; 256],
+    tos: &[u8; 256],
     cells: &mut [u32; 265],
     todo: &mut [u32; 8],
     recvs: &[u32; 8],
 )
-    requires { ⌜ (p < 8) × (Masks 265 32 (now cells) × (Masks 8 32 (now todo) × (Masks 8 32 (now recvs) × Planned q plan))) ⌝ }
+    requires { ⌜ (p < 8) × (Masks 265 32 (now cells) × (Masks 8 32 (now todo) × (Masks 8 32 (now recvs) × Planned q p (now uses) (now sets) (now tos)))) ⌝ }
     ensures { λ r. ⌜ Works (now (recvs .entry)) q p (now (cells .entry)) (now (todo .entry)) (now (cells .exit)) (now (todo .exit)) ⌝ }
 {
     while todo[p] != 0 {
@@ -214,7 +223,7 @@ fn proc_work(
             take(p, n, todo);
             let y = q.slots[n];
             let x = y.node;
-            let s = plan.passes[n];
+            let s = pass_at(uses, sets, tos, p * 32 + n);
             let f = visit(x, s, p, n, cells, todo, recvs);
             n = f.to;
             on = f.on;
@@ -305,23 +314,22 @@ fn recv_mask(q: Proc) -> u32
     m
 }
 
-// The plan of a procedure.
-fn plan_of(q: Proc) -> Plan
-    ensures { λ r. ⌜ Planned q r ⌝ }
+// What each node of procedure p does, if it has one target: the fields of its `Pass`, each in an array for all procedures.
+fn plan(q: Proc, p: usize, uses: &mut [u32; 256], sets: &mut [u32; 256], tos: &mut [u8; 256])
+    requires { ⌜ p < 8 ⌝ }
+    ensures { λ r. ⌜ Plans q p (now (uses .entry)) (now (sets .entry)) (now (tos .entry)) (now (uses .exit)) (now (sets .exit)) (now (tos .exit)) 32 ⌝ }
 {
-    let mut passes = [Pass {
-        uses: 0,
-        sets: 0,
-        to: 0,
-    }; 32];
     let mut n: usize = 0;
     while n < 32 {
-        let s = q.slots[n];
-        let x = s.node;
-        passes[n] = flow::pass_of(x, n);
+        let y = q.slots[n];
+        let x = y.node;
+        let s = flow::pass_of(x, n);
+        let at = p * 32 + n;
+        uses[at] = s.uses;
+        sets[at] = s.sets;
+        tos[at] = s.to as u8;
         n += 1;
     }
-    Plan { passes }
 }
 
 // What is dirty: each node is seen at first, and again after what comes to it has grown.
@@ -330,18 +338,14 @@ pub fn dirty_cells(t: Table) -> [u32; 265]
     ensures { λ r. ⌜ Decides t r ⌝ }
 {
     let mut recvs = [0u32; 8];
-    let mut plans = [Plan {
-        passes: [Pass {
-            uses: 0,
-            sets: 0,
-            to: 0,
-        }; 32],
-    }; 8];
+    let mut uses = [0u32; 256];
+    let mut sets = [0u32; 256];
+    let mut tos = [0u8; 256];
     let mut p: usize = 0;
     while p < 8 {
         let q = t.proc[p];
         recvs[p] = recv_mask(q);
-        plans[p] = plan_of(q);
+        plan(q, p, &mut uses, &mut sets, &mut tos);
         p += 1;
     }
     let mut cells = [0u32; 265];
@@ -359,8 +363,7 @@ pub fn dirty_cells(t: Table) -> [u32; 265]
     p = pending(&todo);
     while p < 8 {
         let q = t.proc[p];
-        let plan = plans[p];
-        proc_work(q, plan, p, &mut cells, &mut todo, &recvs);
+        proc_work(q, p, &uses, &sets, &tos, &mut cells, &mut todo, &recvs);
         p = pending(&todo);
     }
     cells
