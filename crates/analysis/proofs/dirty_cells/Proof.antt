@@ -2,31 +2,30 @@ use Prim.Native.Nat.{_≤_, _-_}
 use mathlib.Core.Path.{_≡_, refl}
 use Rattle.analysis.specs.Ready.{Ready}
 use Rattle.analysis.specs.StepLaws.{top-is}
-use Rattle.analysis.specs.Decide.{begun}
-use Rattle.analysis.specs.Plans.{Scanned, scanned-start, scanned-next, scanned-end, scanned-recvs, scanned-plan}
-use Rattle.analysis.specs.Work.{WorkUpto, Work, Pending, leftOf, work-start, work-top, work-end, full}
+use Rattle.analysis.specs.Plans.{Scanned, scanned-start, scanned-next, scanned-end, scanned-sources, scanned-plan}
+use Rattle.analysis.specs.Work.{WorkUpto, Work, Pending, leftOf, work-start, work-top, work-end}
 use borrow.Author.Needs.{needs}
 use native.Mathlib.Omega.{arith}
 use Rattle.analysis.proofs.dirty_cells.Statement.{statement}
 use Rattle.analysis.proofs.dirty_cells.Tie as tie
 
 abbrev Inv-loop : tie.InvT-loop
-Inv-loop t recvs₀ uses₀ sets₀ tos₀ p₀ recvs uses sets tos p = Scanned t p recvs uses sets tos
+Inv-loop t sources₀ uses₀ sets₀ tos₀ p₀ sources uses sets tos p = Scanned t p sources uses sets tos
 
 abbrev μ-loop : tie.MeasureT-loop
-μ-loop t recvs₀ uses₀ sets₀ tos₀ p₀ recvs uses sets tos p = 8 - p
+μ-loop t sources₀ uses₀ sets₀ tos₀ p₀ sources uses sets tos p = 8 - p
 
 abbrev Inv-loop2 : tie.InvT-loop2
-Inv-loop2 t recvs uses sets tos p cells₀ todo₀ tasks k₀ cells todo k = Scanned t 8 recvs uses sets tos × ((k ≤ t .tasks) × ((o : Ready t) → WorkUpto t o k cells todo))
+Inv-loop2 t sources uses sets tos p cells₀ todo₀ tasks k₀ cells todo k = Scanned t 8 sources uses sets tos × ((k ≤ t .tasks) × ((o : Ready t) → WorkUpto t o k cells todo))
 
 abbrev μ-loop2 : tie.MeasureT-loop2
-μ-loop2 t recvs uses sets tos p cells₀ todo₀ tasks k₀ cells todo k = t .tasks - k
+μ-loop2 t sources uses sets tos p cells₀ todo₀ tasks k₀ cells todo k = t .tasks - k
 
 abbrev Inv-loop3 : tie.InvT-loop3
-Inv-loop3 t recvs uses sets tos p₀ cells₀ todo₀ tasks k p cells todo = Scanned t 8 recvs uses sets tos × (((o : Ready t) → Work t o cells todo) × Pending todo p)
+Inv-loop3 t sources uses sets tos p₀ cells₀ todo₀ tasks k p cells todo = Scanned t 8 sources uses sets tos × (((o : Ready t) → Work t o cells todo) × Pending todo p)
 
 abbrev μ-loop3 : tie.MeasureT-loop3
-μ-loop3 t recvs uses sets tos p₀ cells₀ todo₀ tasks k p cells todo = leftOf cells todo
+μ-loop3 t sources uses sets tos p₀ cells₀ todo₀ tasks k p cells todo = leftOf cells todo
 
 loop-holds : tie.Need-loop-holds Inv-loop μ-loop Inv-loop2 μ-loop2 Inv-loop3 μ-loop3
 loop-holds c = scanned-start _
@@ -38,15 +37,15 @@ element-copy-out-q :
     tie.Need-element-copy-out-q Inv-loop μ-loop Inv-loop2 μ-loop2 Inv-loop3 μ-loop3
 element-copy-out-q c = search needs
 
-recv-mask-requires :
-    tie.Need-recv-mask-requires Inv-loop μ-loop Inv-loop2 μ-loop2 Inv-loop3 μ-loop3
-recv-mask-requires c κs = search needs
+source-mask-requires :
+    tie.Need-source-mask-requires Inv-loop μ-loop Inv-loop2 μ-loop2 Inv-loop3 μ-loop3
+source-mask-requires c κs = search needs
 
-mul-recvs : tie.Need-mul-recvs Inv-loop μ-loop Inv-loop2 μ-loop2 Inv-loop3 μ-loop3
-mul-recvs c = search needs
+mul-sources : tie.Need-mul-sources Inv-loop μ-loop Inv-loop2 μ-loop2 Inv-loop3 μ-loop3
+mul-sources c = search needs
 
-array-write-recvs : tie.Need-array-write-recvs Inv-loop μ-loop Inv-loop2 μ-loop2 Inv-loop3 μ-loop3
-array-write-recvs c = omega (arith, c .before .before .before .loop .inv .recvs-size)
+array-write-sources : tie.Need-array-write-sources Inv-loop μ-loop Inv-loop2 μ-loop2 Inv-loop3 μ-loop3
+array-write-sources c = omega (arith, c .before .before .before .loop .inv .sources-size)
 
 plan-requires : tie.Need-plan-requires Inv-loop μ-loop Inv-loop2 μ-loop2 Inv-loop3 μ-loop3
 plan-requires c κs = c .before .before .before .before .before .loop-test .taken
@@ -58,13 +57,13 @@ loop-less : tie.Need-loop-less Inv-loop μ-loop Inv-loop2 μ-loop2 Inv-loop3 μ-
 loop-less c = search needs
 
 loop-again : tie.Need-loop-again Inv-loop μ-loop Inv-loop2 μ-loop2 Inv-loop3 μ-loop3
-loop-again c = scanned-next (c .before .before .before .before .before .before .before .loop .p) (c .before .before .before .before .before .before .loop-test .taken) (c .before .before .before .before .recv-mask .ensures) (c .plan .ensures) (c .before .before .before .before .before .before .before .loop .inv)
+loop-again c = scanned-next (c .before .before .before .before .before .before .before .loop .p) (c .before .before .before .before .before .before .loop-test .taken) (c .before .before .before .before .source-mask .ensures) (c .plan .ensures) (c .before .before .before .before .before .before .before .loop .inv)
 
 cast-tasks : tie.Need-cast-tasks Inv-loop μ-loop Inv-loop2 μ-loop2 Inv-loop3 μ-loop3
 cast-tasks c = search needs
 
 loop2-holds : tie.Need-loop2-holds Inv-loop μ-loop Inv-loop2 μ-loop2 Inv-loop3 μ-loop3
-loop2-holds c = (scanned-end (omega (arith, c .loop-test .left)) (c .before .loop .inv), (omega arith, λ o. work-start _ o (begun _ o) full))
+loop2-holds c = (scanned-end (omega (arith, c .loop-test .left)) (c .before .loop .inv), (omega arith, λ o. work-start _ o (scanned-sources (scanned-end (omega (arith, c .loop-test .left)) (c .before .loop .inv)))))
 
 element-copy-out-w :
     tie.Need-element-copy-out-w Inv-loop μ-loop Inv-loop2 μ-loop2 Inv-loop3 μ-loop3
@@ -93,7 +92,7 @@ loop2-less : tie.Need-loop2-less Inv-loop μ-loop Inv-loop2 μ-loop2 Inv-loop3 �
 loop2-less c = omega (arith, c .before .before .before .before .before .before .before .loop2-test .taken)
 
 loop2-again : tie.Need-loop2-again Inv-loop μ-loop Inv-loop2 μ-loop2 Inv-loop3 μ-loop3
-loop2-again c = let h = c .before .before .before .before .before .before .before .before .loop2 in (h .inv .0, (omega (arith, c .before .before .before .before .before .before .before .loop2-test .taken), λ o. work-top _ o (h .k) (c .before .before .before .before .before .before .before .loop2-test .taken) (scanned-recvs (h .inv .0)) (h .inv .1 .1 o) (top-is _ _ _ _ (c .before .before .before .low-bits .ensures) (c .enter .ensures .0)) (c .enter .ensures .1 _)))
+loop2-again c = let h = c .before .before .before .before .before .before .before .before .loop2 in (h .inv .0, (omega (arith, c .before .before .before .before .before .before .before .loop2-test .taken), λ o. work-top _ o (h .k) (c .before .before .before .before .before .before .before .loop2-test .taken) (scanned-sources (h .inv .0)) (h .inv .1 .1 o) (top-is _ _ _ _ (c .before .before .before .low-bits .ensures) (c .enter .ensures .0)) (c .enter .ensures .1 _)))
 
 pending-requires : tie.Need-pending-requires Inv-loop μ-loop Inv-loop2 μ-loop2 Inv-loop3 μ-loop3
 pending-requires c κs = search needs
@@ -110,7 +109,7 @@ element-copy-out-q-3 c = search needs
 
 proc-work-requires :
     tie.Need-proc-work-requires Inv-loop μ-loop Inv-loop2 μ-loop2 Inv-loop3 μ-loop3
-proc-work-requires c κs = let h = c .before .before .before .before .before .before .before .before .loop3 .inv in let k = h .1 .0 (c .before .before .before .before .before .before .before .before .before .before .before .before .before .before .before .pre) in (c .before .before .before .before .before .before .before .loop3-test .taken, (k .good .masks, (k .todo, (scanned-recvs (h .0) .masks, scanned-plan _ (c .before .before .before .before .before .before .before .loop3-test .taken) (h .0)))))
+proc-work-requires c κs = let h = c .before .before .before .before .before .before .before .before .loop3 .inv in let k = h .1 .0 (c .before .before .before .before .before .before .before .before .before .before .before .before .before .before .before .pre) in (c .before .before .before .before .before .before .before .loop3-test .taken, (k .good .masks, (k .todo, (scanned-sources (h .0) .masks, scanned-plan _ (c .before .before .before .before .before .before .before .loop3-test .taken) (h .0)))))
 
 pending-requires-2 :
     tie.Need-pending-requires-2 Inv-loop μ-loop Inv-loop2 μ-loop2 Inv-loop3 μ-loop3
@@ -120,7 +119,7 @@ loop3-less : tie.Need-loop3-less Inv-loop μ-loop Inv-loop2 μ-loop2 Inv-loop3 �
 loop3-less c = c .before .before .proc-work .ensures .less (c .before .before .before .before .before .before .before .before .before .before .before .loop3 .inv .1 .1 .some′ (c .before .before .before .before .before .before .before .before .before .before .loop3-test .taken))
 
 loop3-again : tie.Need-loop3-again Inv-loop μ-loop Inv-loop2 μ-loop2 Inv-loop3 μ-loop3
-loop3-again c = let h = c .before .before .before .before .before .before .before .before .before .before .before .loop3 .inv in (h .0, (λ o. c .before .before .proc-work .ensures .keeps _ o refl (scanned-recvs (h .0)) (h .1 .0 o), c .pending2 .ensures))
+loop3-again c = let h = c .before .before .before .before .before .before .before .before .before .before .before .loop3 .inv in (h .0, (λ o. c .before .before .proc-work .ensures .keeps _ o refl (scanned-sources (h .0)) (h .1 .0 o), c .pending2 .ensures))
 
 returns : tie.Need-returns Inv-loop μ-loop Inv-loop2 μ-loop2 Inv-loop3 μ-loop3
 returns c = let o = c .before .before .before .before .before .before .before .before .pre in let h = c .before .loop3 .inv in work-end _ o (h .1 .0 o) (h .1 .1 .none′ (omega (arith, c .loop3-test .left)))
@@ -138,9 +137,9 @@ dirty-cells-spec =
     loop-holds
     mul-q
     element-copy-out-q
-    recv-mask-requires
-    mul-recvs
-    array-write-recvs
+    source-mask-requires
+    mul-sources
+    array-write-sources
     plan-requires
     add-p
     loop-less
