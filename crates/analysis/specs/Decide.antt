@@ -1,5 +1,5 @@
 -- The cells say exactly what is dirty, once no node adds anything to them.
-use Prim.Native.Nat.{ℕ, zero, suc, _+_, _*_, _/_, _%_, _-_, _^_, _<_, _≤_}
+use Prim.Native.Nat.{ℕ, suc, _+_, _*_, _/_, _%_, _-_, _^_, _<_, _≤_}
 use native.Mathlib.Omega.{arith}
 use native.Mathlib.Nat.{mod-eq-of-lt}
 use mathlib.Core.Path.{_≡_, refl, sym, _∙_, ap, subst}
@@ -24,7 +24,7 @@ use Rattle.closing.specs.ReachLaws.{cases}
 use Rattle.closing.specs.Dirty.{Fact, settingAt, useAt, dropped, blank, Clear, here, on, Dirty, by-read, by-set, by-recv, from-node, from-entry, top, passed, sent}
 use Rattle.closing.specs.DirtyLaws.{use-on}
 use Rattle.masks.specs.Bits.{bit-zero, bit-low, bit-low-out}
-use Rattle.masks.specs.Cells.{cell, grown, Masks, grown-grows, grown-masks, Sound, grown-sound, grown-has, grown-adds, sweep, cell-zeros}
+use Rattle.masks.specs.Cells.{cell, grown, Masks, grown-grows, grown-masks, Sound, grown-sound, grown-has, grown-adds, cell-zeros}
 use Rattle.flow.specs.declared.Flow.{Flow}
 use Rattle.flow.specs.Flow.{low, operandsDirty, afterSet, oneFlow, flowOf}
 use Rattle.analysis.specs.Ready.{One, FitsOperand, FitsNode, Ready}
@@ -226,7 +226,7 @@ module _ (t : Table) (o : Ready t) where
   few : (j : ℕ) → j ≤ 4 → 2 ^ j - 1 < 2 ^ 32
   few j h = omega (arith, pow-lt {i = j} {j = 32} (omega arith))
 
-  top-begun : (n : ℕ) (l : List ℕ) → n < t .tasks → Upto n l → Upto (suc n) (topStep t l n)
+  pub top-begun : (n : ℕ) (l : List ℕ) → n < t .tasks → Upto n l → Upto (suc n) (topStep t l n)
   unfolding topStep entered
   top-begun n l h g = record {
     masks = next .masks;
@@ -249,21 +249,14 @@ module _ (t : Table) (o : Ready t) where
       own : (i : ℕ) → i < procAt t p .params → bit i (cell (entered l p m) (256 + p)) ≡ true
       own i b = grown-adds (grown l (p * 32 + 0) m) (256 + p) m i (omega (arith, o .tops-low n h, g .masks .size, grown-grows l (p * 32 + 0) m .same-size)) (bit-low i (procAt t p .params) b)
 
-  begun : (n : ℕ) → n ≤ t .tasks → Upto n (sweep (topStep t) n (replicate 265 0))
-  unfolding sweep Sound
-  begun zero h = record {
+  pub begun : Upto 0 (replicate 265 0)
+  unfolding Sound
+  begun = record {
     masks = record { size = length-replicate {A = ℕ} 265 0; below = λ a. rw (cell-zeros 265 a) (pow-pos 32) };
     sound = λ a v h. absurd (false≢true (sym (bit-zero v) ∙ (rw (cell-zeros 265 a) at h)));
     tops = λ k i a b. absurd (omega arith);
     entry = λ p hp v h. absurd (false≢true (sym (bit-zero v) ∙ (rw (cell-zeros 265 (256 + p)) at h)));
   }
-  begun (suc n) h = top-begun n _ (omega arith) (begun n (omega arith))
-
-  pub start-size : (n : ℕ) → n ≤ t .tasks → length (sweep (topStep t) n (replicate 265 0)) ≡ 265
-  start-size n h = begun n h .masks .size
-
-  pub start-good : Good (sweep (topStep t) (t .tasks) (replicate 265 0))
-  start-good = begun (t .tasks) (omega arith)
 
   -- ---- complete: what is dirty has its bit
 

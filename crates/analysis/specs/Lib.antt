@@ -5,7 +5,7 @@ pub mod NodeLaws
 pub mod StepLaws
 pub mod Decide
 pub mod Todo
-pub mod Receivers
+pub mod Sources
 pub mod Plans
 pub mod Work
 pub mod KeptLaws

@@ -1,13 +1,12 @@
 -- A step from the lists that the code makes on the way.
 use Prim.Native.Nat.{ℕ, _+_, _-_, _*_, _^_, _<_}
-use native.Mathlib.Omega.{arith}
 use mathlib.Core.Path.{_≡_, sym, _∙_, ap, subst}
 use mathlib.Core.List.{List}
 use borrow.Author.Tests.{lt-ltb}
 use Rattle.table.specs.Table.{procAt, taskAt}
 use Rattle.table.specs.declared.Node.{Node}
 use Rattle.table.specs.declared.Table.{Table}
-use Rattle.masks.specs.Cells.{cell, grown, grown-twice, grown-none}
+use Rattle.masks.specs.Cells.{grown, grown-twice, grown-none}
 use Rattle.flow.specs.declared.Flow.{Flow}
 use Rattle.flow.specs.declared.Pass.{Pass}
 use Rattle.flow.specs.Flow.{flowOf, passOf, afterPass}
@@ -33,10 +32,6 @@ pass-is {s} l x p n i b e h f = f ∙ sym (once s i p l) ∙ ap (λ (y : Flow). 
 pub entered-is : {l2 : List ℕ} (l l1 : List ℕ) (k m : ℕ) → l1 ≡ grown l (k * 32 + 0) m → l2 ≡ grown l1 (256 + k) m → l2 ≡ entered l k m
 unfolding entered
 entered-is l l1 k m e f = rw (← e) f
-
--- at the entry's cell
-pub entered-at : {l2 : List ℕ} (l l1 : List ℕ) (k m : ℕ) → l1 ≡ grown l (k * 32) m → l2 ≡ grown l1 (256 + k) m → l2 ≡ entered l k m
-entered-at l l1 k m e f = let z : k * 32 ≡ k * 32 + 0 = omega arith in entered-is l l1 k m (subst (λ (a : ℕ). l1 ≡ grown l a m) z e) f
 
 pub passed-drop : {l1 : List ℕ} (l : List ℕ) (a m : ℕ) → a < 264 → l1 ≡ entered l (a - 256) m → l1 ≡ passedOn l a m
 unfolding passedOn

@@ -1,12 +1,13 @@
 -- The worklist: a node that is not to be seen adds nothing to the cells. Once none is to be seen, the cells say what is dirty.
-use Prim.Native.Nat.{ℕ, zero, suc, _+_, _*_, _-_, _^_, _<_, _≤_}
+use Prim.Native.Nat.{ℕ, _+_, _*_, _-_, _^_, _<_, _≤_}
 use native.Mathlib.Omega.{arith}
 use native.Mathlib.Nat.{one-mul, lt-trans}
+use native.Mathlib.Numerals.{add-one}
 use mathlib.Core.Path.{_≡_, refl, sym, _∙_, ap, subst}
 use mathlib.Core.Bool.{Bool, true, false, false≢true, true≢false}
 use mathlib.Core.Logic.{_⊎_, inl, inr, _≢_}
 use mathlib.Core.List.{List}
-use lib.ListN.{length, set, replicate, length-set, length-replicate}
+use lib.ListN.{length, set, replicate, length-set}
 use lib.Seq.{getD-set-same, getD-set-other, set-getD}
 use lib.Bits.{bitOr, or-lt}
 use lib.Pow.{pow-lt}
@@ -16,26 +17,26 @@ use Rattle.table.specs.Table.{procAt, nodeAt, nodeIn}
 use Rattle.table.specs.declared.Node.{Node}
 use Rattle.table.specs.declared.Proc.{Proc}
 use Rattle.table.specs.declared.Table.{Table}
-use Rattle.masks.specs.Bits.{bit-zero, bit-one, bit-low, bit-or-l, bit-or-r}
-use Rattle.masks.specs.Cells.{cell, sum, grown, Masks, masks-sum, Flag, grown-grows, grown-has, grown-adds, grown-masks, Filled, filled-masks, set-more}
+use Rattle.masks.specs.Bits.{bit-zero, bit-one, bit-or-l, bit-or-r}
+use Rattle.masks.specs.Cells.{cell, sum, grown, Masks, masks-sum, Flag, grown-grows, grown-has, grown-adds, grown-masks, Filled, filled-masks, set-more, cell-zeros}
 use Rattle.masks.specs.Left.{left, less-left}
 use Rattle.flow.specs.declared.Flow.{Flow}
 use Rattle.flow.specs.Flow.{flowOf}
 use Rattle.closing.specs.ReachLaws.{cases}
 use Rattle.analysis.specs.Ready.{Ready}
 use Rattle.analysis.specs.Decides.{Decides}
-use Rattle.analysis.specs.Steps.{entered, passedOn, stepWith, Held, Rests}
+use Rattle.analysis.specs.Steps.{entered, passedOn, stepWith, Held, Rests, topStep}
 use Rattle.analysis.specs.NodeLaws.{Places, flow-places, flow-small}
-use Rattle.analysis.specs.Decide.{Good, step-good, decided}
+use Rattle.analysis.specs.Decide.{Upto, begun, top-begun, step-good, decided}
 use Rattle.analysis.specs.Todo.{Leads, Took}
-use Rattle.analysis.specs.Receivers.{Receivers, flow-blank}
+use Rattle.analysis.specs.Sources.{Sources, flow-blank, flow-nothing}
 
 -- 265 cells, and 8 masks of nodes
 abbrev pub Sized : List ℕ → List ℕ → Type 0
 Sized l w = (length l ≡ 265) × (length w ≡ 8)
 
 -- The cells grow from l to l′, the nodes to be seen go from w to w′. A node that is not to be seen was not before, and what comes to it is
--- the same; r are the nodes to which the blank queues come.
+-- the same; r are the sources, to which the blank queues come, too.
 pub record Moves (r l w l′ w′ : List ℕ) : Type 0 where
   pub has : (a k : ℕ) → bit k (cell l a) ≡ true → bit k (cell l′ a) ≡ true
   pub size : length l′ ≡ length l
@@ -122,16 +123,6 @@ drop-moves {r} {l} {l′} {w} k m hk e = rw e (record {
   stays = λ q. refl;
   keeps = λ a b ha hb h. (h, grown-other l (256 + k) m (a * 32 + b) (λ q. omega arith), λ y. grown-other l (256 + k) m 264 (λ q. omega arith));
 })
-
--- every node is to be seen
-abbrev pub Full : List ℕ → Type 0
-Full w = (length w ≡ 8) × Filled (λ a. 4294967295) 8 w
-
-full-masks : {w : List ℕ} → Full w → Masks 8 32 w
-full-masks {w} f = filled-masks (λ a. 4294967295) 8 32 w (f .0) (f .1) (λ a h. omega arith)
-
-full-bit : (w : List ℕ) (p n : ℕ) → p < 8 → n < 32 → Full w → bit n (cell w p) ≡ true
-full-bit w p n hp hn f = rw (f .1 p hp) (bit-low n 32 hn)
 
 -- the nodes r are to be seen, too
 pub record Woken (r w w′ : List ℕ) : Type 0 where
@@ -224,19 +215,39 @@ held-more h w = record { first = λ k b. h _ k (w .first k b); second = λ k b. 
 -- ---- the worklist of a table
 
 module _ (t : Table) (o : Ready t) where
-  pub record Work (l w : List ℕ) : Type 0 where
-    pub good : Good t o l
+  -- with the parameters of the first k tasks' top procedures
+  pub record WorkUpto (k : ℕ) (l w : List ℕ) : Type 0 where
+    pub good : Upto t o k l
     pub todo : Masks 8 32 w
     pub done : (p n : ℕ) → p < 8 → n < 32 → bit n (cell w p) ≡ false → Rests t l p n
 
-  pub work-start : {l w : List ℕ} → Good t o l → Full w → Work l w
-  work-start {l} {w} g f = record { good = g; todo = full-masks f; done = λ p n hp hn h. absurd (true≢false (sym (full-bit w p n hp hn f) ∙ h)) }
+  abbrev pub Work : List ℕ → List ℕ → Type 0
+  Work l w = WorkUpto (t .tasks) l w
 
-  work-next : {r l w w1 l′ w′ : List ℕ} (p n : ℕ) → p < 8 → Receivers t r → Work l w → Took w p n w1 → l′ ≡ stepped (nodeAt t p n) p n l → Moves r l w1 l′ w′ → Work l′ w′
+  -- the sources are to be seen at first
+  pub work-start : {w : List ℕ} → Sources t w → WorkUpto 0 (replicate 265 0) w
+  work-start {w} r = record {
+    good = begun t o;
+    todo = r .masks;
+    done = λ p n hp hn h. rw (cell-zeros 265 (p * 32 + n), cell-zeros 265 264) (flow-nothing (nodeAt t p n) n p (replicate 265 0) (sym (r .right p n hp hn) ∙ h));
+  }
+
+  -- the cells have what goes out of a node that is not to be seen, since what comes to it is the same
+  rests-on : {r l w l′ w′ : List ℕ} (a b : ℕ) → a < 8 → b < 32 → Sources t r → Moves r l w l′ w′ → bit b (cell w′ a) ≡ false → (bit b (cell w a) ≡ false → Held (flowOf (nodeAt t a b) b (cell l (a * 32 + b)) (cell l 264)) a l′) → Rests t l′ a b
+  rests-on {r} {l} {w} {l′} {w′} a b ha hb rc m h f = let j = m .keeps a b ha hb h in rw (j .1, flow-blank (nodeAt t a b) b (cell l (a * 32 + b)) (cell l 264) (cell l′ 264) (λ y. j .2 (rc .right a b ha hb ∙ y))) (f (j .0))
+
+  pub work-top : {r l w l′ w′ : List ℕ} (k : ℕ) → k < t .tasks → Sources t r → WorkUpto k l w → l′ ≡ topStep t l k → Moves r l w l′ w′ → WorkUpto (k + 1) l′ w′
+  work-top {r} {l} k h rc g e m = record {
+    good = rw (e, add-one) (top-begun t o k l h (g .good));
+    todo = m .small (g .todo);
+    done = λ a b ha hb z. rests-on a b ha hb rc m z (λ y. held-more (m .has) (g .done a b ha hb y));
+  }
+
+  work-next : {r l w w1 l′ w′ : List ℕ} (p n : ℕ) → p < 8 → Sources t r → Work l w → Took w p n w1 → l′ ≡ stepped (nodeAt t p n) p n l → Moves r l w1 l′ w′ → Work l′ w′
   work-next {r} {l} {w} {w1} {l′} {w′} p n hp rc k c e m = record {
     good = rw e (step-good t o l p n hp (c .low) (k .good));
     todo = m .small (c .small);
-    done = λ a b ha hb h. let j = m .keeps a b ha hb h in rw (j .1, flow-blank (nodeAt t a b) b (cell l (a * 32 + b)) (cell l 264) (cell l′ 264) (λ y. j .2 (rc .right a b ha hb ∙ y))) (go a b ha hb (c .other a b (j .0)));
+    done = λ a b ha hb h. rests-on a b ha hb rc m h (λ y. go a b ha hb (c .other a b y));
   }
     where
       own : Held (flowOf (nodeAt t p n) n (cell l (p * 32 + n)) (cell l 264)) p l′
@@ -260,7 +271,7 @@ leftOf l w = left 265 (8 * 2 ^ 32) l (sum w)
 pub record Going (r : List ℕ) (q : Proc) (p : ℕ) (l₀ w₀ l w : List ℕ) : Type 0 where
   pub masks : Masks 265 32 l
   pub todo : Masks 8 32 w
-  pub keeps : (t : Table) (o : Ready t) → procAt t p ≡ q → Receivers t r → Work t o l₀ w₀ → Work t o l w
+  pub keeps : (t : Table) (o : Ready t) → procAt t p ≡ q → Sources t r → Work t o l₀ w₀ → Work t o l w
   pub less : (leftOf l w < leftOf l₀ w₀) ⊎ ((l ≡ l₀) × (w ≡ w₀))
 
 pub going-start : (r : List ℕ) (q : Proc) (p : ℕ) (l w : List ℕ) → Masks 265 32 l → Masks 8 32 w → Going r q p l w l w
@@ -310,7 +321,7 @@ along-end {q} {p} {n} {on} {r} {l₀} {w₀} {l} {w} {l′} {w′} f g e = recor
 
 -- what the work on procedure p does
 pub record Works (r : List ℕ) (q : Proc) (p : ℕ) (l w l′ w′ : List ℕ) : Type 0 where
-  pub keeps : (t : Table) (o : Ready t) → procAt t p ≡ q → Receivers t r → Work t o l w → Work t o l′ w′
+  pub keeps : (t : Table) (o : Ready t) → procAt t p ≡ q → Sources t r → Work t o l w → Work t o l′ w′
   pub less : cell w p ≢ 0 → leftOf l′ w′ < leftOf l w
 
 pub going-end : {q : Proc} {p : ℕ} {r l w l′ w′ : List ℕ} → Going r q p l w l′ w′ → cell w′ p ≡ 0 → Works r q p l w l′ w′
@@ -324,19 +335,6 @@ going-end {q} {p} {r} {l} {w} {l′} {w′} g z = record { keeps = g .keeps; les
 pub record Pending (w : List ℕ) (p : ℕ) : Type 0 where
   pub some′ : p < 8 → cell w p ≢ 0
   pub none′ : 8 ≤ p → (a : ℕ) → a < 8 → cell w a ≡ 0
-
--- ---- before the first node
-
-cell-each : (n v a : ℕ) → a < n → cell (replicate n v) a ≡ v
-cell-each zero v a h = absurd (omega arith)
-cell-each (suc n) v zero h = refl
-cell-each (suc n) v (suc a) h = cell-each n v a (omega arith)
-
-pub full : Full (replicate 8 4294967295)
-full = (length-replicate {A = ℕ} 8 4294967295, λ a h. cell-each 8 4294967295 a h)
-
-pub full-pending : {w : List ℕ} → Full w → Pending w 0
-full-pending f = record { some′ = λ h e. let z = f .1 0 h in omega arith; none′ = λ h. absurd (omega arith) }
 
 -- ---- the nodes r are woken, procedure by procedure
 

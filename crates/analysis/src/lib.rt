@@ -9,17 +9,17 @@ ghost use mathlib.Core.Path.{_≡_};
 ghost use mathlib.Core.Bool.{true};
 ghost use mathlib.Core.List.{List};
 ghost use Prim.Native.Nat.{ℕ, _<_, _≤_, _^_, _+_, _-_, _*_};
-ghost use lib.ListN.{length, replicate};
+ghost use lib.ListN.{length};
 ghost use lib.Bits.{bitOr};
 ghost use Rattle.table.specs.Mask.{pick, maskOf};
-ghost use Rattle.masks.specs.Cells.{cell, grown, Flag, sweep, Masks};
+ghost use Rattle.masks.specs.Cells.{cell, grown, Flag, Masks};
 ghost use Rattle.flow.specs.Flow.{flowOf, passOf, afterPass};
 ghost use Rattle.analysis.specs.Ready.{Ready};
 ghost use Rattle.analysis.specs.Decides.{Decides, KeptMasks};
-ghost use Rattle.analysis.specs.Steps.{entered, passedOn, stepWith, topStep, keptIn};
+ghost use Rattle.analysis.specs.Steps.{entered, passedOn, stepWith, keptIn};
 ghost use Rattle.analysis.specs.Todo.{Leads, Took};
-ghost use Rattle.analysis.specs.Receivers.{isRecv, recvIn, Receivers};
-ghost use Rattle.analysis.specs.Plans.{Planned, Plans};
+ghost use Rattle.analysis.specs.Sources.{isSource, sourceIn};
+ghost use Rattle.analysis.specs.Plans.{passAt, Planned, Plans};
 ghost use Rattle.analysis.specs.Work.{Sized, Moves, Woken, Works, Pending};
 
 // The mask m is added to the cell a; the answer says whether something was new.
@@ -69,44 +69,44 @@ fn enter(cells: &mut [u32; 265], todo: &mut [u32; 8], k: usize, m: u32)
     grow(cells, 256 + k, m);
 }
 
-// The nodes of recvs are to be seen.
-fn wake(todo: &mut [u32; 8], recvs: &[u32; 8])
+// A queue has become blank: the sources are to be seen.
+fn wake(todo: &mut [u32; 8], sources: &[u32; 8])
     requires { ⌜ length (now todo) ≡ 8 ⌝ }
-    ensures { λ r. ⌜ Woken (now (recvs .entry)) (now (todo .entry)) (now (todo .exit)) ⌝ }
+    ensures { λ r. ⌜ Woken (now (sources .entry)) (now (todo .entry)) (now (todo .exit)) ⌝ }
 {
     let mut i: usize = 0;
     while i < 8 {
         let w = todo[i];
-        let r = recvs[i];
+        let r = sources[i];
         todo[i] = w | r;
         i += 1;
     }
 }
 
 // The queues m are blank.
-fn blank(cells: &mut [u32; 265], todo: &mut [u32; 8], recvs: &[u32; 8], m: u32)
-    requires { ⌜ Sized (now cells) (now todo) × Masks 8 32 (now recvs) ⌝ }
+fn blank(cells: &mut [u32; 265], todo: &mut [u32; 8], sources: &[u32; 8], m: u32)
+    requires { ⌜ Sized (now cells) (now todo) × Masks 8 32 (now sources) ⌝ }
     ensures list { λ r. ⌜ now (cells .exit) ≡ grown (now (cells .entry)) 264 m ⌝ }
-    ensures moves { λ r. ⌜ Moves (now (recvs .entry)) (now (cells .entry)) (now (todo .entry)) (now (cells .exit)) (now (todo .exit)) ⌝ }
+    ensures moves { λ r. ⌜ Moves (now (sources .entry)) (now (cells .entry)) (now (todo .entry)) (now (cells .exit)) (now (todo .exit)) ⌝ }
 {
     let yes = grow(cells, 264, m);
     if yes {
-        wake(todo, recvs);
+        wake(todo, sources);
         return;
     }
 }
 
 // What a node adds to the cell a: dropped parameters, or blank queues.
-fn pass_on(cells: &mut [u32; 265], todo: &mut [u32; 8], recvs: &[u32; 8], a: usize, m: u32)
-    requires { ⌜ (256 ≤ a) × ((a < 265) × (Sized (now cells) (now todo) × Masks 8 32 (now recvs))) ⌝ }
+fn pass_on(cells: &mut [u32; 265], todo: &mut [u32; 8], sources: &[u32; 8], a: usize, m: u32)
+    requires { ⌜ (256 ≤ a) × ((a < 265) × (Sized (now cells) (now todo) × Masks 8 32 (now sources))) ⌝ }
     ensures list { λ r. ⌜ now (cells .exit) ≡ passedOn (now (cells .entry)) a m ⌝ }
-    ensures moves { λ r. ⌜ Moves (now (recvs .entry)) (now (cells .entry)) (now (todo .entry)) (now (cells .exit)) (now (todo .exit)) ⌝ }
+    ensures moves { λ r. ⌜ Moves (now (sources .entry)) (now (cells .entry)) (now (todo .entry)) (now (cells .exit)) (now (todo .exit)) ⌝ }
 {
     if a < 264 {
         enter(cells, todo, a - 256, m);
         return;
     }
-    blank(cells, todo, recvs, m);
+    blank(cells, todo, sources, m);
 }
 
 // The first target of a node, and whether it is to be seen.
@@ -137,11 +137,11 @@ fn spread(
     n: usize,
     cells: &mut [u32; 265],
     todo: &mut [u32; 8],
-    recvs: &[u32; 8],
+    sources: &[u32; 8],
 ) -> Next
-    requires { ⌜ (p < 8) × ((n < 32) × (Sized (now cells) (now todo) × Masks 8 32 (now recvs))) ⌝ }
+    requires { ⌜ (p < 8) × ((n < 32) × (Sized (now cells) (now todo) × Masks 8 32 (now sources))) ⌝ }
     ensures list { λ r. ⌜ now (cells .exit) ≡ stepWith (flowOf x n (cell (now (cells .entry)) (p * 32 + n)) (cell (now (cells .entry)) 264)) p (now (cells .entry)) ⌝ }
-    ensures moves { λ r. ⌜ Moves (now (recvs .entry)) (now (cells .entry)) (now (todo .entry)) (now (cells .exit)) (now (todo .exit)) ⌝ }
+    ensures moves { λ r. ⌜ Moves (now (sources .entry)) (now (cells .entry)) (now (todo .entry)) (now (cells .exit)) (now (todo .exit)) ⌝ }
     ensures next { λ r. ⌜ Leads p (r .to) (r .on) (now (todo .exit)) ⌝ }
 {
     let at = p * 32 + n;
@@ -155,7 +155,7 @@ fn spread(
     let add = f.add;
     let on = reach(cells, todo, p, first, o);
     reach(cells, todo, p, second, o);
-    pass_on(cells, todo, recvs, extra, add);
+    pass_on(cells, todo, sources, extra, add);
     Next { on, to: first }
 }
 
@@ -167,17 +167,17 @@ fn visit(
     n: usize,
     cells: &mut [u32; 265],
     todo: &mut [u32; 8],
-    recvs: &[u32; 8],
+    sources: &[u32; 8],
 ) -> Next
-    requires { ⌜ (p < 8) × ((n < 32) × (Sized (now cells) (now todo) × (Masks 8 32 (now recvs) × (s ≡ passOf x n)))) ⌝ }
+    requires { ⌜ (p < 8) × ((n < 32) × (Sized (now cells) (now todo) × (Masks 8 32 (now sources) × (s ≡ passOf x n)))) ⌝ }
     ensures list { λ r. ⌜ now (cells .exit) ≡ stepWith (flowOf x n (cell (now (cells .entry)) (p * 32 + n)) (cell (now (cells .entry)) 264)) p (now (cells .entry)) ⌝ }
-    ensures moves { λ r. ⌜ Moves (now (recvs .entry)) (now (cells .entry)) (now (todo .entry)) (now (cells .exit)) (now (todo .exit)) ⌝ }
+    ensures moves { λ r. ⌜ Moves (now (sources .entry)) (now (cells .entry)) (now (todo .entry)) (now (cells .exit)) (now (todo .exit)) ⌝ }
     ensures next { λ r. ⌜ Leads p (r .to) (r .on) (now (todo .exit)) ⌝ }
 {
     if s.to < 32 {
         return pass(s, p, n, cells, todo);
     }
-    spread(x, p, n, cells, todo, recvs)
+    spread(x, p, n, cells, todo, sources)
 }
 
 // Node n of procedure p, which is to be seen, is taken out.
@@ -189,22 +189,31 @@ fn take(p: usize, n: usize, todo: &mut [u32; 8])
     todo[p] = masks::minus(m, n);
 }
 
-// What each node of a procedure does, if it has one target.
-struct Plan {
-    passes: [Pass; 32],
+// What the node at place `at` does, if it has one target.
+fn pass_at(uses: &[u32; 256], sets: &[u32; 256], tos: &[u8; 256], at: usize) -> Pass
+    requires { ⌜ (at < 256) × (cell (now tos) at ≤ 32) ⌝ }
+    ensures { λ r. ⌜ r ≡ passAt (now (uses .entry)) (now (sets .entry)) (now (tos .entry)) at ⌝ }
+{
+    Pass {
+        uses: uses[at],
+        sets: sets[at],
+        to: tos[at] as usize,
+    }
 }
 
 // The nodes of procedure p, until none is to be seen: along each chain as far as it leads.
 fn proc_work(
     q: Proc,
-    plan: Plan,
     p: usize,
+    uses: &[u32; 256],
+    sets: &[u32; 256],
+    tos: &[u8; 256],
     cells: &mut [u32; 265],
     todo: &mut [u32; 8],
-    recvs: &[u32; 8],
+    sources: &[u32; 8],
 )
-    requires { ⌜ (p < 8) × (Masks 265 32 (now cells) × (Masks 8 32 (now todo) × (Masks 8 32 (now recvs) × Planned q plan))) ⌝ }
-    ensures { λ r. ⌜ Works (now (recvs .entry)) q p (now (cells .entry)) (now (todo .entry)) (now (cells .exit)) (now (todo .exit)) ⌝ }
+    requires { ⌜ (p < 8) × (Masks 265 32 (now cells) × (Masks 8 32 (now todo) × (Masks 8 32 (now sources) × Planned q p (now uses) (now sets) (now tos)))) ⌝ }
+    ensures { λ r. ⌜ Works (now (sources .entry)) q p (now (cells .entry)) (now (todo .entry)) (now (cells .exit)) (now (todo .exit)) ⌝ }
 {
     while todo[p] != 0 {
         let m = todo[p];
@@ -214,8 +223,8 @@ fn proc_work(
             take(p, n, todo);
             let y = q.slots[n];
             let x = y.node;
-            let s = plan.passes[n];
-            let f = visit(x, s, p, n, cells, todo, recvs);
+            let s = pass_at(uses, sets, tos, p * 32 + n);
+            let f = visit(x, s, p, n, cells, todo, sources);
             n = f.to;
             on = f.on;
         }
@@ -244,29 +253,10 @@ fn low_bits(k: u8) -> u32
     (1 << (k as u32)) - 1
 }
 
-// The parameters of the tasks' top procedures are dropped.
-fn start(t: Table) -> [u32; 265]
-    requires { ⌜ Ready t ⌝ }
-    ensures { λ r. ⌜ r ≡ sweep (topStep t) (t .tasks) (replicate 265 0) ⌝ }
-{
-    let mut cells = [0u32; 265];
-    let tasks = t.tasks as usize;
-    let mut k: usize = 0;
-    while k < tasks {
-        let w = t.task[k];
-        let p = w.top as usize;
-        let q = t.proc[p];
-        let m = low_bits(q.params);
-        grow(&mut cells, p * 32, m);
-        grow(&mut cells, 256 + p, m);
-        k += 1;
-    }
-    cells
-}
-
-// Whether a node receives.
-fn is_recv(x: Node) -> bool
-    ensures { λ r. ⌜ r ≡ isRecv x ⌝ }
+// Whether a node is a source: a variable can be dirty after it though none is dirty before it. A read is one, and a receive from a
+// blank queue.
+fn is_source(x: Node) -> bool
+    ensures { λ r. ⌜ r ≡ isSource x ⌝ }
 {
     match x {
         Node::Absent => false,
@@ -285,7 +275,7 @@ fn is_recv(x: Node) -> bool
             yes: _,
             no: _,
         } => false,
-        Node::Read { var: _, to: _ } => false,
+        Node::Read { var: _, to: _ } => true,
         Node::Call {
             callee: _,
             args: _,
@@ -309,89 +299,72 @@ fn is_recv(x: Node) -> bool
     }
 }
 
-// The receiving nodes of a procedure.
-fn recv_mask(q: Proc) -> u32
-    ensures { λ r. ⌜ r ≡ maskOf 32 (recvIn q) ⌝ }
+// The sources of a procedure.
+fn source_mask(q: Proc) -> u32
+    ensures { λ r. ⌜ r ≡ maskOf 32 (sourceIn q) ⌝ }
 {
     let mut m: u32 = 0;
     let mut n: usize = 0;
     while n < 32 {
         let s = q.slots[n];
         let x = s.node;
-        let yes = is_recv(x);
+        let yes = is_source(x);
         m = with(m, n, yes);
         n += 1;
     }
     m
 }
 
-// The receiving nodes of each procedure.
-fn receivers(t: Table) -> [u32; 8]
-    ensures { λ r. ⌜ Receivers t r ⌝ }
+// What each node of procedure p does, if it has one target: the fields of its `Pass`, each in an array for all procedures.
+fn plan(q: Proc, p: usize, uses: &mut [u32; 256], sets: &mut [u32; 256], tos: &mut [u8; 256])
+    requires { ⌜ p < 8 ⌝ }
+    ensures { λ r. ⌜ Plans q p (now (uses .entry)) (now (sets .entry)) (now (tos .entry)) (now (uses .exit)) (now (sets .exit)) (now (tos .exit)) 32 ⌝ }
 {
-    let mut r = [0u32; 8];
-    let mut p: usize = 0;
-    while p < 8 {
-        let q = t.proc[p];
-        r[p] = recv_mask(q);
-        p += 1;
-    }
-    r
-}
-
-fn plan_of(q: Proc) -> Plan
-    ensures { λ r. ⌜ Planned q r ⌝ }
-{
-    let mut passes = [Pass {
-        uses: 0,
-        sets: 0,
-        to: 0,
-    }; 32];
     let mut n: usize = 0;
     while n < 32 {
-        let s = q.slots[n];
-        let x = s.node;
-        passes[n] = flow::pass_of(x, n);
+        let y = q.slots[n];
+        let x = y.node;
+        let s = flow::pass_of(x, n);
+        let at = p * 32 + n;
+        uses[at] = s.uses;
+        sets[at] = s.sets;
+        tos[at] = s.to as u8;
         n += 1;
     }
-    Plan { passes }
 }
 
-// The plan of each procedure.
-fn plans_of(t: Table) -> [Plan; 8]
-    ensures { λ r. ⌜ Plans t r ⌝ }
-{
-    let none = Plan {
-        passes: [Pass {
-            uses: 0,
-            sets: 0,
-            to: 0,
-        }; 32],
-    };
-    let mut r = [none; 8];
-    let mut p: usize = 0;
-    while p < 8 {
-        let q = t.proc[p];
-        r[p] = plan_of(q);
-        p += 1;
-    }
-    r
-}
-
-// What is dirty: each node at first, and again after what comes to it has grown.
+// What is dirty: the sources are seen at first, and each node after what comes to it has grown.
 pub fn dirty_cells(t: Table) -> [u32; 265]
     requires { ⌜ Ready t ⌝ }
     ensures { λ r. ⌜ Decides t r ⌝ }
 {
-    let recvs = receivers(t);
-    let plans = plans_of(t);
-    let mut cells = start(t);
-    let mut todo = [4294967295u32; 8];
+    let mut sources = [0u32; 8];
+    let mut uses = [0u32; 256];
+    let mut sets = [0u32; 256];
+    let mut tos = [0u8; 256];
     let mut p: usize = 0;
     while p < 8 {
         let q = t.proc[p];
-        let plan = plans[p];
-        proc_work(q, plan, p, &mut cells, &mut todo, &recvs);
+        sources[p] = source_mask(q);
+        plan(q, p, &mut uses, &mut sets, &mut tos);
+        p += 1;
+    }
+    let mut cells = [0u32; 265];
+    let mut todo = sources;
+    let tasks = t.tasks as usize;
+    let mut k: usize = 0;
+    while k < tasks {
+        let w = t.task[k];
+        let top = w.top as usize;
+        let q = t.proc[top];
+        let m = low_bits(q.params);
+        enter(&mut cells, &mut todo, top, m);
+        k += 1;
+    }
+    p = pending(&todo);
+    while p < 8 {
+        let q = t.proc[p];
+        proc_work(q, p, &uses, &sets, &tos, &mut cells, &mut todo, &sources);
         p = pending(&todo);
     }
     cells

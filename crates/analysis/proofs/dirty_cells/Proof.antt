@@ -1,56 +1,128 @@
-use mathlib.Core.Path.{refl}
+use Prim.Native.Nat.{_≤_, _-_}
+use mathlib.Core.Path.{_≡_, refl}
 use Rattle.analysis.specs.Ready.{Ready}
-use Rattle.analysis.specs.Decide.{start-good}
-use Rattle.analysis.specs.Work.{Work, Pending, leftOf, work-start, work-end, full, full-pending}
+use Rattle.analysis.specs.StepLaws.{top-is}
+use Rattle.analysis.specs.Plans.{Scanned, scanned-start, scanned-next, scanned-end, scanned-sources, scanned-plan}
+use Rattle.analysis.specs.Work.{WorkUpto, Work, Pending, leftOf, work-start, work-top, work-end}
 use borrow.Author.Needs.{needs}
 use native.Mathlib.Omega.{arith}
 use Rattle.analysis.proofs.dirty_cells.Statement.{statement}
 use Rattle.analysis.proofs.dirty_cells.Tie as tie
 
 abbrev Inv-loop : tie.InvT-loop
-Inv-loop t recvs plans cells₀ todo₀ p₀ cells todo p = ((o : Ready t) → Work t o cells todo) × Pending todo p
+Inv-loop t sources₀ uses₀ sets₀ tos₀ p₀ sources uses sets tos p = Scanned t p sources uses sets tos
 
 abbrev μ-loop : tie.MeasureT-loop
-μ-loop t recvs plans cells₀ todo₀ p₀ cells todo p = leftOf cells todo
+μ-loop t sources₀ uses₀ sets₀ tos₀ p₀ sources uses sets tos p = 8 - p
 
-receivers-requires : tie.Need-receivers-requires Inv-loop μ-loop
-receivers-requires c κs = search needs
+abbrev Inv-loop2 : tie.InvT-loop2
+Inv-loop2 t sources uses sets tos p cells₀ todo₀ tasks k₀ cells todo k = Scanned t 8 sources uses sets tos × ((k ≤ t .tasks) × ((o : Ready t) → WorkUpto t o k cells todo))
 
-plans-of-requires : tie.Need-plans-of-requires Inv-loop μ-loop
-plans-of-requires c κs = search needs
+abbrev μ-loop2 : tie.MeasureT-loop2
+μ-loop2 t sources uses sets tos p cells₀ todo₀ tasks k₀ cells todo k = t .tasks - k
 
-start-requires : tie.Need-start-requires Inv-loop μ-loop
-start-requires c κs = c .before .before .pre
+abbrev Inv-loop3 : tie.InvT-loop3
+Inv-loop3 t sources uses sets tos p₀ cells₀ todo₀ tasks k p cells todo = Scanned t 8 sources uses sets tos × (((o : Ready t) → Work t o cells todo) × Pending todo p)
 
-loop-holds : tie.Need-loop-holds Inv-loop μ-loop
-loop-holds c = (λ o. work-start _ o (rw (c .start .ensures) (start-good _ o)) full, full-pending full)
+abbrev μ-loop3 : tie.MeasureT-loop3
+μ-loop3 t sources uses sets tos p₀ cells₀ todo₀ tasks k p cells todo = leftOf cells todo
 
-mul-q : tie.Need-mul-q Inv-loop μ-loop
+loop-holds : tie.Need-loop-holds Inv-loop μ-loop Inv-loop2 μ-loop2 Inv-loop3 μ-loop3
+loop-holds c = scanned-start _
+
+mul-q : tie.Need-mul-q Inv-loop μ-loop Inv-loop2 μ-loop2 Inv-loop3 μ-loop3
 mul-q c = search needs
 
-element-copy-out-q : tie.Need-element-copy-out-q Inv-loop μ-loop
+element-copy-out-q :
+    tie.Need-element-copy-out-q Inv-loop μ-loop Inv-loop2 μ-loop2 Inv-loop3 μ-loop3
 element-copy-out-q c = search needs
 
-mul-plan : tie.Need-mul-plan Inv-loop μ-loop
-mul-plan c = search needs
+source-mask-requires :
+    tie.Need-source-mask-requires Inv-loop μ-loop Inv-loop2 μ-loop2 Inv-loop3 μ-loop3
+source-mask-requires c κs = search needs
 
-array-copy-out-plan : tie.Need-array-copy-out-plan Inv-loop μ-loop
-array-copy-out-plan c = search needs
+mul-sources : tie.Need-mul-sources Inv-loop μ-loop Inv-loop2 μ-loop2 Inv-loop3 μ-loop3
+mul-sources c = search needs
 
-proc-work-requires : tie.Need-proc-work-requires Inv-loop μ-loop
-proc-work-requires c κs = let h = c .before .before .before .before .before .loop-test .taken in let k = c .before .before .before .before .before .before .loop .inv .0 (c .before .before .before .before .before .before .before .before .before .before .pre) in (h, (k .good .masks, (k .todo, (c .before .before .before .before .before .before .before .before .before .receivers .ensures .masks, c .before .before .before .before .before .before .before .before .plans-of .ensures .each _ h))))
+array-write-sources : tie.Need-array-write-sources Inv-loop μ-loop Inv-loop2 μ-loop2 Inv-loop3 μ-loop3
+array-write-sources c = omega (arith, c .before .before .before .loop .inv .sources-size)
 
-pending-requires : tie.Need-pending-requires Inv-loop μ-loop
+plan-requires : tie.Need-plan-requires Inv-loop μ-loop Inv-loop2 μ-loop2 Inv-loop3 μ-loop3
+plan-requires c κs = c .before .before .before .before .before .loop-test .taken
+
+add-p : tie.Need-add-p Inv-loop μ-loop Inv-loop2 μ-loop2 Inv-loop3 μ-loop3
+add-p c = search needs
+
+loop-less : tie.Need-loop-less Inv-loop μ-loop Inv-loop2 μ-loop2 Inv-loop3 μ-loop3
+loop-less c = search needs
+
+loop-again : tie.Need-loop-again Inv-loop μ-loop Inv-loop2 μ-loop2 Inv-loop3 μ-loop3
+loop-again c = scanned-next (c .before .before .before .before .before .before .before .loop .p) (c .before .before .before .before .before .before .loop-test .taken) (c .before .before .before .before .source-mask .ensures) (c .plan .ensures) (c .before .before .before .before .before .before .before .loop .inv)
+
+cast-tasks : tie.Need-cast-tasks Inv-loop μ-loop Inv-loop2 μ-loop2 Inv-loop3 μ-loop3
+cast-tasks c = search needs
+
+loop2-holds : tie.Need-loop2-holds Inv-loop μ-loop Inv-loop2 μ-loop2 Inv-loop3 μ-loop3
+loop2-holds c = (scanned-end (omega (arith, c .loop-test .left)) (c .before .loop .inv), (omega arith, λ o. work-start _ o (scanned-sources (scanned-end (omega (arith, c .loop-test .left)) (c .before .loop .inv)))))
+
+element-copy-out-w :
+    tie.Need-element-copy-out-w Inv-loop μ-loop Inv-loop2 μ-loop2 Inv-loop3 μ-loop3
+element-copy-out-w c = omega (arith, c .before .before .before .before .pre .tasks-few)
+
+cast-top : tie.Need-cast-top Inv-loop μ-loop Inv-loop2 μ-loop2 Inv-loop3 μ-loop3
+cast-top c = search needs
+
+mul-q-2 : tie.Need-mul-q-2 Inv-loop μ-loop Inv-loop2 μ-loop2 Inv-loop3 μ-loop3
+mul-q-2 c = omega (arith, c .before .before .before .before .before .before .pre .tops-low (c .before .before .before .loop2 .k) (c .before .before .loop2-test .taken))
+
+element-copy-out-q-2 :
+    tie.Need-element-copy-out-q-2 Inv-loop μ-loop Inv-loop2 μ-loop2 Inv-loop3 μ-loop3
+element-copy-out-q-2 c = c .before .before .before .before .before .before .pre .tops-low (c .before .before .before .loop2 .k) (c .before .before .loop2-test .taken)
+
+low-bits-requires : tie.Need-low-bits-requires Inv-loop μ-loop Inv-loop2 μ-loop2 Inv-loop3 μ-loop3
+low-bits-requires c κs = c .before .before .before .before .before .before .before .pre .params-few _
+
+enter-requires : tie.Need-enter-requires Inv-loop μ-loop Inv-loop2 μ-loop2 Inv-loop3 μ-loop3
+enter-requires c κs = let g = c .before .before .before .before .before .before .before .loop2 .inv .1 .1 (c .before .before .before .before .before .before .before .before .before .before .pre) in (c .before .before .before .before .before .before .before .before .before .before .pre .tops-low (c .before .before .before .before .before .before .before .loop2 .k) (c .before .before .before .before .before .before .loop2-test .taken), (g .good .masks .size, g .todo .size))
+
+add-k : tie.Need-add-k Inv-loop μ-loop Inv-loop2 μ-loop2 Inv-loop3 μ-loop3
+add-k c = omega (arith, c .before .before .before .before .before .before .before .before .loop2 .inv .1 .0, c .before .before .before .before .before .before .before .before .before .before .before .pre .tasks-few)
+
+loop2-less : tie.Need-loop2-less Inv-loop μ-loop Inv-loop2 μ-loop2 Inv-loop3 μ-loop3
+loop2-less c = omega (arith, c .before .before .before .before .before .before .before .loop2-test .taken)
+
+loop2-again : tie.Need-loop2-again Inv-loop μ-loop Inv-loop2 μ-loop2 Inv-loop3 μ-loop3
+loop2-again c = let h = c .before .before .before .before .before .before .before .before .loop2 in (h .inv .0, (omega (arith, c .before .before .before .before .before .before .before .loop2-test .taken), λ o. work-top _ o (h .k) (c .before .before .before .before .before .before .before .loop2-test .taken) (scanned-sources (h .inv .0)) (h .inv .1 .1 o) (top-is _ _ _ _ (c .before .before .before .low-bits .ensures) (c .enter .ensures .0)) (c .enter .ensures .1 _)))
+
+pending-requires : tie.Need-pending-requires Inv-loop μ-loop Inv-loop2 μ-loop2 Inv-loop3 μ-loop3
 pending-requires c κs = search needs
 
-loop-less : tie.Need-loop-less Inv-loop μ-loop
-loop-less c = c .before .before .proc-work .ensures .less (c .before .before .before .before .before .before .before .before .before .loop .inv .1 .some′ (c .before .before .before .before .before .before .before .before .loop-test .taken))
+loop3-holds : tie.Need-loop3-holds Inv-loop μ-loop Inv-loop2 μ-loop2 Inv-loop3 μ-loop3
+loop3-holds c = let h = c .before .before .before .loop2 in let z : h .k ≡ c .before .before .before .before .before .before .args .t1 .tasks = omega (arith, c .before .before .loop2-test .left, h .inv .1 .0) in (h .inv .0, (rw z at (h .inv .1 .1), c .pending .ensures))
 
-loop-again : tie.Need-loop-again Inv-loop μ-loop
-loop-again c = (λ o. c .before .before .proc-work .ensures .keeps _ o refl (c .before .before .before .before .before .before .before .before .before .before .before .before .receivers .ensures) (c .before .before .before .before .before .before .before .before .before .loop .inv .0 o), c .pending .ensures)
+mul-q-3 : tie.Need-mul-q-3 Inv-loop μ-loop Inv-loop2 μ-loop2 Inv-loop3 μ-loop3
+mul-q-3 c = search needs
 
-returns : tie.Need-returns Inv-loop μ-loop
-returns c = let o = c .before .before .before .before .before .pre in work-end _ o (c .before .loop .inv .0 o) (c .before .loop .inv .1 .none′ (omega (arith, c .loop-test .left)))
+element-copy-out-q-3 :
+    tie.Need-element-copy-out-q-3 Inv-loop μ-loop Inv-loop2 μ-loop2 Inv-loop3 μ-loop3
+element-copy-out-q-3 c = search needs
+
+proc-work-requires :
+    tie.Need-proc-work-requires Inv-loop μ-loop Inv-loop2 μ-loop2 Inv-loop3 μ-loop3
+proc-work-requires c κs = let h = c .before .before .before .before .before .before .before .before .loop3 .inv in let k = h .1 .0 (c .before .before .before .before .before .before .before .before .before .before .before .before .before .before .before .pre) in (c .before .before .before .before .before .before .before .loop3-test .taken, (k .good .masks, (k .todo, (scanned-sources (h .0) .masks, scanned-plan _ (c .before .before .before .before .before .before .before .loop3-test .taken) (h .0)))))
+
+pending-requires-2 :
+    tie.Need-pending-requires-2 Inv-loop μ-loop Inv-loop2 μ-loop2 Inv-loop3 μ-loop3
+pending-requires-2 c κs = search needs
+
+loop3-less : tie.Need-loop3-less Inv-loop μ-loop Inv-loop2 μ-loop2 Inv-loop3 μ-loop3
+loop3-less c = c .before .before .proc-work .ensures .less (c .before .before .before .before .before .before .before .before .before .before .before .loop3 .inv .1 .1 .some′ (c .before .before .before .before .before .before .before .before .before .before .loop3-test .taken))
+
+loop3-again : tie.Need-loop3-again Inv-loop μ-loop Inv-loop2 μ-loop2 Inv-loop3 μ-loop3
+loop3-again c = let h = c .before .before .before .before .before .before .before .before .before .before .before .loop3 .inv in (h .0, (λ o. c .before .before .proc-work .ensures .keeps _ o refl (scanned-sources (h .0)) (h .1 .0 o), c .pending2 .ensures))
+
+returns : tie.Need-returns Inv-loop μ-loop Inv-loop2 μ-loop2 Inv-loop3 μ-loop3
+returns c = let o = c .before .before .before .before .before .before .before .before .pre in let h = c .before .loop3 .inv in work-end _ o (h .1 .0 o) (h .1 .1 .none′ (omega (arith, c .loop3-test .left)))
 
 pub dirty-cells-spec : {M : Type 1} → statement M
 dirty-cells-spec =
@@ -58,16 +130,37 @@ dirty-cells-spec =
     (tie.spec
     Inv-loop
     μ-loop
-    receivers-requires
-    plans-of-requires
-    start-requires
+    Inv-loop2
+    μ-loop2
+    Inv-loop3
+    μ-loop3
     loop-holds
     mul-q
     element-copy-out-q
-    mul-plan
-    array-copy-out-plan
-    proc-work-requires
-    pending-requires
+    source-mask-requires
+    mul-sources
+    array-write-sources
+    plan-requires
+    add-p
     loop-less
     loop-again
+    cast-tasks
+    loop2-holds
+    element-copy-out-w
+    cast-top
+    mul-q-2
+    element-copy-out-q-2
+    low-bits-requires
+    enter-requires
+    add-k
+    loop2-less
+    loop2-again
+    pending-requires
+    loop3-holds
+    mul-q-3
+    element-copy-out-q-3
+    proc-work-requires
+    pending-requires-2
+    loop3-less
+    loop3-again
     returns)

@@ -1,3 +1,4 @@
+use Rattle.analysis.specs.Plans.{planned-low, planned-is}
 use Rattle.analysis.specs.Todo.{leads-low, leads-yes}
 use Rattle.analysis.specs.Work.{leftOf, Going, Along, going-start, next-less, along-start, along-next, along-end, going-end}
 use borrow.Author.Needs.{needs}
@@ -6,16 +7,16 @@ use Rattle.analysis.proofs.proc_work.Statement.{statement}
 use Rattle.analysis.proofs.proc_work.Tie as tie
 
 abbrev Inv-loop2 : tie.InvT-loop2
-Inv-loop2 p cells₀ todo₀ recvs q plan m n₀ on₀ cells todo n on = Along recvs q p cells₀ todo₀ cells todo n on
+Inv-loop2 p uses sets tos cells₀ todo₀ sources q m n₀ on₀ cells todo n on = Along sources q p cells₀ todo₀ cells todo n on
 
 abbrev μ-loop2 : tie.MeasureT-loop2
-μ-loop2 p cells₀ todo₀ recvs q plan m n₀ on₀ cells todo n on = leftOf cells todo
+μ-loop2 p uses sets tos cells₀ todo₀ sources q m n₀ on₀ cells todo n on = leftOf cells todo
 
 abbrev Inv-loop : tie.InvT-loop
-Inv-loop p cells₀ todo₀ recvs q plan cells todo = Going recvs q p cells₀ todo₀ cells todo
+Inv-loop p uses sets tos cells₀ todo₀ sources q cells todo = Going sources q p cells₀ todo₀ cells todo
 
 abbrev μ-loop : tie.MeasureT-loop
-μ-loop p cells₀ todo₀ recvs q plan cells todo = leftOf cells todo
+μ-loop p uses sets tos cells₀ todo₀ sources q cells todo = leftOf cells todo
 
 loop-holds : tie.Need-loop-holds Inv-loop2 μ-loop2 Inv-loop μ-loop
 loop-holds c = going-start _ _ _ _ _ (c .pre .1 .0) (c .pre .1 .1 .0)
@@ -53,14 +54,17 @@ mul-y c = omega (arith, c .take .ensures .low)
 element-copy-out-y : tie.Need-element-copy-out-y Inv-loop2 μ-loop2 Inv-loop μ-loop
 element-copy-out-y c = c .take .ensures .low
 
-mul-s : tie.Need-mul-s Inv-loop2 μ-loop2 Inv-loop μ-loop
-mul-s c = omega (arith, c .before .take .ensures .low)
+mul-pass-at : tie.Need-mul-pass-at Inv-loop2 μ-loop2 Inv-loop μ-loop
+mul-pass-at c = omega (arith, c .before .before .before .before .before .before .before .before .before .before .pre .0)
 
-element-copy-out-s : tie.Need-element-copy-out-s Inv-loop2 μ-loop2 Inv-loop μ-loop
-element-copy-out-s c = c .before .take .ensures .low
+add-pass-at : tie.Need-add-pass-at Inv-loop2 μ-loop2 Inv-loop μ-loop
+add-pass-at c = omega (arith, c .before .before .before .before .before .before .before .before .before .before .pre .0, c .before .take .ensures .low)
+
+pass-at-requires : tie.Need-pass-at-requires Inv-loop2 μ-loop2 Inv-loop μ-loop
+pass-at-requires c κs = let b = c .before .before .before .before .before .before .before .before .before .before .pre in let k = c .before .take .ensures .low in (omega (arith, b .0, k), planned-low _ k (b .1 .1 .1 .1))
 
 visit-requires : tie.Need-visit-requires Inv-loop2 μ-loop2 Inv-loop μ-loop
-visit-requires c κs = let b = c .before .before .before .before .before .before .before .before .before .before .before .before .before in let k = c .before .before .before .before .take .ensures in (b .pre .0, (k .low, ((c .before .before .before .before .before .before .before .loop2 .inv .going .masks .size, k .small .size), (b .pre .1 .1 .1 .0, b .pre .1 .1 .1 .1 .each _ (k .low)))))
+visit-requires c κs = let b = c .before .before .before .before .before .before .before .before .before .before .before .before .before in let k = c .before .before .before .before .take .ensures in (b .pre .0, (k .low, ((c .before .before .before .before .before .before .before .loop2 .inv .going .masks .size, k .small .size), (b .pre .1 .1 .1 .0, planned-is _ (k .low) (b .pre .1 .1 .1 .1) (c .before .before .pass-at .ensures)))))
 
 loop2-less : tie.Need-loop2-less Inv-loop2 μ-loop2 Inv-loop μ-loop
 loop2-less c = let b = c .before .before .before .before .before .before .before .before .before .before .before .before .before .before in next-less (b .args .t1) _ (b .pre .0) (c .before .before .before .before .before .before .before .before .loop2 .inv .going .masks) (c .before .before .before .before .before .take .ensures) (c .visit .ensures .0) (c .visit .ensures .1 .0)
@@ -91,8 +95,9 @@ proc-work-spec =
     take-requires
     mul-y
     element-copy-out-y
-    mul-s
-    element-copy-out-s
+    mul-pass-at
+    add-pass-at
+    pass-at-requires
     visit-requires
     loop2-less
     loop2-again

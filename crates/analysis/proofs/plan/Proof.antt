@@ -1,0 +1,83 @@
+use Prim.Native.Nat.{_-_}
+use Rattle.analysis.specs.Plans.{Plans, pass-small, plans-start, plans-next, plans-end}
+use borrow.Author.Needs.{needs}
+use native.Mathlib.Omega.{arith}
+use Rattle.analysis.proofs.plan.Statement.{statement}
+use Rattle.analysis.proofs.plan.Tie as tie
+
+abbrev Inv-loop : tie.InvT-loop
+Inv-loop p uses₀ sets₀ tos₀ q n₀ uses sets tos n = Plans q p uses₀ sets₀ tos₀ uses sets tos n
+
+abbrev μ-loop : tie.MeasureT-loop
+μ-loop p uses₀ sets₀ tos₀ q n₀ uses sets tos n = 32 - n
+
+loop-holds : tie.Need-loop-holds Inv-loop μ-loop
+loop-holds c = plans-start _ _ _ _ _
+
+mul-y : tie.Need-mul-y Inv-loop μ-loop
+mul-y c = search needs
+
+element-copy-out-y : tie.Need-element-copy-out-y Inv-loop μ-loop
+element-copy-out-y c = search needs
+
+pass-of-requires : tie.Need-pass-of-requires Inv-loop μ-loop
+pass-of-requires c κs = search needs
+
+mul-at : tie.Need-mul-at Inv-loop μ-loop
+mul-at c = search needs
+
+add-at : tie.Need-add-at Inv-loop μ-loop
+add-at c = search needs
+
+mul-uses : tie.Need-mul-uses Inv-loop μ-loop
+mul-uses c = search needs
+
+element-write-uses : tie.Need-element-write-uses Inv-loop μ-loop
+element-write-uses c = search needs
+
+mul-sets : tie.Need-mul-sets Inv-loop μ-loop
+mul-sets c = search needs
+
+element-write-sets : tie.Need-element-write-sets Inv-loop μ-loop
+element-write-sets c = search needs
+
+cast-tos : tie.Need-cast-tos Inv-loop μ-loop
+cast-tos c = omega (arith, pass-small _ _ (c .before .pass-of .ensures) (c .before .before .before .before .loop .inv .low))
+
+element-write-tos : tie.Need-element-write-tos Inv-loop μ-loop
+element-write-tos c = search needs
+
+add-n : tie.Need-add-n Inv-loop μ-loop
+add-n c = search needs
+
+loop-less : tie.Need-loop-less Inv-loop μ-loop
+loop-less c = search needs
+
+loop-again : tie.Need-loop-again Inv-loop μ-loop
+loop-again c = plans-next _ (c .before .before .before .before .loop .n) (c .before .before .before .before .before .pre) (c .before .before .before .loop-test .taken) (c .before .pass-of .ensures) (c .before .before .before .before .loop .inv)
+
+returns : tie.Need-returns Inv-loop μ-loop
+returns c = plans-end (omega (arith, c .loop-test .left)) (c .before .loop .inv)
+
+pub plan-spec : {M : Type 1} → statement M
+plan-spec =
+    tie.close
+    (tie.spec
+    Inv-loop
+    μ-loop
+    loop-holds
+    mul-y
+    element-copy-out-y
+    pass-of-requires
+    mul-at
+    add-at
+    mul-uses
+    element-write-uses
+    mul-sets
+    element-write-sets
+    cast-tos
+    element-write-tos
+    add-n
+    loop-less
+    loop-again
+    returns)
