@@ -2,3 +2,5 @@ pub mod Walks
 pub mod Runs
 pub mod Turns
 pub mod Stores
+pub mod Directs
+pub mod Holds

@@ -14,11 +14,11 @@ use lib.Dec.{eqb, leb}
 use lib.IntN.{ℤ, pos, negsuc}
 use mir.Syntax.{w32}
 use mir.Val.{SFits, ofZ}
-use borrow.Author.Tests.{leb-true, leb-false, eqb-true, eqb-false, eq-eqb}
+use borrow.Author.Tests.{leb-true, leb-false, eqb-true, eqb-false, eq-eqb, ne-eqb}
 use Rattle.table.specs.Mask.{pick, bit, also, membersFrom, members}
 use Rattle.table.specs.MaskLaws.{bit-above}
 use Rattle.machine.specs.Step.{stopNumber, spent, badToss, node, bad, tossed as tossedTo, toss, chooseFrom, choose}
-use Rattle.steps.specs.Cut.{halting, meeting, targetAt, tossed, Arrived}
+use Rattle.steps.specs.Cut.{halting, meeting, targetAt, tossed, Arrived, oneKept, directOf}
 use Rattle.steps.specs.declared.Chosen.{Chosen}
 
 half : (m k : ℕ) → m / 2 ^ suc k ≡ m / 2 ^ k / 2
@@ -191,3 +191,21 @@ module _ (arc keep : ℕ) (vs : List ℤ) (used : ℕ) (w : used ≤ length vs) 
 
     pub toss-arrived : Tossing (tossed arc keep vs used)
     toss-arrived = by-room (leb (length vs) used) refl
+
+-- ---- the one target of an arc, where it is kept
+
+module _ (arc keep : ℕ) where
+  pub direct-none : arc ≡ 0 → 32 ≡ directOf arc keep
+  direct-none z = sym (ap (oneKept keep) (ap members z ∙ none-above 32 0 0 (omega arith)))
+
+  pub direct-more : (a b : ℕ) (l : List ℕ) → members arc ≡ a ∷ b ∷ l → 32 ≡ directOf arc keep
+  direct-more a b l e = sym (ap (oneKept keep) e)
+
+  module _ (j : ℕ) (one : members arc ≡ j ∷ []) where
+    pub direct-kept : keep / 2 ^ j % 2 ≡ 1 → j ≡ directOf arc keep
+    unfolding bit
+    direct-kept h = sym (ap (oneKept keep) one ∙ ap (λ (b : Bool). pick b j 32) (eq-eqb (keep / 2 ^ j % 2) 1 h))
+
+    pub direct-dropped : (keep / 2 ^ j % 2 ≡ 1 → ⊥) → 32 ≡ directOf arc keep
+    unfolding bit
+    direct-dropped h = sym (ap (oneKept keep) one ∙ ap (λ (b : Bool). pick b j 32) (ne-eqb (keep / 2 ^ j % 2) 1 h))

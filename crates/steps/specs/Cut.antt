@@ -17,6 +17,7 @@ use Rattle.machine.specs.State.{varAt}
 use Rattle.machine.specs.Step.{Stop, tooMany, spent, badToss, stopNumber, operandIn, valueOf, Choice, nowhere, node, bad, choose}
 use Rattle.steps.specs.declared.Chosen.{Chosen}
 use Rattle.steps.specs.declared.Acted.{Acted}
+use Rattle.steps.specs.declared.Direct.{Direct}
 
 -- ---- the stop that a number stands for, of those that come within a step
 abbrev pub stopOf : ℕ → Stop
@@ -63,6 +64,15 @@ pub record Sound (keep : ℕ) (vs : List ℤ) (r : Chosen) : Type 0 where
 pub record Arrived (arc keep : ℕ) (vs : List ℤ) (used : ℕ) (r : Chosen) : Type 0 where
   pub choice : choose arc (drop used vs) ≡ choiceOf vs r
   pub sound : Sound keep vs r
+
+-- the one target of an arc, if it has exactly one and that is kept; else 32
+abbrev pub oneKept : ℕ → List ℕ → ℕ
+oneKept keep [] = 32
+oneKept keep (j ∷ []) = pick (bit j keep) j 32
+oneKept keep (j ∷ k ∷ l) = 32
+
+abbrev pub directOf : ℕ → ℕ → ℕ
+directOf arc keep = oneKept keep (members arc)
 
 -- ---- blocked, by the frames open, the semaphores' counts, the queues' lengths and capacities
 unfoldable pub stuckOf : Node → ℕ → List ℕ → List ℕ → List ℕ → Bool
@@ -198,3 +208,34 @@ bitsOf how x = pick (eqb how 4) (ofZ w32 x) 0
 -- the place of the frame that goes on: f is the topmost's
 abbrev pub underOf : ℕ → ℕ → ℕ → ℕ
 underOf f back d = pick (ltb back d) (f - back) f
+
+-- ---- a node executed in place, if its arc leads straight to a kept node
+
+-- tried with no frame to return to and no value to read
+abbrev pub triedHere : Node → List ℤ → List ℕ → List ℕ → List ℕ → List (List ℤ) → Acted
+triedHere x l ss ls cs is = triedOf x 0 l 0 ss ls cs is [] 0
+
+-- the kept node that it leads straight to, else 32
+abbrev pub straightTo : ℕ → Acted → ℕ
+straightTo keep o = pick (eqb (o .stop) 0) (directOf (o .arc) keep) 32
+
+abbrev pub directTo : ℕ → Direct
+directTo j = record { node = j; flag = 0; bits = 0 }
+
+abbrev pub directShows : ℕ → Option ℤ → Direct
+directShows j none = directTo j
+directShows j (some x) = record { node = j; flag = 1; bits = ofZ w32 x }
+
+-- each of eight queues has eight places
+abbrev pub RowsOf : List (List ℤ) → Type 0
+RowsOf is = (q : ℕ) → q < 8 → length (getD is q []) ≡ 8
+
+-- the answer, and variables, semaphores and queues after it; without such a node they are as before
+pub record Straight (keep : ℕ) (o : Acted) (l : List ℤ) (ss ls : List ℕ) (is : List (List ℤ)) (r : Direct) (l′ : List ℤ) (ss′ ls′ : List ℕ) (is′ : List (List ℤ)) : Type 0 where
+  pub node : r .node ≡ straightTo keep o
+  pub flag : r .flag ≡ flagOf (o .how)
+  pub bits : r .bits ≡ bitsOf (o .how) (o .value)
+  pub vars : l′ ≡ pick (eqb (straightTo keep o) 32) l (set l (o .var) (o .value))
+  pub sems : ss′ ≡ pick (eqb (straightTo keep o) 32) ss (semsAfter ss (o .how) (o .at) (o .count))
+  pub lens : ls′ ≡ pick (eqb (straightTo keep o) 32) ls (lensAfter ls (o .how) (o .at) (o .count))
+  pub items : is′ ≡ pick (eqb (straightTo keep o) 32) is (itemsAfter is ls (o .how) (o .at) (o .value))

@@ -11,7 +11,7 @@ ghost use Rattle.table.specs.Table.{arcTo};
 ghost use Rattle.machine.specs.State.{varAt, noFrame, noVars};
 ghost use Rattle.machine.specs.Step.{operandIn, valueOf, entering};
 ghost use Rattle.machine.specs.Run.{word};
-ghost use Rattle.steps.specs.Cut.{Arrived, meeting, halting, tossed, goesTo, doesTo, haltsAt, showsTo, unless, readAt, Within, triedOf, passOf, backOf, semsAfter, lensAfter, itemsAfter, shiftedOf, flagOf, bitsOf, underOf};
+ghost use Rattle.steps.specs.Cut.{Arrived, meeting, halting, tossed, directOf, goesTo, doesTo, haltsAt, showsTo, unless, readAt, Within, triedOf, triedHere, passOf, backOf, semsAfter, lensAfter, itemsAfter, shiftedOf, flagOf, bitsOf, underOf, directTo, directShows, RowsOf, Straight};
 ghost use Rattle.table.specs.Values.{holds};
 use table::Node;
 
@@ -35,6 +35,13 @@ pub struct Acted {
     pub how: u8,
     pub at: u8,
     pub count: u8,
+}
+
+// A node executed in place: the kept node that its arc leads straight to, 32 if it does not; the log's flag and bits.
+pub struct Direct {
+    pub node: u8,
+    pub flag: u8,
+    pub bits: u32,
 }
 
 // ---- variables
@@ -148,6 +155,24 @@ pub fn arrive(arc: u32, keep: u32, values: &[i32], used: usize) -> Chosen
         return meets(j as u8, keep, used);
     }
     toss(arc, keep, values, used)
+}
+
+// The one target of an arc, if it has exactly one and that is kept; else 32.
+fn direct_target(arc: u32, keep: u32) -> u8
+    ensures { λ r. ⌜ r ≡ directOf arc keep ⌝ }
+{
+    if arc == 0 {
+        return 32;
+    }
+    let low = u32::trailing_zeros(arc);
+    if arc >> low != 1 {
+        return 32;
+    }
+    if (keep >> low) % 2 == 1 {
+        low as u8
+    } else {
+        32
+    }
 }
 
 // ---- nodes
@@ -522,6 +547,142 @@ pub fn affect<'a>(
     if how == 3 {
         sems[i] = count;
         return;
+    }
+}
+
+// ---- a step straight to a kept node
+
+// The length of a queue that was not full, after an item more.
+fn longer(len: u8, cap: u8) -> u8
+    requires { ⌜ len < cap ⌝ }
+    ensures { λ r. ⌜ r ≡ len + 1 ⌝ }
+{
+    len + 1
+}
+
+fn leads(node: u8) -> Direct
+    ensures { λ r. ⌜ r ≡ directTo node ⌝ }
+{
+    Direct {
+        node,
+        flag: 0,
+        bits: 0,
+    }
+}
+
+fn leads_showing(vars: &[i32; 16], v: u8, node: u8) -> Direct
+    requires { ⌜ length (now vars) ≡ 16 ⌝ }
+    ensures { λ r. ⌜ r ≡ directShows node (valueOf (now (vars .entry)) v) ⌝ }
+{
+    if v == 255 {
+        return leads(node);
+    }
+    Direct {
+        node,
+        flag: 1,
+        bits: values::bits_of(var_at(vars, v)),
+    }
+}
+
+// A node executed in place, if it isn't blocked and its arc leads straight to a kept node; else nothing is changed. A call, a return
+// and a read are left to the other functions.
+pub fn direct_step<'a>(
+    x: Node,
+    keep: u32,
+    vars: &'a mut [i32; 16],
+    sems: &'a mut [u8; 8],
+    lens: &'a mut [u8; 8],
+    caps: &'a [u8; 8],
+    items: &'a mut [[i32; 8]; 8],
+) -> Direct
+    requires { ⌜ Within x × ((length (now vars) ≡ 16) × RowsOf (now items)) ⌝ }
+    ensures { λ r. ⌜ Straight keep (triedHere x (now (vars .entry)) (now (sems .entry)) (now (lens .entry)) (now (caps .entry)) (now (items .entry))) (now (vars .entry)) (now (sems .entry)) (now (lens .entry)) (now (items .entry)) r (now (vars .exit)) (now (sems .exit)) (now (lens .exit)) (now (items .exit)) ⌝ }
+{
+    match x {
+        Node::Absent => leads(32),
+        Node::Start { to } => leads(direct_target(to, keep)),
+        Node::Set { var, op, a, b, to } => {
+            let j = direct_target(to, keep);
+            if j == 32 {
+                return leads(32);
+            }
+            let p = operand(vars, a);
+            let q = operand(vars, b);
+            set_var(vars, var, values::apply(op, p, q));
+            leads(j)
+        }
+        Node::Test { op, a, b, yes, no } => {
+            let p = operand(vars, a);
+            let q = operand(vars, b);
+            leads(direct_target(branch(values::apply(op, p, q), yes, no), keep))
+        }
+        Node::Read { var: _, to: _ } => leads(32),
+        Node::Call {
+            callee: _,
+            args: _,
+            to: _,
+        } => leads(32),
+        Node::Wait { sem, to } => {
+            let j = direct_target(to, keep);
+            if j == 32 {
+                return leads(32);
+            }
+            let i = sem as usize;
+            let c = sems[i];
+            if c == 0 {
+                return leads(32);
+            }
+            sems[i] = c - 1;
+            leads(j)
+        }
+        Node::Signal { sem, to } => {
+            let j = direct_target(to, keep);
+            if j == 32 {
+                return leads(32);
+            }
+            let i = sem as usize;
+            let c = sems[i];
+            if 255 <= c {
+                return leads(32);
+            }
+            sems[i] = c + 1;
+            leads(j)
+        }
+        Node::Send { queue, var, to } => {
+            let j = direct_target(to, keep);
+            if j == 32 {
+                return leads(32);
+            }
+            let i = queue as usize;
+            let k = lens[i];
+            let cap = caps[i];
+            if cap <= k {
+                return leads(32);
+            }
+            let v = var_at(vars, var);
+            push(&mut items[i], k, v);
+            lens[i] = longer(k, cap);
+            leads(j)
+        }
+        Node::Recv { queue, var, to } => {
+            let j = direct_target(to, keep);
+            if j == 32 {
+                return leads(32);
+            }
+            let i = queue as usize;
+            let k = lens[i];
+            if k == 0 {
+                return leads(32);
+            }
+            let v = items[i][0];
+            set_var(vars, var, v);
+            pop(&mut items[i]);
+            lens[i] = k - 1;
+            leads(j)
+        }
+        Node::Assert { var, to } => leads_showing(vars, var, direct_target(to, keep)),
+        Node::Out { var, to } => leads_showing(vars, var, direct_target(to, keep)),
+        Node::Return => leads(32),
     }
 }
 
