@@ -3,8 +3,8 @@
 
 use labels::put_says;
 use put::put_byte;
-use put::put_count;
 use put::put_text;
+use put_fields::put_count;
 use table::Node;
 ghost use mathlib.Core.Path.{_≡_};
 ghost use mathlib.Core.List.{[], _++_};

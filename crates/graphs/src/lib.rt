@@ -2,8 +2,8 @@
 // writes at a place does so as far as the buffer reaches, and gives the place after what it wrote.
 
 use dot::put_node;
-use put::put_count;
 use put::put_text;
+use put_fields::put_count;
 use table::Proc;
 use table::Slot;
 use table::Table;

@@ -2,10 +2,10 @@
 // it wrote.
 
 use put::put_byte;
-use put::put_count;
-use put::put_op_value;
-use put::put_operand_value;
 use put::put_text;
+use put_fields::put_count;
+use put_fields::put_op_value;
+use put_fields::put_operand_value;
 use table::Args;
 use table::Node;
 use table::Op;

@@ -11,7 +11,8 @@ use Rattle.text.specs.Number.{bytes, digits}
 use Rattle.text.specs.Value.{spellVariable, spellOperand, opWord, chosen}
 use Rattle.text.specs.Format.{Scope, nameOf, describe}
 use Rattle.text.specs.Writer.{nodeText}
-use Rattle.put.specs.Lists.{listText, argsText}
+use Rattle.put.specs.Lists.{listText}
+use Rattle.put_fields.specs.Args.{argsText}
 
 -- LF
 abbrev pub lf : List ℕ

@@ -1,19 +1,19 @@
 // Writing each line of a table's text into a lent buffer at a place. Each function gives the place after what it wrote. Those named put
 // write as far as the buffer reaches: on an empty buffer they measure. Those named fill ask for room, and check nothing.
 
-use put::fill_args;
 use put::fill_byte;
 use put::fill_list;
-use put::fill_op;
-use put::fill_operand;
 use put::fill_small;
 use put::fill_text;
 use put::fill_variable;
 use put::put_byte;
 use put::put_bytes;
-use put::put_count;
-use put::put_last_list;
 use put::put_text;
+use put_fields::fill_args;
+use put_fields::fill_op;
+use put_fields::fill_operand;
+use put_fields::put_count;
+use put_fields::put_last_list;
 use table::Args;
 use table::Node;
 use table::Op;

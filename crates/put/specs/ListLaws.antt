@@ -14,10 +14,9 @@ use Rattle.text.specs.Number.{bytes, digits}
 use Rattle.text.specs.NumberLaws.{digits-small, digits-large, byOrder}
 use Rattle.text.specs.Value.{spellVariable, spellList, commas}
 use Rattle.text.specs.Format.{nameOf}
-use Rattle.table.specs.declared.Args.{Args}
 use Rattle.put.specs.Put.{Put}
 use Rattle.put.specs.PutLaws.{put-after, put-more}
-use Rattle.put.specs.Lists.{above, itemsText, listText, itemText, argsText}
+use Rattle.put.specs.Lists.{above, itemsText, listText, itemText}
 
 -- ---- a mask, bit by bit
 
@@ -223,37 +222,10 @@ list-some {l} {o} {at} {p} m a h = go (members m) a
     go [] a = absurd (h (omega (arith, a .next)))
     go (x ∷ xs) a = a
 
--- ---- variables and arguments
+-- ---- variables
 
 pub variable-removed : {l m : List ℕ} {at r : ℕ} (v : ℕ) → v ≡ 255 → Put 1 l at (45 ∷ []) m r → Put 3 l at (spellVariable (nameOf v)) m r
 variable-removed v h a = rw (eq-eqb v 255 h) (put-more (omega arith) a)
 
 pub variable-named : {l m : List ℕ} {at r : ℕ} (v : ℕ) → (v ≡ 255 → ⊥) → Put 3 l at (digits v) m r → Put 3 l at (spellVariable (nameOf v)) m r
 variable-named v h a = rw (ne-eqb v 255 h) a
-
-abbrev arg : ℕ → List ℕ
-arg v = spellVariable (nameOf v)
-
-pub args-none : {l m : List ℕ} {at r : ℕ} (x : Args) → x .len ≡ 0 → Put 4 l at (bytes "none") m r → Put 16 l at (argsText x) m r
-args-none x h a = rw h (put-more (omega arith) a)
-
-pub args-one : {l m : List ℕ} {at p : ℕ} (x : Args) → x .len ≡ 1 → Put 3 l at (arg (x .a0)) m p → Put 16 l at (argsText x) m p
-unfolding commas
-args-one x h a = rw h (put-more (omega arith) a)
-
-pub args-two : {l m n : List ℕ} {at p q : ℕ} (x : Args) → x .len ≡ 2 → Put 3 l at (arg (x .a0)) m p → Put 4 m p (44 ∷ arg (x .a1)) n q → Put 16 l at (argsText x) n q
-unfolding commas
-args-two x h a b = rw h (put-more (omega arith) (put-after a b))
-
-pub args-three : {l m n o : List ℕ} {at p q r : ℕ} (x : Args) → x .len ≡ 3 → Put 3 l at (arg (x .a0)) m p → Put 4 m p (44 ∷ arg (x .a1)) n q
-    → Put 4 n q (44 ∷ arg (x .a2)) o r → Put 16 l at (argsText x) o r
-unfolding commas
-args-three x h a b c = rw h (put-more (omega arith) (put-after a (put-after b c)))
-
-pub args-four : {l m n o i : List ℕ} {at p q r s : ℕ} (x : Args) → x .len ≡ 4 → Put 3 l at (arg (x .a0)) m p → Put 4 m p (44 ∷ arg (x .a1)) n q
-    → Put 4 n q (44 ∷ arg (x .a2)) o r → Put 4 o r (44 ∷ arg (x .a3)) i s → Put 16 l at (argsText x) i s
-unfolding commas
-args-four x h a b c d = rw h (put-more (omega arith) (put-after a (put-after b (put-after c d))))
-
-pub last-count : (n : ℕ) → n ≤ 4 → (n ≡ 0 → ⊥) → (n ≡ 1 → ⊥) → (n ≡ 2 → ⊥) → (n ≡ 3 → ⊥) → n ≡ 4
-last-count n h a b c d = omega arith

@@ -4,9 +4,7 @@ use mathlib.Core.List.{List, [], _∷_, map}
 use lib.Dec.{eqb}
 use Rattle.table.specs.Mask.{pick, also, members}
 use Rattle.text.specs.Number.{digits}
-use Rattle.text.specs.Value.{spellVariable, spellList, commas}
-use Rattle.text.specs.Format.{argNames}
-use Rattle.table.specs.declared.Args.{Args}
+use Rattle.text.specs.Value.{spellList, commas}
 
 -- of the n numbers from k on those whose bits are in r, of which the lowest bit is k's
 unfoldable pub above : ℕ → ℕ → ℕ → List ℕ
@@ -23,7 +21,3 @@ listText m = spellList (map digits (members m))
 -- what the number k adds at a place of a list that begins at another
 abbrev pub itemText : ℕ → ℕ → ℕ → List ℕ
 itemText from at k = pick (eqb at from) (digits k) (44 ∷ digits k)
-
--- a call's arguments
-abbrev pub argsText : Args → List ℕ
-argsText x = spellList (map spellVariable (argNames x))

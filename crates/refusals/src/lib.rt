@@ -7,7 +7,7 @@ ghost use Rattle.put.specs.Put.{Put};
 pub fn put_refused(out: &mut [u8], n: u8, line: usize) -> usize
     ensures { λ r. ⌜ Put 38 (now (out .entry)) 0 (refusedLine n line) (now (out .exit)) r ⌝ }
 {
-    let a = put::put_count(out, 0, b"refused=", n);
-    let b = put::put_size(out, a, b" line=", line);
+    let a = put_fields::put_count(out, 0, b"refused=", n);
+    let b = put_fields::put_size(out, a, b" line=", line);
     put::put_byte(out, b, 10)
 }

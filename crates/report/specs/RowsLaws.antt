@@ -12,7 +12,8 @@ use Rattle.text.specs.Number.{digits}
 use Rattle.text.specs.NumberLaws.{byOrder}
 use Rattle.text.specs.Reader.{concat}
 use Rattle.put.specs.Put.{Put, PutField}
-use Rattle.put.specs.PutLaws.{put-after, put-more, digits-few}
+use Rattle.put.specs.PutLaws.{put-after, put-more}
+use Rattle.put_fields.specs.DigitLaws.{digits-few}
 use Rattle.put.specs.RowLaws.{concat-same}
 use Rattle.machine.specs.declared.Running.{Running}
 use Rattle.machine.specs.State.{semCount, entriesAt}

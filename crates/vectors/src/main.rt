@@ -9,7 +9,7 @@ fn show(key: &[u8], n: usize)
     requires { ⌜ length (now key) ≤ 64 ⌝ }
 {
     let mut line = [0u8; 128];
-    let e = put::put_size(&mut line, 0, key, n);
+    let e = put_fields::put_size(&mut line, 0, key, n);
     if e <= 128 {
         io::write_all(1, &line[..e]);
     }

@@ -6,8 +6,8 @@ use Rattle.refusals.proofs.put_refused.Tie as tie
 use Rattle.refusals.proofs.put_refused.Reads as reads
 use Rattle.refusals.proofs.put_refused.Lts as lts
 use Rattle.put.proofs.put_byte.Reads as put-byte-reads
-use Rattle.put.proofs.put_count.Reads as put-count-reads
-use Rattle.put.proofs.put_size.Reads as put-size-reads
+use Rattle.put_fields.proofs.put_count.Reads as put-count-reads
+use Rattle.put_fields.proofs.put_size.Reads as put-size-reads
 
 -- src/lib.rt:167:36
 slice-aggregate-put-count : tie.Need-slice-aggregate-put-count

@@ -1,0 +1,4 @@
+pub mod DigitLaws
+pub mod OperandLaws
+pub mod Args
+pub mod ArgLaws
