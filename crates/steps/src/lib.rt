@@ -65,7 +65,7 @@ pub fn set_var(vars: &mut [i32; 16], v: u8, x: i32)
     }
 }
 
-fn operand(vars: &[i32; 16], o: table::Operand) -> i32
+pub fn operand(vars: &[i32; 16], o: table::Operand) -> i32
     requires { ⌜ length (now vars) ≡ 16 ⌝ }
     ensures { λ r. ⌜ r ≡ operandIn (now (vars .entry)) o ⌝ }
 {
@@ -158,7 +158,7 @@ pub fn arrive(arc: u32, keep: u32, values: &[i32], used: usize) -> Chosen
 }
 
 // The one target of an arc, if it has exactly one and that is kept; else 32.
-fn direct_target(arc: u32, keep: u32) -> u8
+pub fn direct_target(arc: u32, keep: u32) -> u8
     ensures { λ r. ⌜ r ≡ directOf arc keep ⌝ }
 {
     if arc == 0 {
@@ -192,7 +192,7 @@ fn does(var: u8, value: i32, used: usize, arc: u32, how: u8, at: u8, count: u8) 
     }
 }
 
-fn goes(var: u8, value: i32, used: usize, arc: u32) -> Acted
+pub fn goes(var: u8, value: i32, used: usize, arc: u32) -> Acted
     ensures { λ r. ⌜ r ≡ goesTo var value used arc ⌝ }
 {
     Acted {
@@ -222,7 +222,7 @@ fn halts(stop: u8, used: usize) -> Acted
     }
 }
 
-fn show(vars: &[i32; 16], v: u8, used: usize, to: u32) -> Acted
+pub fn show(vars: &[i32; 16], v: u8, used: usize, to: u32) -> Acted
     requires { ⌜ length (now vars) ≡ 16 ⌝ }
     ensures { λ r. ⌜ r ≡ showsTo used to (valueOf (now (vars .entry)) v) ⌝ }
 {
@@ -232,7 +232,7 @@ fn show(vars: &[i32; 16], v: u8, used: usize, to: u32) -> Acted
     does(255, var_at(vars, v), used, to, 4, 0, 0)
 }
 
-fn read(var: u8, to: u32, values: &[i32], used: usize) -> Acted
+pub fn read(var: u8, to: u32, values: &[i32], used: usize) -> Acted
     requires { ⌜ used ≤ length (now values) ⌝ }
     ensures { λ r. ⌜ r ≡ readAt var to (now (values .entry)) used ⌝ }
 {
@@ -242,13 +242,13 @@ fn read(var: u8, to: u32, values: &[i32], used: usize) -> Acted
     goes(var, values[used], used + 1, to)
 }
 
-fn branch(z: i32, yes: u32, no: u32) -> u32
+pub fn branch(z: i32, yes: u32, no: u32) -> u32
     ensures { λ r. ⌜ r ≡ pick (holds z) yes no ⌝ }
 {
     if z == 0 { no } else { yes }
 }
 
-fn call(depth: u8, used: usize) -> Acted
+pub fn call(depth: u8, used: usize) -> Acted
     ensures { λ r. ⌜ r ≡ unless (leb 8 depth) used (goesTo 255 (pos 0) used 0) ⌝ }
 {
     if 8 <= depth {
@@ -257,7 +257,7 @@ fn call(depth: u8, used: usize) -> Acted
     goes(255, 0, used, 0)
 }
 
-fn wait(sem: u8, to: u32, used: usize, count: u8) -> Acted
+pub fn wait(sem: u8, to: u32, used: usize, count: u8) -> Acted
     ensures { λ r. ⌜ r ≡ unless (eqb count 0) used (doesTo 255 (pos 0) used to 3 sem (count - 1)) ⌝ }
 {
     if count == 0 {
@@ -266,7 +266,7 @@ fn wait(sem: u8, to: u32, used: usize, count: u8) -> Acted
     does(255, 0, used, to, 3, sem, count - 1)
 }
 
-fn signal(sem: u8, to: u32, used: usize, count: u8) -> Acted
+pub fn signal(sem: u8, to: u32, used: usize, count: u8) -> Acted
     ensures { λ r. ⌜ r ≡ unless (leb 255 count) used (doesTo 255 (pos 0) used to 3 sem (count + 1)) ⌝ }
 {
     if 255 <= count {
@@ -275,7 +275,7 @@ fn signal(sem: u8, to: u32, used: usize, count: u8) -> Acted
     does(255, 0, used, to, 3, sem, count + 1)
 }
 
-fn send(queue: u8, x: i32, to: u32, used: usize, len: u8, cap: u8) -> Acted
+pub fn send(queue: u8, x: i32, to: u32, used: usize, len: u8, cap: u8) -> Acted
     ensures { λ r. ⌜ r ≡ unless (leb cap len) used (doesTo 255 x used to 1 queue (len + 1)) ⌝ }
 {
     if cap <= len {
@@ -284,7 +284,7 @@ fn send(queue: u8, x: i32, to: u32, used: usize, len: u8, cap: u8) -> Acted
     does(255, x, used, to, 1, queue, len + 1)
 }
 
-fn receive(queue: u8, var: u8, x: i32, to: u32, used: usize, len: u8) -> Acted
+pub fn receive(queue: u8, var: u8, x: i32, to: u32, used: usize, len: u8) -> Acted
     ensures { λ r. ⌜ r ≡ unless (eqb len 0) used (doesTo var x used to 2 queue (len - 1)) ⌝ }
 {
     if len == 0 {
@@ -293,7 +293,7 @@ fn receive(queue: u8, var: u8, x: i32, to: u32, used: usize, len: u8) -> Acted
     does(var, x, used, to, 2, queue, len - 1)
 }
 
-fn give_back(arc: u32, depth: u8, used: usize) -> Acted
+pub fn give_back(arc: u32, depth: u8, used: usize) -> Acted
     ensures { λ r. ⌜ r ≡ unless (leb depth 1) used (goesTo 255 (pos 0) used arc) ⌝ }
 {
     if depth <= 1 {
@@ -302,198 +302,9 @@ fn give_back(arc: u32, depth: u8, used: usize) -> Acted
     goes(255, 0, used, arc)
 }
 
-// A node executed within its frame, or blocked; of a return, `back` is the arc of the call that it goes back to. The queues are their lengths,
-// capacities and items.
-pub fn act<'a>(
-    x: Node,
-    back: u32,
-    vars: &'a [i32; 16],
-    depth: u8,
-    sems: &'a [u8; 8],
-    lens: &'a [u8; 8],
-    caps: &'a [u8; 8],
-    items: &'a [[i32; 8]; 8],
-    values: &'a [i32],
-    used: usize,
-) -> Acted
-    requires { ⌜ Within x × ((length (now vars) ≡ 16) × (used ≤ length (now values))) ⌝ }
-    ensures { λ r. ⌜ r ≡ triedOf x back (now (vars .entry)) depth (now (sems .entry)) (now (lens .entry)) (now (caps .entry)) (now (items .entry)) (now (values .entry)) used ⌝ }
-{
-    match x {
-        Node::Absent => goes(255, 0, used, 0),
-        Node::Start { to } => goes(255, 0, used, to),
-        Node::Set { var, op, a, b, to } => {
-            let p = operand(vars, a);
-            let q = operand(vars, b);
-            goes(var, values::apply(op, p, q), used, to)
-        }
-        Node::Test { op, a, b, yes, no } => {
-            let p = operand(vars, a);
-            let q = operand(vars, b);
-            goes(255, 0, used, branch(values::apply(op, p, q), yes, no))
-        }
-        Node::Read { var, to } => read(var, to, values, used),
-        Node::Call {
-            callee: _,
-            args: _,
-            to: _,
-        } => call(depth, used),
-        Node::Wait { sem, to } => {
-            let i = sem as usize;
-            wait(sem, to, used, sems[i])
-        }
-        Node::Signal { sem, to } => {
-            let i = sem as usize;
-            signal(sem, to, used, sems[i])
-        }
-        Node::Send { queue, var, to } => {
-            let i = queue as usize;
-            send(queue, var_at(vars, var), to, used, lens[i], caps[i])
-        }
-        Node::Recv { queue, var, to } => {
-            let i = queue as usize;
-            receive(queue, var, items[i][0], to, used, lens[i])
-        }
-        Node::Assert { var, to } => show(vars, var, used, to),
-        Node::Out { var, to } => show(vars, var, used, to),
-        Node::Return => give_back(back, depth, used),
-    }
-}
-
-// A dropped node executed: a read, a set or a test.
-pub fn pass<'a>(x: Node, vars: &'a [i32; 16], values: &'a [i32], used: usize) -> Acted
-    requires { ⌜ (length (now vars) ≡ 16) × (used ≤ length (now values)) ⌝ }
-    ensures { λ r. ⌜ r ≡ passOf x (now (vars .entry)) (now (values .entry)) used ⌝ }
-{
-    match x {
-        Node::Absent => goes(255, 0, used, 0),
-        Node::Start { to: _ } => goes(255, 0, used, 0),
-        Node::Set { var, op, a, b, to } => {
-            let p = operand(vars, a);
-            let q = operand(vars, b);
-            goes(var, values::apply(op, p, q), used, to)
-        }
-        Node::Test { op, a, b, yes, no } => {
-            let p = operand(vars, a);
-            let q = operand(vars, b);
-            goes(255, 0, used, branch(values::apply(op, p, q), yes, no))
-        }
-        Node::Read { var, to } => read(var, to, values, used),
-        Node::Call {
-            callee: _,
-            args: _,
-            to: _,
-        } => goes(255, 0, used, 0),
-        Node::Wait { sem: _, to: _ } => goes(255, 0, used, 0),
-        Node::Signal { sem: _, to: _ } => goes(255, 0, used, 0),
-        Node::Send {
-            queue: _,
-            var: _,
-            to: _,
-        } => goes(255, 0, used, 0),
-        Node::Recv {
-            queue: _,
-            var: _,
-            to: _,
-        } => goes(255, 0, used, 0),
-        Node::Assert { var: _, to: _ } => goes(255, 0, used, 0),
-        Node::Out { var: _, to: _ } => goes(255, 0, used, 0),
-        Node::Return => goes(255, 0, used, 0),
-    }
-}
-
-pub fn arc_to(x: Node) -> u32
-    ensures { λ r. ⌜ r ≡ arcTo x ⌝ }
-{
-    match x {
-        Node::Absent => 0,
-        Node::Start { to } => to,
-        Node::Set {
-            var: _,
-            op: _,
-            a: _,
-            b: _,
-            to,
-        } => to,
-        Node::Test {
-            op: _,
-            a: _,
-            b: _,
-            yes,
-            no: _,
-        } => yes,
-        Node::Read { var: _, to } => to,
-        Node::Call {
-            callee: _,
-            args: _,
-            to,
-        } => to,
-        Node::Wait { sem: _, to } => to,
-        Node::Signal { sem: _, to } => to,
-        Node::Send {
-            queue: _,
-            var: _,
-            to,
-        } => to,
-        Node::Recv {
-            queue: _,
-            var: _,
-            to,
-        } => to,
-        Node::Assert { var: _, to } => to,
-        Node::Out { var: _, to } => to,
-        Node::Return => 0,
-    }
-}
-
-// How many frames a node closes.
-pub fn closes(x: Node) -> u8
-    ensures { λ r. ⌜ r ≡ backOf x ⌝ }
-{
-    match x {
-        Node::Absent => 0,
-        Node::Start { to: _ } => 0,
-        Node::Set {
-            var: _,
-            op: _,
-            a: _,
-            b: _,
-            to: _,
-        } => 0,
-        Node::Test {
-            op: _,
-            a: _,
-            b: _,
-            yes: _,
-            no: _,
-        } => 0,
-        Node::Read { var: _, to: _ } => 0,
-        Node::Call {
-            callee: _,
-            args: _,
-            to: _,
-        } => 0,
-        Node::Wait { sem: _, to: _ } => 0,
-        Node::Signal { sem: _, to: _ } => 0,
-        Node::Send {
-            queue: _,
-            var: _,
-            to: _,
-        } => 0,
-        Node::Recv {
-            queue: _,
-            var: _,
-            to: _,
-        } => 0,
-        Node::Assert { var: _, to: _ } => 0,
-        Node::Out { var: _, to: _ } => 0,
-        Node::Return => 1,
-    }
-}
-
 // ---- what a node does beside its variables
 
-fn push(items: &mut [i32; 8], len: u8, x: i32)
+pub fn push(items: &mut [i32; 8], len: u8, x: i32)
     requires { ⌜ length (now items) ≡ 8 ⌝ }
     ensures { λ _. ⌜ now (items .exit) ≡ set (now (items .entry)) len x ⌝ }
 {
@@ -504,7 +315,7 @@ fn push(items: &mut [i32; 8], len: u8, x: i32)
     }
 }
 
-fn pop(items: &mut [i32; 8])
+pub fn pop(items: &mut [i32; 8])
     requires { ⌜ length (now items) ≡ 8 ⌝ }
     ensures { λ _. ⌜ now (items .exit) ≡ shiftedOf (now (items .entry)) ⌝ }
 {
@@ -547,142 +358,6 @@ pub fn affect<'a>(
     if how == 3 {
         sems[i] = count;
         return;
-    }
-}
-
-// ---- a step straight to a kept node
-
-// The length of a queue that was not full, after an item more.
-fn longer(len: u8, cap: u8) -> u8
-    requires { ⌜ len < cap ⌝ }
-    ensures { λ r. ⌜ r ≡ len + 1 ⌝ }
-{
-    len + 1
-}
-
-fn leads(node: u8) -> Direct
-    ensures { λ r. ⌜ r ≡ directTo node ⌝ }
-{
-    Direct {
-        node,
-        flag: 0,
-        bits: 0,
-    }
-}
-
-fn leads_showing(vars: &[i32; 16], v: u8, node: u8) -> Direct
-    requires { ⌜ length (now vars) ≡ 16 ⌝ }
-    ensures { λ r. ⌜ r ≡ directShows node (valueOf (now (vars .entry)) v) ⌝ }
-{
-    if v == 255 {
-        return leads(node);
-    }
-    Direct {
-        node,
-        flag: 1,
-        bits: values::bits_of(var_at(vars, v)),
-    }
-}
-
-// A node executed in place, if it isn't blocked and its arc leads straight to a kept node; else nothing is changed. A call, a return
-// and a read are left to the other functions.
-pub fn direct_step<'a>(
-    x: Node,
-    keep: u32,
-    vars: &'a mut [i32; 16],
-    sems: &'a mut [u8; 8],
-    lens: &'a mut [u8; 8],
-    caps: &'a [u8; 8],
-    items: &'a mut [[i32; 8]; 8],
-) -> Direct
-    requires { ⌜ Within x × ((length (now vars) ≡ 16) × RowsOf (now items)) ⌝ }
-    ensures { λ r. ⌜ Straight keep (triedHere x (now (vars .entry)) (now (sems .entry)) (now (lens .entry)) (now (caps .entry)) (now (items .entry))) (now (vars .entry)) (now (sems .entry)) (now (lens .entry)) (now (items .entry)) r (now (vars .exit)) (now (sems .exit)) (now (lens .exit)) (now (items .exit)) ⌝ }
-{
-    match x {
-        Node::Absent => leads(32),
-        Node::Start { to } => leads(direct_target(to, keep)),
-        Node::Set { var, op, a, b, to } => {
-            let j = direct_target(to, keep);
-            if j == 32 {
-                return leads(32);
-            }
-            let p = operand(vars, a);
-            let q = operand(vars, b);
-            set_var(vars, var, values::apply(op, p, q));
-            leads(j)
-        }
-        Node::Test { op, a, b, yes, no } => {
-            let p = operand(vars, a);
-            let q = operand(vars, b);
-            leads(direct_target(branch(values::apply(op, p, q), yes, no), keep))
-        }
-        Node::Read { var: _, to: _ } => leads(32),
-        Node::Call {
-            callee: _,
-            args: _,
-            to: _,
-        } => leads(32),
-        Node::Wait { sem, to } => {
-            let j = direct_target(to, keep);
-            if j == 32 {
-                return leads(32);
-            }
-            let i = sem as usize;
-            let c = sems[i];
-            if c == 0 {
-                return leads(32);
-            }
-            sems[i] = c - 1;
-            leads(j)
-        }
-        Node::Signal { sem, to } => {
-            let j = direct_target(to, keep);
-            if j == 32 {
-                return leads(32);
-            }
-            let i = sem as usize;
-            let c = sems[i];
-            if 255 <= c {
-                return leads(32);
-            }
-            sems[i] = c + 1;
-            leads(j)
-        }
-        Node::Send { queue, var, to } => {
-            let j = direct_target(to, keep);
-            if j == 32 {
-                return leads(32);
-            }
-            let i = queue as usize;
-            let k = lens[i];
-            let cap = caps[i];
-            if cap <= k {
-                return leads(32);
-            }
-            let v = var_at(vars, var);
-            push(&mut items[i], k, v);
-            lens[i] = longer(k, cap);
-            leads(j)
-        }
-        Node::Recv { queue, var, to } => {
-            let j = direct_target(to, keep);
-            if j == 32 {
-                return leads(32);
-            }
-            let i = queue as usize;
-            let k = lens[i];
-            if k == 0 {
-                return leads(32);
-            }
-            let v = items[i][0];
-            set_var(vars, var, v);
-            pop(&mut items[i]);
-            lens[i] = k - 1;
-            leads(j)
-        }
-        Node::Assert { var, to } => leads_showing(vars, var, direct_target(to, keep)),
-        Node::Out { var, to } => leads_showing(vars, var, direct_target(to, keep)),
-        Node::Return => leads(32),
     }
 }
 

@@ -1,8 +1,8 @@
 use borrow.Author.Needs.{needs}
 use mathlib.Core.Path.{refl}
 use Rattle.table.specs.Table.{arcTo}
-use Rattle.steps.proofs.arc_to.Statement.{statement}
-use Rattle.steps.proofs.arc_to.Tie as tie
+use Rattle.acts.proofs.arc_to.Statement.{statement}
+use Rattle.acts.proofs.arc_to.Tie as tie
 
 enum-told : tie.Need-enum-told
 enum-told c = search needs

@@ -14,12 +14,12 @@ use Rattle.table.specs.Mask.{pick}
 use Rattle.table.specs.Values.{apply, holds}
 use Rattle.machine.specs.State.{varAt}
 use Rattle.machine.specs.Step.{valueOf}
 use Rattle.steps.specs.Cut.{Within, directOf, directTo, directShows, actOf, stuckOf}
 use Rattle.steps.proofs.Leaves.{again, twice}
 use Rattle.steps.proofs.Arcs.{direct-none}
-use Rattle.steps.proofs.Straights.{stays, shows, held, blocked, goes}
-use Rattle.steps.proofs.direct_step.Statement.{statement}
-use Rattle.steps.proofs.direct_step.Tie as tie
+use Rattle.acts.proofs.Straights.{stays, shows, held, blocked, goes}
+use Rattle.acts.proofs.direct_step.Statement.{statement}
+use Rattle.acts.proofs.direct_step.Tie as tie
 
 enum-told : tie.Need-enum-told
 enum-told c = search needs

@@ -4,10 +4,10 @@ use Prim.Native.Nat.{ℕ}
 use lib.IntN.{ℤ, pos}
 use Rattle.table.specs.Mask.{pick}
 use Rattle.table.specs.Values.{apply, holds}
 use Rattle.steps.specs.Cut.{goesTo, passOf}
 use Rattle.steps.proofs.Leaves.{again, twice}
-use Rattle.steps.proofs.pass.Statement.{statement}
-use Rattle.steps.proofs.pass.Tie as tie
+use Rattle.acts.proofs.pass.Statement.{statement}
+use Rattle.acts.proofs.pass.Tie as tie
 
 enum-told : tie.Need-enum-told
 enum-told c = search needs

@@ -7,10 +7,10 @@ use lib.Dec.{eqb, leb}
 use lib.IntN.{ℤ, pos}
 use Rattle.table.specs.Mask.{pick}
 use Rattle.table.specs.Values.{apply, holds}
 use Rattle.steps.specs.Cut.{goesTo, doesTo, unless, Within, actOf, stuckOf}
 use Rattle.steps.proofs.Leaves.{again, twice}
-use Rattle.steps.proofs.act.Statement.{statement}
-use Rattle.steps.proofs.act.Tie as tie
+use Rattle.acts.proofs.act.Statement.{statement}
+use Rattle.acts.proofs.act.Tie as tie
 
 enum-told : tie.Need-enum-told
 enum-told c = search needs

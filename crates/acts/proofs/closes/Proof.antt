@@ -1,8 +1,8 @@
 use borrow.Author.Needs.{needs}
 use mathlib.Core.Path.{refl}
 use Rattle.steps.specs.Cut.{backOf}
-use Rattle.steps.proofs.closes.Statement.{statement}
-use Rattle.steps.proofs.closes.Tie as tie
+use Rattle.acts.proofs.closes.Statement.{statement}
+use Rattle.acts.proofs.closes.Tie as tie
 
 enum-told : tie.Need-enum-told
 enum-told c = search needs

@@ -3,10 +3,10 @@ use mathlib.Core.Path.{refl, ap, _∙_}
 use mir.Syntax.{w32}
 use mir.Val.{ofZ}
 use borrow.Author.Tests.{eq-eqb}
 use Rattle.steps.proofs.Leaves.{again}
-use Rattle.steps.proofs.Straights.{showing-is}
-use Rattle.steps.proofs.leads_showing.Statement.{statement}
-use Rattle.steps.proofs.leads_showing.Tie as tie
+use Rattle.acts.proofs.Straights.{showing-is}
+use Rattle.acts.proofs.leads_showing.Statement.{statement}
+use Rattle.acts.proofs.leads_showing.Tie as tie
 
 leads-requires : tie.Need-leads-requires
 leads-requires c κs = search needs
