@@ -20,7 +20,7 @@ ghost use Rattle.table.specs.declared.Operand.the-variants.{Const};
 ghost use Rattle.text.specs.Number.{digits};
 ghost use Rattle.text.specs.Value.{spellOperand, spellVariable, opWord};
 ghost use Rattle.text.specs.Format.{nameOf};
-ghost use Rattle.put.specs.Put.{Put, PutField, DigitsAt, ValueAt, FieldAt};
+ghost use Rattle.put.specs.Put.{Put, PutField, ValueAt, FieldAt};
 ghost use Rattle.put.specs.Lists.{listText};
 ghost use Rattle.put_fields.specs.DigitLaws.{lastTwo, lastFour};
 ghost use Rattle.put_fields.specs.Args.{argsText};
@@ -153,15 +153,6 @@ pub fn put_operand_value(out: &mut [u8], at: usize, o: Operand) -> usize
     put_text(out, at, &t[..k])
 }
 
-pub fn put_variable_value(out: &mut [u8], at: usize, v: u8) -> usize
-    requires { ⌜ DigitsAt at ⌝ }
-    ensures { λ r. ⌜ Put 3 (now (out .entry)) at (spellVariable (nameOf v)) (now (out .exit)) r ⌝ }
-{
-    let mut t = [0u8; 3];
-    let k = fill_variable(&mut t, 0, v);
-    put_text(out, at, &t[..k])
-}
-
 pub fn fill_op(out: &mut [u8], at: usize, o: Op) -> usize
     requires { ⌜ at + 3 ≤ length (now out) ⌝ }
     ensures { λ r. ⌜ Put 3 (now (out .entry)) at (opWord o) (now (out .exit)) r ⌝ }
@@ -242,14 +233,6 @@ pub fn put_size(out: &mut [u8], at: usize, key: &[u8], n: usize) -> usize
 {
     let a = put_text(out, at, key);
     put_number(out, a, n as u64)
-}
-
-pub fn put_variable(out: &mut [u8], at: usize, key: &[u8], v: u8) -> usize
-    requires { ⌜ (FieldAt at) × (length (now key) ≤ 64) ⌝ }
-    ensures { λ r. ⌜ PutField (length (now (key .entry)) + 3) (now (out .entry)) at (now (key .entry)) (spellVariable (nameOf v)) (now (out .exit)) r ⌝ }
-{
-    let a = put_text(out, at, key);
-    put_variable_value(out, a, v)
 }
 
 pub fn put_list(out: &mut [u8], at: usize, key: &[u8], v: u32) -> usize
