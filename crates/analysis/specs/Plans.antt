@@ -17,7 +17,7 @@ use Rattle.table.specs.declared.Table.{Table}
 use Rattle.masks.specs.Cells.{cell, Filled, set-more}
 use Rattle.flow.specs.declared.Pass.{Pass}
 use Rattle.flow.specs.Flow.{passOf}
-use Rattle.analysis.specs.Sources.{sourceIn, Sources, sources-of}
+use Rattle.analysis.specs.Sources.{isRead, isRecv, readIn, recvIn, Reads, Receivers, marks}
 
 -- a target, or 32
 pass-low : (x : Node) (n : ℕ) → n ≤ 32 → passOf x n .to ≤ 32
@@ -109,29 +109,37 @@ plans-end {q} {p} {n} {u₀} {s₀} {to₀} {u} {s} {to} h f = let z : n ≡ 32 
 
 -- ---- over the procedures
 
--- the sources of the first p procedures, and what their nodes do
-pub record Scanned (t : Table) (p : ℕ) (r u s to : List ℕ) : Type 0 where
+-- of the first p procedures: the receives, the reads, and what the nodes do
+pub record Scanned (t : Table) (p : ℕ) (r w u s to : List ℕ) : Type 0 where
   pub low : p ≤ 8
-  pub sources-size : length r ≡ 8
-  pub sources : Filled (λ j. maskOf 32 (sourceIn (procAt t j))) p r
+  pub recvs-size : length r ≡ 8
+  pub recvs : Filled (λ j. maskOf 32 (recvIn (procAt t j))) p r
+  pub reads-size : length w ≡ 8
+  pub reads : Filled (λ j. maskOf 32 (readIn (procAt t j))) p w
   pub passes : Passes t (p * 32) u s to
 
-pub scanned-start : (t : Table) → Scanned t 0 (replicate 8 0) (replicate 256 0) (replicate 256 0) (replicate 256 0)
-scanned-start t = record { low = omega arith; sources-size = length-replicate {A = ℕ} 8 0; sources = λ a h. absurd (omega arith); passes = passes-start t }
+pub scanned-start : (t : Table) → Scanned t 0 (replicate 8 0) (replicate 8 0) (replicate 256 0) (replicate 256 0) (replicate 256 0)
+scanned-start t = record { low = omega arith; recvs-size = length-replicate {A = ℕ} 8 0; recvs = λ a h. absurd (omega arith); reads-size = length-replicate {A = ℕ} 8 0; reads = λ a h. absurd (omega arith); passes = passes-start t }
 
-pub scanned-next : {t : Table} {r u s to u′ s′ to′ : List ℕ} {m : ℕ} (p : ℕ) → p < 8 → m ≡ maskOf 32 (sourceIn (procAt t p)) → Plans (procAt t p) p u s to u′ s′ to′ 32 → Scanned t p r u s to → Scanned t (p + 1) (set r p m) u′ s′ to′
-scanned-next {t} {r} {u} {s} {to} {u′} {s′} {to′} {m} p h e f g = record {
+pub scanned-next : {t : Table} {r w u s to u′ s′ to′ : List ℕ} {m k : ℕ} (p : ℕ) → p < 8 → m ≡ maskOf 32 (recvIn (procAt t p)) → k ≡ maskOf 32 (readIn (procAt t p)) → Plans (procAt t p) p u s to u′ s′ to′ 32 → Scanned t p r w u s to → Scanned t (p + 1) (set r p m) (set w p k) u′ s′ to′
+scanned-next {t} {r} {w} {u} {s} {to} {u′} {s′} {to′} {m} {k} p h e e′ f g = record {
   low = omega arith;
-  sources-size = length-set r p m ∙ g .sources-size;
-  sources = set-more 0 (λ j. maskOf 32 (sourceIn (procAt t j))) p m r (omega (arith, g .sources-size)) e (g .sources);
-  passes = let z : p * 32 + 32 ≡ (p + 1) * 32 = omega arith in subst (λ (k : ℕ). Passes t k u′ s′ to′) z (f .fills t refl (g .passes));
+  recvs-size = length-set r p m ∙ g .recvs-size;
+  recvs = set-more 0 (λ j. maskOf 32 (recvIn (procAt t j))) p m r (omega (arith, g .recvs-size)) e (g .recvs);
+  reads-size = length-set w p k ∙ g .reads-size;
+  reads = set-more 0 (λ j. maskOf 32 (readIn (procAt t j))) p k w (omega (arith, g .reads-size)) e′ (g .reads);
+  passes = let z : p * 32 + 32 ≡ (p + 1) * 32 = omega arith in subst (λ (j : ℕ). Passes t j u′ s′ to′) z (f .fills t refl (g .passes));
 }
 
-pub scanned-end : {t : Table} {p : ℕ} {r u s to : List ℕ} → 8 ≤ p → Scanned t p r u s to → Scanned t 8 r u s to
-scanned-end {t} {p} {r} {u} {s} {to} h g = let z : p ≡ 8 = omega (arith, g .low) in subst (λ (k : ℕ). Scanned t k r u s to) z g
+-- of all procedures
+pub record Known (t : Table) (r u s to : List ℕ) : Type 0 where
+  pub recvs : Receivers t r
+  pub plans : (p : ℕ) → p < 8 → Planned (procAt t p) p u s to
 
-pub scanned-sources : {t : Table} {r u s to : List ℕ} → Scanned t 8 r u s to → Sources t r
-scanned-sources {t} {r} g = sources-of t r (g .sources-size) (g .sources)
+pub scanned-known : {t : Table} {p : ℕ} {r w u s to : List ℕ} → 8 ≤ p → Scanned t p r w u s to → Known t r u s to
+scanned-known {t} {p} {r} {w} {u} {s} {to} h g =
+    let z : p ≡ 8 = omega (arith, g .low) in
+    record { recvs = marks isRecv t r (g .recvs-size) (rw z at (g .recvs)); plans = λ a b. planned a b (subst (λ (k : ℕ). Passes t (k * 32) u s to) z (g .passes)) }
 
-pub scanned-plan : {t : Table} {r u s to : List ℕ} (p : ℕ) → p < 8 → Scanned t 8 r u s to → Planned (procAt t p) p u s to
-scanned-plan p h g = planned p h (g .passes)
+pub scanned-reads : {t : Table} {p : ℕ} {r w u s to : List ℕ} → 8 ≤ p → Scanned t p r w u s to → Reads t w
+scanned-reads {t} {p} {r} {w} h g = let z : p ≡ 8 = omega (arith, g .low) in marks isRead t w (g .reads-size) (rw z at (g .reads))

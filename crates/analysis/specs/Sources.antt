@@ -1,13 +1,14 @@
--- The sources: the nodes after which a variable can be dirty though none is dirty before them. Only what they do goes by the blank queues.
+-- The sources: reads and receives. After them a variable can be dirty though none is dirty before them; a receive goes by the blank queues.
 use Prim.Native.Nat.{ℕ, _%_, _^_, _<_}
 use mathlib.Core.Path.{_≡_, refl, sym, _∙_}
 use mathlib.Core.Bool.{Bool, true, false, false≢true, true≢false}
 use mathlib.Core.Logic.{_⊎_, inl, inr, _≢_}
 use mathlib.Core.List.{List}
 use lib.ListN.{length}
+use lib.Dec.{eqb}
 use Rattle.table.specs.Mask.{bit, maskOf}
 use Rattle.table.specs.MaskLaws.{maskOf-lt, bit-maskOf}
-use Rattle.table.specs.Table.{procAt, nodeAt, nodeIn}
+use Rattle.table.specs.Table.{nodeAt, nodeIn}
 use Rattle.table.specs.declared.Operand.{Operand}
 use Rattle.table.specs.declared.Operand.the-variants.{Var, Const}
 use Rattle.table.specs.declared.Node.{Node}
@@ -21,23 +22,29 @@ use Rattle.flow.specs.Flow.{operandDirty, operandsDirty, afterSet, flowOf}
 use Rattle.analysis.specs.Steps.{Held}
 use Rattle.analysis.specs.NodeLaws.{after-out, passed-out, sent-out}
 
--- a read, and a receive from a blank queue
-abbrev pub isSource : Node → Bool
-isSource Absent = false
-isSource (Start to) = false
-isSource (Set v o x y to) = false
-isSource (Test o x y f s) = false
-isSource (Read v to) = true
-isSource (Call q xs to) = false
-isSource (Wait s to) = false
-isSource (Signal s to) = false
-isSource (Send q v to) = false
-isSource (Recv q v to) = true
-isSource (Assert v to) = false
-isSource (Out v to) = false
-isSource Return = false
+-- 1: a read; 2: a receive; 0: every other node
+abbrev pub sourceOf : Node → ℕ
+sourceOf Absent = 0
+sourceOf (Start to) = 0
+sourceOf (Set v o x y to) = 0
+sourceOf (Test o x y f s) = 0
+sourceOf (Read v to) = 1
+sourceOf (Call q xs to) = 0
+sourceOf (Wait s to) = 0
+sourceOf (Signal s to) = 0
+sourceOf (Send q v to) = 0
+sourceOf (Recv q v to) = 2
+sourceOf (Assert v to) = 0
+sourceOf (Out v to) = 0
+sourceOf Return = 0
 
-pub flow-blank : (x : Node) (n i b b′ : ℕ) → (isSource x ≡ true → b′ ≡ b) → flowOf x n i b′ ≡ flowOf x n i b
+abbrev pub isRead : Node → Bool
+isRead x = eqb (sourceOf x) 1
+
+abbrev pub isRecv : Node → Bool
+isRecv x = eqb (sourceOf x) 2
+
+pub flow-blank : (x : Node) (n i b b′ : ℕ) → (isRecv x ≡ true → b′ ≡ b) → flowOf x n i b′ ≡ flowOf x n i b
 unfolding flowOf
 flow-blank Absent n i b b′ h = refl
 flow-blank (Start to) n i b b′ h = refl
@@ -62,21 +69,21 @@ operand-clean : (o : Operand) → operandDirty o 0 ≡ false
 operand-clean (Var v) = bit-zero (v % 32)
 operand-clean (Const c) = refl
 
-set-clean : (x y : Operand) (w k : ℕ) → bit k (afterSet 0 (operandsDirty x y 0) (2 ^ w)) ≡ true → ⊥
-set-clean x y w k h = go (after-out 0 w k (operandsDirty x y 0) h)
+setting-clean : (d : Bool) (w k : ℕ) → d ≡ false → bit k (afterSet 0 d (2 ^ w)) ≡ true → ⊥
+setting-clean d w k z h = go (after-out 0 w k d h)
   where
-    clean : operandsDirty x y 0 ≡ false
-    clean = rw (operand-clean x, operand-clean y)
-
-    go : ((operandsDirty x y 0 ≡ true) × (k ≡ w)) ⊎ ((bit k 0 ≡ true) × (w ≢ k)) → ⊥
-    go (inl e) = false≢true (sym clean ∙ e .0)
+    go : ((d ≡ true) × (k ≡ w)) ⊎ ((bit k 0 ≡ true) × (w ≢ k)) → ⊥
+    go (inl e) = false≢true (sym z ∙ e .0)
     go (inr e) = none-in k (e .0)
+
+set-clean : (x y : Operand) (w k : ℕ) → bit k (afterSet 0 (operandsDirty x y 0) (2 ^ w)) ≡ true → ⊥
+set-clean x y w k h = setting-clean (operandsDirty x y 0) w k (rw (operand-clean x, operand-clean y)) h
 
 nothing : {f : Flow} (p : ℕ) (l : List ℕ) → ((k : ℕ) → bit k (f .out) ≡ true → ⊥) → ((k : ℕ) → bit k (f .add) ≡ true → ⊥) → Held f p l
 nothing p l g h = record { first = λ k e. absurd (g k e); second = λ k e. absurd (g k e); extra = λ k e. absurd (h k e) }
 
--- a node that is no source adds nothing
-pub flow-nothing : (x : Node) (n p : ℕ) (l : List ℕ) → isSource x ≡ false → Held (flowOf x n 0 0) p l
+-- a node that is no read adds nothing
+pub flow-nothing : (x : Node) (n p : ℕ) (l : List ℕ) → isRead x ≡ false → Held (flowOf x n 0 0) p l
 unfolding flowOf
 flow-nothing Absent n p l h = nothing p l none-in none-in
 flow-nothing (Start to) n p l h = nothing p l none-in none-in
@@ -87,22 +94,31 @@ flow-nothing (Call q xs to) n p l h = nothing p l none-in (λ k e. none-in _ (pa
 flow-nothing (Wait s to) n p l h = nothing p l none-in none-in
 flow-nothing (Signal s to) n p l h = nothing p l none-in none-in
 flow-nothing (Send q v to) n p l h = nothing p l none-in (λ k e. none-in _ (sent-out 0 q v k e .1))
-flow-nothing (Recv q v to) n p l h = absurd (true≢false h)
+flow-nothing (Recv q v to) n p l h = nothing p l (λ k e. setting-clean (bit (q % 32) 0) (v % 32) k (bit-zero (q % 32)) e) none-in
 flow-nothing (Assert v to) n p l h = nothing p l none-in none-in
 flow-nothing (Out v to) n p l h = nothing p l none-in none-in
 flow-nothing Return n p l h = nothing p l none-in none-in
 
--- the sources of a procedure
-abbrev pub sourceIn : Proc → ℕ → Bool
-sourceIn q n = isSource (nodeIn q n)
+-- the reads of a procedure, and its receives
+abbrev pub readIn : Proc → ℕ → Bool
+readIn q n = isRead (nodeIn q n)
 
--- a mask for each procedure: its sources
-pub record Sources (t : Table) (r : List ℕ) : Type 0 where
+abbrev pub recvIn : Proc → ℕ → Bool
+recvIn q n = isRecv (nodeIn q n)
+
+-- a mask for each procedure: its nodes of one kind
+pub record Marks (f : Node → Bool) (t : Table) (r : List ℕ) : Type 0 where
   pub masks : Masks 8 32 r
-  pub right : (p n : ℕ) → p < 8 → n < 32 → bit n (cell r p) ≡ isSource (nodeAt t p n)
+  pub right : (p n : ℕ) → p < 8 → n < 32 → bit n (cell r p) ≡ f (nodeAt t p n)
 
-pub sources-of : (t : Table) (r : List ℕ) → length r ≡ 8 → Filled (λ p. maskOf 32 (sourceIn (procAt t p))) 8 r → Sources t r
-sources-of t r s f = record {
-  masks = filled-masks (λ p. maskOf 32 (sourceIn (procAt t p))) 8 32 r s f (λ p h. maskOf-lt 32 (sourceIn (procAt t p)));
-  right = λ p n hp hn. rw (f p hp) (bit-maskOf 32 n (sourceIn (procAt t p)) hn);
+abbrev pub Reads : Table → List ℕ → Type 0
+Reads t r = Marks isRead t r
+
+abbrev pub Receivers : Table → List ℕ → Type 0
+Receivers t r = Marks isRecv t r
+
+pub marks : (f : Node → Bool) (t : Table) (r : List ℕ) → length r ≡ 8 → Filled (λ p. maskOf 32 (λ n. f (nodeAt t p n))) 8 r → Marks f t r
+marks f t r s h = record {
+  masks = filled-masks (λ p. maskOf 32 (λ n. f (nodeAt t p n))) 8 32 r s h (λ p b. maskOf-lt 32 (λ n. f (nodeAt t p n)));
+  right = λ p n hp hn. rw (h p hp) (bit-maskOf 32 n (λ n. f (nodeAt t p n)) hn);
 }

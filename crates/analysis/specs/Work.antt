@@ -29,14 +29,14 @@ use Rattle.analysis.specs.Steps.{entered, passedOn, stepWith, Held, Rest
 use Rattle.analysis.specs.NodeLaws.{Places, flow-places, flow-small}
 use Rattle.analysis.specs.Decide.{Upto, begun, top-begun, step-good, decided}
 use Rattle.analysis.specs.Todo.{Leads, Took}
-use Rattle.analysis.specs.Sources.{Sources, flow-blank, flow-nothing}
+use Rattle.analysis.specs.Sources.{Reads, Receivers, flow-blank, flow-nothing}
 
 -- 265 cells, and 8 masks of nodes
 abbrev pub Sized : List ℕ → List ℕ → Type 0
 Sized l w = (length l ≡ 265) × (length w ≡ 8)
 
 -- The cells grow from l to l′, the nodes to be seen go from w to w′. A node that is not to be seen was not before, and what comes to it is
--- the same; r are the sources, to which the blank queues come, too.
+-- the same; r are the receives, to which the blank queues come.
 pub record Moves (r l w l′ w′ : List ℕ) : Type 0 where
   pub has : (a k : ℕ) → bit k (cell l a) ≡ true → bit k (cell l′ a) ≡ true
   pub size : length l′ ≡ length l
@@ -224,8 +224,8 @@ module _ (t : Table) (o : Ready t) where
   abbrev pub Work : List ℕ → List ℕ → Type 0
   Work l w = WorkUpto (t .tasks) l w
 
-  -- the sources are to be seen at first
-  pub work-start : {w : List ℕ} → Sources t w → WorkUpto 0 (replicate 265 0) w
+  -- the reads are to be seen at first
+  pub work-start : {w : List ℕ} → Reads t w → WorkUpto 0 (replicate 265 0) w
   work-start {w} r = record {
     good = begun t o;
     todo = r .masks;
@@ -233,17 +233,17 @@ module _ (t : Table) (o : Ready t) where
   }
 
   -- the cells have what goes out of a node that is not to be seen, since what comes to it is the same
-  rests-on : {r l w l′ w′ : List ℕ} (a b : ℕ) → a < 8 → b < 32 → Sources t r → Moves r l w l′ w′ → bit b (cell w′ a) ≡ false → (bit b (cell w a) ≡ false → Held (flowOf (nodeAt t a b) b (cell l (a * 32 + b)) (cell l 264)) a l′) → Rests t l′ a b
+  rests-on : {r l w l′ w′ : List ℕ} (a b : ℕ) → a < 8 → b < 32 → Receivers t r → Moves r l w l′ w′ → bit b (cell w′ a) ≡ false → (bit b (cell w a) ≡ false → Held (flowOf (nodeAt t a b) b (cell l (a * 32 + b)) (cell l 264)) a l′) → Rests t l′ a b
   rests-on {r} {l} {w} {l′} {w′} a b ha hb rc m h f = let j = m .keeps a b ha hb h in rw (j .1, flow-blank (nodeAt t a b) b (cell l (a * 32 + b)) (cell l 264) (cell l′ 264) (λ y. j .2 (rc .right a b ha hb ∙ y))) (f (j .0))
 
-  pub work-top : {r l w l′ w′ : List ℕ} (k : ℕ) → k < t .tasks → Sources t r → WorkUpto k l w → l′ ≡ topStep t l k → Moves r l w l′ w′ → WorkUpto (k + 1) l′ w′
+  pub work-top : {r l w l′ w′ : List ℕ} (k : ℕ) → k < t .tasks → Receivers t r → WorkUpto k l w → l′ ≡ topStep t l k → Moves r l w l′ w′ → WorkUpto (k + 1) l′ w′
   work-top {r} {l} k h rc g e m = record {
     good = rw (e, add-one) (top-begun t o k l h (g .good));
     todo = m .small (g .todo);
     done = λ a b ha hb z. rests-on a b ha hb rc m z (λ y. held-more (m .has) (g .done a b ha hb y));
   }
 
-  work-next : {r l w w1 l′ w′ : List ℕ} (p n : ℕ) → p < 8 → Sources t r → Work l w → Took w p n w1 → l′ ≡ stepped (nodeAt t p n) p n l → Moves r l w1 l′ w′ → Work l′ w′
+  work-next : {r l w w1 l′ w′ : List ℕ} (p n : ℕ) → p < 8 → Receivers t r → Work l w → Took w p n w1 → l′ ≡ stepped (nodeAt t p n) p n l → Moves r l w1 l′ w′ → Work l′ w′
   work-next {r} {l} {w} {w1} {l′} {w′} p n hp rc k c e m = record {
     good = rw e (step-good t o l p n hp (c .low) (k .good));
     todo = m .small (c .small);
@@ -271,7 +271,7 @@ leftOf l w = left 265 (8 * 2 ^ 32) l (sum w)
 pub record Going (r : List ℕ) (q : Proc) (p : ℕ) (l₀ w₀ l w : List ℕ) : Type 0 where
   pub masks : Masks 265 32 l
   pub todo : Masks 8 32 w
-  pub keeps : (t : Table) (o : Ready t) → procAt t p ≡ q → Sources t r → Work t o l₀ w₀ → Work t o l w
+  pub keeps : (t : Table) (o : Ready t) → procAt t p ≡ q → Receivers t r → Work t o l₀ w₀ → Work t o l w
   pub less : (leftOf l w < leftOf l₀ w₀) ⊎ ((l ≡ l₀) × (w ≡ w₀))
 
 pub going-start : (r : List ℕ) (q : Proc) (p : ℕ) (l w : List ℕ) → Masks 265 32 l → Masks 8 32 w → Going r q p l w l w
@@ -321,7 +321,7 @@ along-end {q} {p} {n} {on} {r} {l₀} {w₀} {l} {w} {l′} {w′} f g e = recor
 
 -- what the work on procedure p does
 pub record Works (r : List ℕ) (q : Proc) (p : ℕ) (l w l′ w′ : List ℕ) : Type 0 where
-  pub keeps : (t : Table) (o : Ready t) → procAt t p ≡ q → Sources t r → Work t o l w → Work t o l′ w′
+  pub keeps : (t : Table) (o : Ready t) → procAt t p ≡ q → Receivers t r → Work t o l w → Work t o l′ w′
   pub less : cell w p ≢ 0 → leftOf l′ w′ < leftOf l w
 
 pub going-end : {q : Proc} {p : ℕ} {r l w l′ w′ : List ℕ} → Going r q p l w l′ w′ → cell w′ p ≡ 0 → Works r q p l w l′ w′

@@ -18,7 +18,7 @@ ghost use Rattle.analysis.specs.Ready.{Ready};
 ghost use Rattle.analysis.specs.Decides.{Decides, KeptMasks};
 ghost use Rattle.analysis.specs.Steps.{entered, passedOn, stepWith, keptIn};
 ghost use Rattle.analysis.specs.Todo.{Leads, Took};
-ghost use Rattle.analysis.specs.Sources.{isSource, sourceIn};
+ghost use Rattle.analysis.specs.Sources.{sourceOf, readIn, recvIn};
 ghost use Rattle.analysis.specs.Plans.{passAt, Planned, Plans};
 ghost use Rattle.analysis.specs.Work.{Sized, Moves, Woken, Works, Pending};
 
@@ -69,44 +69,44 @@ fn enter(cells: &mut [u32; 265], todo: &mut [u32; 8], k: usize, m: u32)
     grow(cells, 256 + k, m);
 }
 
-// A queue has become blank: the sources are to be seen.
-fn wake(todo: &mut [u32; 8], sources: &[u32; 8])
+// The nodes of recvs are to be seen.
+fn wake(todo: &mut [u32; 8], recvs: &[u32; 8])
     requires { ⌜ length (now todo) ≡ 8 ⌝ }
-    ensures { λ r. ⌜ Woken (now (sources .entry)) (now (todo .entry)) (now (todo .exit)) ⌝ }
+    ensures { λ r. ⌜ Woken (now (recvs .entry)) (now (todo .entry)) (now (todo .exit)) ⌝ }
 {
     let mut i: usize = 0;
     while i < 8 {
         let w = todo[i];
-        let r = sources[i];
+        let r = recvs[i];
         todo[i] = w | r;
         i += 1;
     }
 }
 
 // The queues m are blank.
-fn blank(cells: &mut [u32; 265], todo: &mut [u32; 8], sources: &[u32; 8], m: u32)
-    requires { ⌜ Sized (now cells) (now todo) × Masks 8 32 (now sources) ⌝ }
+fn blank(cells: &mut [u32; 265], todo: &mut [u32; 8], recvs: &[u32; 8], m: u32)
+    requires { ⌜ Sized (now cells) (now todo) × Masks 8 32 (now recvs) ⌝ }
     ensures list { λ r. ⌜ now (cells .exit) ≡ grown (now (cells .entry)) 264 m ⌝ }
-    ensures moves { λ r. ⌜ Moves (now (sources .entry)) (now (cells .entry)) (now (todo .entry)) (now (cells .exit)) (now (todo .exit)) ⌝ }
+    ensures moves { λ r. ⌜ Moves (now (recvs .entry)) (now (cells .entry)) (now (todo .entry)) (now (cells .exit)) (now (todo .exit)) ⌝ }
 {
     let yes = grow(cells, 264, m);
     if yes {
-        wake(todo, sources);
+        wake(todo, recvs);
         return;
     }
 }
 
 // What a node adds to the cell a: dropped parameters, or blank queues.
-fn pass_on(cells: &mut [u32; 265], todo: &mut [u32; 8], sources: &[u32; 8], a: usize, m: u32)
-    requires { ⌜ (256 ≤ a) × ((a < 265) × (Sized (now cells) (now todo) × Masks 8 32 (now sources))) ⌝ }
+fn pass_on(cells: &mut [u32; 265], todo: &mut [u32; 8], recvs: &[u32; 8], a: usize, m: u32)
+    requires { ⌜ (256 ≤ a) × ((a < 265) × (Sized (now cells) (now todo) × Masks 8 32 (now recvs))) ⌝ }
     ensures list { λ r. ⌜ now (cells .exit) ≡ passedOn (now (cells .entry)) a m ⌝ }
-    ensures moves { λ r. ⌜ Moves (now (sources .entry)) (now (cells .entry)) (now (todo .entry)) (now (cells .exit)) (now (todo .exit)) ⌝ }
+    ensures moves { λ r. ⌜ Moves (now (recvs .entry)) (now (cells .entry)) (now (todo .entry)) (now (cells .exit)) (now (todo .exit)) ⌝ }
 {
     if a < 264 {
         enter(cells, todo, a - 256, m);
         return;
     }
-    blank(cells, todo, sources, m);
+    blank(cells, todo, recvs, m);
 }
 
 // The first target of a node, and whether it is to be seen.
@@ -137,11 +137,11 @@ fn spread(
     n: usize,
     cells: &mut [u32; 265],
     todo: &mut [u32; 8],
-    sources: &[u32; 8],
+    recvs: &[u32; 8],
 ) -> Next
-    requires { ⌜ (p < 8) × ((n < 32) × (Sized (now cells) (now todo) × Masks 8 32 (now sources))) ⌝ }
+    requires { ⌜ (p < 8) × ((n < 32) × (Sized (now cells) (now todo) × Masks 8 32 (now recvs))) ⌝ }
     ensures list { λ r. ⌜ now (cells .exit) ≡ stepWith (flowOf x n (cell (now (cells .entry)) (p * 32 + n)) (cell (now (cells .entry)) 264)) p (now (cells .entry)) ⌝ }
-    ensures moves { λ r. ⌜ Moves (now (sources .entry)) (now (cells .entry)) (now (todo .entry)) (now (cells .exit)) (now (todo .exit)) ⌝ }
+    ensures moves { λ r. ⌜ Moves (now (recvs .entry)) (now (cells .entry)) (now (todo .entry)) (now (cells .exit)) (now (todo .exit)) ⌝ }
     ensures next { λ r. ⌜ Leads p (r .to) (r .on) (now (todo .exit)) ⌝ }
 {
     let at = p * 32 + n;
@@ -155,7 +155,7 @@ fn spread(
     let add = f.add;
     let on = reach(cells, todo, p, first, o);
     reach(cells, todo, p, second, o);
-    pass_on(cells, todo, sources, extra, add);
+    pass_on(cells, todo, recvs, extra, add);
     Next { on, to: first }
 }
 
@@ -167,17 +167,17 @@ fn visit(
     n: usize,
     cells: &mut [u32; 265],
     todo: &mut [u32; 8],
-    sources: &[u32; 8],
+    recvs: &[u32; 8],
 ) -> Next
-    requires { ⌜ (p < 8) × ((n < 32) × (Sized (now cells) (now todo) × (Masks 8 32 (now sources) × (s ≡ passOf x n)))) ⌝ }
+    requires { ⌜ (p < 8) × ((n < 32) × (Sized (now cells) (now todo) × (Masks 8 32 (now recvs) × (s ≡ passOf x n)))) ⌝ }
     ensures list { λ r. ⌜ now (cells .exit) ≡ stepWith (flowOf x n (cell (now (cells .entry)) (p * 32 + n)) (cell (now (cells .entry)) 264)) p (now (cells .entry)) ⌝ }
-    ensures moves { λ r. ⌜ Moves (now (sources .entry)) (now (cells .entry)) (now (todo .entry)) (now (cells .exit)) (now (todo .exit)) ⌝ }
+    ensures moves { λ r. ⌜ Moves (now (recvs .entry)) (now (cells .entry)) (now (todo .entry)) (now (cells .exit)) (now (todo .exit)) ⌝ }
     ensures next { λ r. ⌜ Leads p (r .to) (r .on) (now (todo .exit)) ⌝ }
 {
     if s.to < 32 {
         return pass(s, p, n, cells, todo);
     }
-    spread(x, p, n, cells, todo, sources)
+    spread(x, p, n, cells, todo, recvs)
 }
 
 // Node n of procedure p, which is to be seen, is taken out.
@@ -210,10 +210,10 @@ fn proc_work(
     tos: &[u8; 256],
     cells: &mut [u32; 265],
     todo: &mut [u32; 8],
-    sources: &[u32; 8],
+    recvs: &[u32; 8],
 )
-    requires { ⌜ (p < 8) × (Masks 265 32 (now cells) × (Masks 8 32 (now todo) × (Masks 8 32 (now sources) × Planned q p (now uses) (now sets) (now tos)))) ⌝ }
-    ensures { λ r. ⌜ Works (now (sources .entry)) q p (now (cells .entry)) (now (todo .entry)) (now (cells .exit)) (now (todo .exit)) ⌝ }
+    requires { ⌜ (p < 8) × (Masks 265 32 (now cells) × (Masks 8 32 (now todo) × (Masks 8 32 (now recvs) × Planned q p (now uses) (now sets) (now tos)))) ⌝ }
+    ensures { λ r. ⌜ Works (now (recvs .entry)) q p (now (cells .entry)) (now (todo .entry)) (now (cells .exit)) (now (todo .exit)) ⌝ }
 {
     while todo[p] != 0 {
         let m = todo[p];
@@ -224,7 +224,7 @@ fn proc_work(
             let y = q.slots[n];
             let x = y.node;
             let s = pass_at(uses, sets, tos, p * 32 + n);
-            let f = visit(x, s, p, n, cells, todo, sources);
+            let f = visit(x, s, p, n, cells, todo, recvs);
             n = f.to;
             on = f.on;
         }
@@ -253,66 +253,74 @@ fn low_bits(k: u8) -> u32
     (1 << (k as u32)) - 1
 }
 
-// Whether a node is a source: a variable can be dirty after it though none is dirty before it. A read is one, and a receive from a
-// blank queue.
-fn is_source(x: Node) -> bool
-    ensures { λ r. ⌜ r ≡ isSource x ⌝ }
+// After a source a variable can be dirty though none is dirty before it: 1, a read; 2, a receive, if its queue is blank; 0, every
+// other node.
+fn source(x: Node) -> u8
+    ensures { λ r. ⌜ r ≡ sourceOf x ⌝ }
 {
     match x {
-        Node::Absent => false,
-        Node::Start { to: _ } => false,
+        Node::Absent => 0,
+        Node::Start { to: _ } => 0,
         Node::Set {
             var: _,
             op: _,
             a: _,
             b: _,
             to: _,
-        } => false,
+        } => 0,
         Node::Test {
             op: _,
             a: _,
             b: _,
             yes: _,
             no: _,
-        } => false,
-        Node::Read { var: _, to: _ } => true,
+        } => 0,
+        Node::Read { var: _, to: _ } => 1,
         Node::Call {
             callee: _,
             args: _,
             to: _,
-        } => false,
-        Node::Wait { sem: _, to: _ } => false,
-        Node::Signal { sem: _, to: _ } => false,
+        } => 0,
+        Node::Wait { sem: _, to: _ } => 0,
+        Node::Signal { sem: _, to: _ } => 0,
         Node::Send {
             queue: _,
             var: _,
             to: _,
-        } => false,
+        } => 0,
         Node::Recv {
             queue: _,
             var: _,
             to: _,
-        } => true,
-        Node::Assert { var: _, to: _ } => false,
-        Node::Out { var: _, to: _ } => false,
-        Node::Return => false,
+        } => 2,
+        Node::Assert { var: _, to: _ } => 0,
+        Node::Out { var: _, to: _ } => 0,
+        Node::Return => 0,
     }
 }
 
 // The sources of a procedure.
-fn source_mask(q: Proc) -> u32
-    ensures { λ r. ⌜ r ≡ maskOf 32 (sourceIn q) ⌝ }
+struct Sources {
+    reads: u32,
+    recvs: u32,
+}
+
+fn sources_of(q: Proc) -> Sources
+    ensures reads { λ r. ⌜ r .reads ≡ maskOf 32 (readIn q) ⌝ }
+    ensures recvs { λ r. ⌜ r .recvs ≡ maskOf 32 (recvIn q) ⌝ }
 {
-    let mut m: u32 = 0;
+    let mut reads: u32 = 0;
+    let mut recvs: u32 = 0;
     let mut n: usize = 0;
     while n < 32 {
         let s = q.slots[n];
         let x = s.node;
-        let yes = is_source(x);
-        m = with(m, n, yes);
+        let k = source(x);
+        reads = with(reads, n, k == 1);
+        recvs = with(recvs, n, k == 2);
         n += 1;
     }
-    m
+    Sources { reads, recvs }
 }
 
 // What each node of procedure p does, if it has one target: the fields of its `Pass`, each in an array for all procedures.
@@ -333,24 +341,26 @@ fn plan(q: Proc, p: usize, uses: &mut [u32; 256], sets: &mut [u32; 256], tos: &m
     }
 }
 
-// What is dirty: the sources are seen at first, and each node after what comes to it has grown.
+// What is dirty: the reads are seen at first, and each node after what comes to it has grown.
 pub fn dirty_cells(t: Table) -> [u32; 265]
     requires { ⌜ Ready t ⌝ }
     ensures { λ r. ⌜ Decides t r ⌝ }
 {
-    let mut sources = [0u32; 8];
+    let mut recvs = [0u32; 8];
+    let mut todo = [0u32; 8];
     let mut uses = [0u32; 256];
     let mut sets = [0u32; 256];
     let mut tos = [0u8; 256];
     let mut p: usize = 0;
     while p < 8 {
         let q = t.proc[p];
-        sources[p] = source_mask(q);
+        let s = sources_of(q);
+        recvs[p] = s.recvs;
+        todo[p] = s.reads;
         plan(q, p, &mut uses, &mut sets, &mut tos);
         p += 1;
     }
     let mut cells = [0u32; 265];
-    let mut todo = sources;
     let tasks = t.tasks as usize;
     let mut k: usize = 0;
     while k < tasks {
@@ -364,7 +374,7 @@ pub fn dirty_cells(t: Table) -> [u32; 265]
     p = pending(&todo);
     while p < 8 {
         let q = t.proc[p];
-        proc_work(q, p, &uses, &sets, &tos, &mut cells, &mut todo, &sources);
+        proc_work(q, p, &uses, &sets, &tos, &mut cells, &mut todo, &recvs);
         p = pending(&todo);
     }
     cells

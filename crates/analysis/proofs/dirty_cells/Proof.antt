@@ -2,7 +2,7 @@ use Prim.Native.Nat.{_≤_, _-_}
 use mathlib.Core.Path.{_≡_, refl}
 use Rattle.analysis.specs.Ready.{Ready}
 use Rattle.analysis.specs.StepLaws.{top-is}
-use Rattle.analysis.specs.Plans.{Scanned, scanned-start, scanned-next, scanned-end, scanned-sources, scanned-plan}
+use Rattle.analysis.specs.Plans.{Scanned, Known, scanned-start, scanned-next, scanned-known, scanned-reads}
 use Rattle.analysis.specs.Work.{WorkUpto, Work, Pending, leftOf, work-start, work-top, work-end}
 use borrow.Author.Needs.{needs}
 use native.Mathlib.Omega.{arith}
@@ -10,22 +10,22 @@ use Rattle.analysis.proofs.dirty_cells.Statement.{statement}
 use Rattle.analysis.proofs.dirty_cells.Tie as tie
 
 abbrev Inv-loop : tie.InvT-loop
-Inv-loop t sources₀ uses₀ sets₀ tos₀ p₀ sources uses sets tos p = Scanned t p sources uses sets tos
+Inv-loop t recvs₀ todo₀ uses₀ sets₀ tos₀ p₀ recvs todo uses sets tos p = Scanned t p recvs todo uses sets tos
 
 abbrev μ-loop : tie.MeasureT-loop
-μ-loop t sources₀ uses₀ sets₀ tos₀ p₀ sources uses sets tos p = 8 - p
+μ-loop t recvs₀ todo₀ uses₀ sets₀ tos₀ p₀ recvs todo uses sets tos p = 8 - p
 
 abbrev Inv-loop2 : tie.InvT-loop2
-Inv-loop2 t sources uses sets tos p cells₀ todo₀ tasks k₀ cells todo k = Scanned t 8 sources uses sets tos × ((k ≤ t .tasks) × ((o : Ready t) → WorkUpto t o k cells todo))
+Inv-loop2 t recvs todo₀ uses sets tos p cells₀ tasks k₀ todo cells k = Known t recvs uses sets tos × ((k ≤ t .tasks) × ((o : Ready t) → WorkUpto t o k cells todo))
 
 abbrev μ-loop2 : tie.MeasureT-loop2
-μ-loop2 t sources uses sets tos p cells₀ todo₀ tasks k₀ cells todo k = t .tasks - k
+μ-loop2 t recvs todo₀ uses sets tos p cells₀ tasks k₀ todo cells k = t .tasks - k
 
 abbrev Inv-loop3 : tie.InvT-loop3
-Inv-loop3 t sources uses sets tos p₀ cells₀ todo₀ tasks k p cells todo = Scanned t 8 sources uses sets tos × (((o : Ready t) → Work t o cells todo) × Pending todo p)
+Inv-loop3 t recvs todo₀ uses sets tos p₀ cells₀ tasks k todo p cells = Known t recvs uses sets tos × (((o : Ready t) → Work t o cells todo) × Pending todo p)
 
 abbrev μ-loop3 : tie.MeasureT-loop3
-μ-loop3 t sources uses sets tos p₀ cells₀ todo₀ tasks k p cells todo = leftOf cells todo
+μ-loop3 t recvs todo₀ uses sets tos p₀ cells₀ tasks k todo p cells = leftOf cells todo
 
 loop-holds : tie.Need-loop-holds Inv-loop μ-loop Inv-loop2 μ-loop2 Inv-loop3 μ-loop3
 loop-holds c = scanned-start _
@@ -37,15 +37,21 @@ element-copy-out-q :
     tie.Need-element-copy-out-q Inv-loop μ-loop Inv-loop2 μ-loop2 Inv-loop3 μ-loop3
 element-copy-out-q c = search needs
 
-source-mask-requires :
-    tie.Need-source-mask-requires Inv-loop μ-loop Inv-loop2 μ-loop2 Inv-loop3 μ-loop3
-source-mask-requires c κs = search needs
+sources-of-requires :
+    tie.Need-sources-of-requires Inv-loop μ-loop Inv-loop2 μ-loop2 Inv-loop3 μ-loop3
+sources-of-requires c κs = search needs
 
-mul-sources : tie.Need-mul-sources Inv-loop μ-loop Inv-loop2 μ-loop2 Inv-loop3 μ-loop3
-mul-sources c = search needs
+mul-recvs : tie.Need-mul-recvs Inv-loop μ-loop Inv-loop2 μ-loop2 Inv-loop3 μ-loop3
+mul-recvs c = search needs
 
-array-write-sources : tie.Need-array-write-sources Inv-loop μ-loop Inv-loop2 μ-loop2 Inv-loop3 μ-loop3
-array-write-sources c = omega (arith, c .before .before .before .loop .inv .sources-size)
+array-write-recvs : tie.Need-array-write-recvs Inv-loop μ-loop Inv-loop2 μ-loop2 Inv-loop3 μ-loop3
+array-write-recvs c = omega (arith, c .before .before .before .loop .inv .recvs-size)
+
+mul-todo : tie.Need-mul-todo Inv-loop μ-loop Inv-loop2 μ-loop2 Inv-loop3 μ-loop3
+mul-todo c = search needs
+
+array-write-todo : tie.Need-array-write-todo Inv-loop μ-loop Inv-loop2 μ-loop2 Inv-loop3 μ-loop3
+array-write-todo c = omega (arith, c .before .before .before .loop .inv .reads-size)
 
 plan-requires : tie.Need-plan-requires Inv-loop μ-loop Inv-loop2 μ-loop2 Inv-loop3 μ-loop3
 plan-requires c κs = c .before .before .before .before .before .loop-test .taken
@@ -57,13 +63,13 @@ loop-less : tie.Need-loop-less Inv-loop μ-loop Inv-loop2 μ-loop2 Inv-loop3 μ-
 loop-less c = search needs
 
 loop-again : tie.Need-loop-again Inv-loop μ-loop Inv-loop2 μ-loop2 Inv-loop3 μ-loop3
-loop-again c = scanned-next (c .before .before .before .before .before .before .before .loop .p) (c .before .before .before .before .before .before .loop-test .taken) (c .before .before .before .before .source-mask .ensures) (c .plan .ensures) (c .before .before .before .before .before .before .before .loop .inv)
+loop-again c = scanned-next (c .before .before .before .before .before .before .before .loop .p) (c .before .before .before .before .before .before .loop-test .taken) (c .before .before .before .before .sources-of .ensures .1) (c .before .before .before .before .sources-of .ensures .0) (c .plan .ensures) (c .before .before .before .before .before .before .before .loop .inv)
 
 cast-tasks : tie.Need-cast-tasks Inv-loop μ-loop Inv-loop2 μ-loop2 Inv-loop3 μ-loop3
 cast-tasks c = search needs
 
 loop2-holds : tie.Need-loop2-holds Inv-loop μ-loop Inv-loop2 μ-loop2 Inv-loop3 μ-loop3
-loop2-holds c = (scanned-end (omega (arith, c .loop-test .left)) (c .before .loop .inv), (omega arith, λ o. work-start _ o (scanned-sources (scanned-end (omega (arith, c .loop-test .left)) (c .before .loop .inv)))))
+loop2-holds c = let h = c .before .loop .inv in (scanned-known (omega (arith, c .loop-test .left)) h, (omega arith, λ o. work-start _ o (scanned-reads (omega (arith, c .loop-test .left)) h)))
 
 element-copy-out-w :
     tie.Need-element-copy-out-w Inv-loop μ-loop Inv-loop2 μ-loop2 Inv-loop3 μ-loop3
@@ -92,7 +98,7 @@ loop2-less : tie.Need-loop2-less Inv-loop μ-loop Inv-loop2 μ-loop2 Inv-loop3 �
 loop2-less c = omega (arith, c .before .before .before .before .before .before .before .loop2-test .taken)
 
 loop2-again : tie.Need-loop2-again Inv-loop μ-loop Inv-loop2 μ-loop2 Inv-loop3 μ-loop3
-loop2-again c = let h = c .before .before .before .before .before .before .before .before .loop2 in (h .inv .0, (omega (arith, c .before .before .before .before .before .before .before .loop2-test .taken), λ o. work-top _ o (h .k) (c .before .before .before .before .before .before .before .loop2-test .taken) (scanned-sources (h .inv .0)) (h .inv .1 .1 o) (top-is _ _ _ _ (c .before .before .before .low-bits .ensures) (c .enter .ensures .0)) (c .enter .ensures .1 _)))
+loop2-again c = let h = c .before .before .before .before .before .before .before .before .loop2 in (h .inv .0, (omega (arith, c .before .before .before .before .before .before .before .loop2-test .taken), λ o. work-top _ o (h .k) (c .before .before .before .before .before .before .before .loop2-test .taken) (h .inv .0 .recvs) (h .inv .1 .1 o) (top-is _ _ _ _ (c .before .before .before .low-bits .ensures) (c .enter .ensures .0)) (c .enter .ensures .1 _)))
 
 pending-requires : tie.Need-pending-requires Inv-loop μ-loop Inv-loop2 μ-loop2 Inv-loop3 μ-loop3
 pending-requires c κs = search needs
@@ -109,7 +115,7 @@ element-copy-out-q-3 c = search needs
 
 proc-work-requires :
     tie.Need-proc-work-requires Inv-loop μ-loop Inv-loop2 μ-loop2 Inv-loop3 μ-loop3
-proc-work-requires c κs = let h = c .before .before .before .before .before .before .before .before .loop3 .inv in let k = h .1 .0 (c .before .before .before .before .before .before .before .before .before .before .before .before .before .before .before .pre) in (c .before .before .before .before .before .before .before .loop3-test .taken, (k .good .masks, (k .todo, (scanned-sources (h .0) .masks, scanned-plan _ (c .before .before .before .before .before .before .before .loop3-test .taken) (h .0)))))
+proc-work-requires c κs = let h = c .before .before .before .before .before .before .before .before .loop3 .inv in let k = h .1 .0 (c .before .before .before .before .before .before .before .before .before .before .before .before .before .before .before .pre) in (c .before .before .before .before .before .before .before .loop3-test .taken, (k .good .masks, (k .todo, (h .0 .recvs .masks, h .0 .plans _ (c .before .before .before .before .before .before .before .loop3-test .taken)))))
 
 pending-requires-2 :
     tie.Need-pending-requires-2 Inv-loop μ-loop Inv-loop2 μ-loop2 Inv-loop3 μ-loop3
@@ -119,7 +125,7 @@ loop3-less : tie.Need-loop3-less Inv-loop μ-loop Inv-loop2 μ-loop2 Inv-loop3 �
 loop3-less c = c .before .before .proc-work .ensures .less (c .before .before .before .before .before .before .before .before .before .before .before .loop3 .inv .1 .1 .some′ (c .before .before .before .before .before .before .before .before .before .before .loop3-test .taken))
 
 loop3-again : tie.Need-loop3-again Inv-loop μ-loop Inv-loop2 μ-loop2 Inv-loop3 μ-loop3
-loop3-again c = let h = c .before .before .before .before .before .before .before .before .before .before .before .loop3 .inv in (h .0, (λ o. c .before .before .proc-work .ensures .keeps _ o refl (scanned-sources (h .0)) (h .1 .0 o), c .pending2 .ensures))
+loop3-again c = let h = c .before .before .before .before .before .before .before .before .before .before .before .loop3 .inv in (h .0, (λ o. c .before .before .proc-work .ensures .keeps _ o refl (h .0 .recvs) (h .1 .0 o), c .pending2 .ensures))
 
 returns : tie.Need-returns Inv-loop μ-loop Inv-loop2 μ-loop2 Inv-loop3 μ-loop3
 returns c = let o = c .before .before .before .before .before .before .before .before .pre in let h = c .before .loop3 .inv in work-end _ o (h .1 .0 o) (h .1 .1 .none′ (omega (arith, c .loop3-test .left)))
@@ -137,9 +143,11 @@ dirty-cells-spec =
     loop-holds
     mul-q
     element-copy-out-q
-    source-mask-requires
-    mul-sources
-    array-write-sources
+    sources-of-requires
+    mul-recvs
+    array-write-recvs
+    mul-todo
+    array-write-todo
     plan-requires
     add-p
     loop-less

@@ -11,7 +11,7 @@ enter-requires : tie.Need-enter-requires
 enter-requires c κs = (omega (arith, c .before .before .before .pre .0, c .before .before .if1 .taken), c .before .before .before .pre .1 .1 .0)
 
 returns : tie.Need-returns
-returns c = (passed-drop _ (c .before .before .before .before .args .a) (c .before .before .before .before .args .m) (c .before .before .before .if1 .taken) (c .enter .ensures .0), c .enter .ensures .1 (c .before .before .before .before .args .sources .now))
+returns c = (passed-drop _ (c .before .before .before .before .args .a) (c .before .before .before .before .args .m) (c .before .before .before .if1 .taken) (c .enter .ensures .0), c .enter .ensures .1 (c .before .before .before .before .args .recvs .now))
 
 blank-requires : tie.Need-blank-requires
 blank-requires c κs = c .before .before .before .pre .1 .1

@@ -7,16 +7,16 @@ use Rattle.analysis.proofs.proc_work.Statement.{statement}
 use Rattle.analysis.proofs.proc_work.Tie as tie
 
 abbrev Inv-loop2 : tie.InvT-loop2
-Inv-loop2 p uses sets tos cells₀ todo₀ sources q m n₀ on₀ cells todo n on = Along sources q p cells₀ todo₀ cells todo n on
+Inv-loop2 p uses sets tos cells₀ todo₀ recvs q m n₀ on₀ cells todo n on = Along recvs q p cells₀ todo₀ cells todo n on
 
 abbrev μ-loop2 : tie.MeasureT-loop2
-μ-loop2 p uses sets tos cells₀ todo₀ sources q m n₀ on₀ cells todo n on = leftOf cells todo
+μ-loop2 p uses sets tos cells₀ todo₀ recvs q m n₀ on₀ cells todo n on = leftOf cells todo
 
 abbrev Inv-loop : tie.InvT-loop
-Inv-loop p uses sets tos cells₀ todo₀ sources q cells todo = Going sources q p cells₀ todo₀ cells todo
+Inv-loop p uses sets tos cells₀ todo₀ recvs q cells todo = Going recvs q p cells₀ todo₀ cells todo
 
 abbrev μ-loop : tie.MeasureT-loop
-μ-loop p uses sets tos cells₀ todo₀ sources q cells todo = leftOf cells todo
+μ-loop p uses sets tos cells₀ todo₀ recvs q cells todo = leftOf cells todo
 
 loop-holds : tie.Need-loop-holds Inv-loop2 μ-loop2 Inv-loop μ-loop
 loop-holds c = going-start _ _ _ _ _ (c .pre .1 .0) (c .pre .1 .1 .0)

@@ -26,13 +26,13 @@ reach-requires : tie.Need-reach-requires
 reach-requires c κs = (c .before .before .before .before .before .pre .0, (places _ _ _ _ (c .before .before .before .before .before .pre .1 .0) (c .before .before .flow-of .ensures) .first-low, c .before .before .before .before .before .pre .1 .1 .0))
 
 reach-requires-2 : tie.Need-reach-requires-2
-reach-requires-2 c κs = (c .before .before .before .before .before .before .before .before .pre .0, (places _ _ _ _ (c .before .before .before .before .before .before .before .before .pre .1 .0) (c .before .before .before .before .before .flow-of .ensures) .second-low, sized-after (c .before .before .before .before .before .before .before .before .pre .1 .1 .0) (c .before .before .reach .ensures .1 .0 (c .before .before .before .before .before .before .before .before .args .sources .now))))
+reach-requires-2 c κs = (c .before .before .before .before .before .before .before .before .pre .0, (places _ _ _ _ (c .before .before .before .before .before .before .before .before .pre .1 .0) (c .before .before .before .before .before .flow-of .ensures) .second-low, sized-after (c .before .before .before .before .before .before .before .before .pre .1 .1 .0) (c .before .before .reach .ensures .1 .0 (c .before .before .before .before .before .before .before .before .args .recvs .now))))
 
 pass-on-requires : tie.Need-pass-on-requires
-pass-on-requires c κs = let f = places _ _ _ _ (c .before .before .before .before .before .before .before .before .before .before .before .pre .1 .0) (c .before .before .before .before .before .before .before .before .flow-of .ensures) in let r = c .before .before .before .before .before .before .before .before .before .before .before .args .sources .now in (f .extra-high, (f .extra-low, (sized-after (sized-after (c .before .before .before .before .before .before .before .before .before .before .before .pre .1 .1 .0) (c .before .before .before .before .before .reach .ensures .1 .0 r)) (c .before .before .reach2 .ensures .1 .0 r), c .before .before .before .before .before .before .before .before .before .before .before .pre .1 .1 .1)))
+pass-on-requires c κs = let f = places _ _ _ _ (c .before .before .before .before .before .before .before .before .before .before .before .pre .1 .0) (c .before .before .before .before .before .before .before .before .flow-of .ensures) in let r = c .before .before .before .before .before .before .before .before .before .before .before .args .recvs .now in (f .extra-high, (f .extra-low, (sized-after (sized-after (c .before .before .before .before .before .before .before .before .before .before .before .pre .1 .1 .0) (c .before .before .before .before .before .reach .ensures .1 .0 r)) (c .before .before .reach2 .ensures .1 .0 r), c .before .before .before .before .before .before .before .before .before .before .before .pre .1 .1 .1)))
 
 returns : tie.Need-returns
-returns c = let r = c .before .before .before .before .before .before .before .before .before .before .before .before .args .sources .now in (step-is _ _ _ _ (c .before .before .before .before .before .before .before .before .before .before .before .before .args .p) _ _ _ (c .before .before .before .before .before .before .before .before .before .flow-of .ensures) (c .before .before .before .before .before .before .reach .ensures .0) (c .before .before .before .reach2 .ensures .0) (c .pass-on .ensures .0), (moves-trans (moves-trans (c .before .before .before .before .before .before .reach .ensures .1 .0 r) (c .before .before .before .reach2 .ensures .1 .0 r)) (c .pass-on .ensures .1), leads-on (c .before .before .before .before .before .before .before .before .before .before .before .before .pre .0) (leads-on (c .before .before .before .before .before .before .before .before .before .before .before .before .pre .0) (c .before .before .before .before .before .before .reach .ensures .1 .1) (c .before .before .before .reach2 .ensures .1 .0 r)) (c .pass-on .ensures .1)))
+returns c = let r = c .before .before .before .before .before .before .before .before .before .before .before .before .args .recvs .now in (step-is _ _ _ _ (c .before .before .before .before .before .before .before .before .before .before .before .before .args .p) _ _ _ (c .before .before .before .before .before .before .before .before .before .flow-of .ensures) (c .before .before .before .before .before .before .reach .ensures .0) (c .before .before .before .reach2 .ensures .0) (c .pass-on .ensures .0), (moves-trans (moves-trans (c .before .before .before .before .before .before .reach .ensures .1 .0 r) (c .before .before .before .reach2 .ensures .1 .0 r)) (c .pass-on .ensures .1), leads-on (c .before .before .before .before .before .before .before .before .before .before .before .before .pre .0) (leads-on (c .before .before .before .before .before .before .before .before .before .before .before .before .pre .0) (c .before .before .before .before .before .before .reach .ensures .1 .1) (c .before .before .before .reach2 .ensures .1 .0 r)) (c .pass-on .ensures .1)))
 
 pub spread-spec : {M : Type 1} → statement M
 spread-spec =

@@ -7,7 +7,7 @@ pass-requires : tie.Need-pass-requires
 pass-requires c κs = search needs
 
 returns : tie.Need-returns
-returns c = let b = c .before .before .before .before .before in (pass-is _ (b .args .x) _ _ _ _ (b .pre .1 .1 .1 .1) (c .before .before .before .if1 .taken) (c .pass .ensures .0), (c .pass .ensures .1 .0 (b .args .sources .now), c .pass .ensures .1 .1))
+returns c = let b = c .before .before .before .before .before in (pass-is _ (b .args .x) _ _ _ _ (b .pre .1 .1 .1 .1) (c .before .before .before .if1 .taken) (c .pass .ensures .0), (c .pass .ensures .1 .0 (b .args .recvs .now), c .pass .ensures .1 .1))
 
 spread-requires : tie.Need-spread-requires
 spread-requires c κs = search needs

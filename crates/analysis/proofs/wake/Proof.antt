@@ -6,10 +6,10 @@ use Rattle.analysis.proofs.wake.Statement.{statement}
 use Rattle.analysis.proofs.wake.Tie as tie
 
 abbrev Inv-loop : tie.InvT-loop
-Inv-loop todo₀ sources i₀ todo i = Waking sources todo₀ todo i
+Inv-loop todo₀ recvs i₀ todo i = Waking recvs todo₀ todo i
 
 abbrev μ-loop : tie.MeasureT-loop
-μ-loop todo₀ sources i₀ todo i = 8 - i
+μ-loop todo₀ recvs i₀ todo i = 8 - i
 
 loop-holds : tie.Need-loop-holds Inv-loop μ-loop
 loop-holds c = waking-start _ _ (c .pre)
