@@ -9,7 +9,7 @@ use lib.ListN.{length, getD, set, take, drop, length-set}
 use lib.Seq.{sets, set-getD}
 use lib.Dec.{eqb, leb}
 use lib.IntN.{ℤ, pos}
-use borrow.Author.Tests.{eqb-false, eq-eqb, ne-eqb}
+use borrow.Author.Tests.{eq-eqb, ne-eqb}
 use Rattle.table.specs.Mask.{pick, bit, membersFrom, members}
 use Rattle.table.specs.MaskLaws.{members-is}
 use Rattle.table.specs.Table.{nodeAt, arcTo}
@@ -41,7 +41,7 @@ pub record OneKept (arc keep j : ℕ) : Type 0 where
   pub kept : bit j keep ≡ true
   pub low : j < 32
 
-one-kept : (arc keep : ℕ) (l : List ℕ) → members arc ≡ l → (oneKept keep l ≡ 32 → ⊥) → OneKept arc keep (oneKept keep l)
+pub one-kept : (arc keep : ℕ) (l : List ℕ) → members arc ≡ l → (oneKept keep l ≡ 32 → ⊥) → OneKept arc keep (oneKept keep l)
 one-kept arc keep [] e h = absurd (h refl)
 one-kept arc keep (i ∷ j ∷ l) e h = absurd (h refl)
 one-kept arc keep (j ∷ []) e h = go (bit j keep) refl h

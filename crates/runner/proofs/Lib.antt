@@ -4,3 +4,4 @@ pub mod Turns
 pub mod Stores
 pub mod Directs
 pub mod Holds
+pub mod Returns

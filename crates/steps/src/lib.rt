@@ -175,6 +175,16 @@ pub fn direct_target(arc: u32, keep: u32) -> u8
     }
 }
 
+// The same for a return, whose arc is its call's; 32 where there is no frame to go back to.
+pub fn return_target(arc: u32, keep: u32, depth: u8) -> u8
+    ensures { λ r. ⌜ r ≡ pick (leb depth 1) 32 (directOf arc keep) ⌝ }
+{
+    if depth < 2 {
+        return 32;
+    }
+    direct_target(arc, keep)
+}
+
 // ---- nodes
 
 fn does(var: u8, value: i32, used: usize, arc: u32, how: u8, at: u8, count: u8) -> Acted
