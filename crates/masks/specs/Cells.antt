@@ -1,8 +1,7 @@
--- A list of masks that only grows, and sweeps over it until nothing is new.
+-- A list of masks that only grows.
 use Prim.Native.Nat.{ℕ, zero, suc, _+_, _*_, _<_, _≤_, _^_}
 use native.Mathlib.Omega.{arith}
 use native.Mathlib.Nat.{suc-mul}
-use native.Mathlib.Numerals.{add-one}
 use mathlib.Core.Path.{_≡_, refl, _∙_, ap, subst}
 use mathlib.Core.Bool.{Bool, true, false, not}
 use mathlib.Core.Logic.{_⊎_, inl, inr}
@@ -46,13 +45,6 @@ pub record Grows (l l′ : List ℕ) : Type 0 where
 
 pub grows-refl : (l : List ℕ) → Grows l l
 grows-refl l = record { same-size = refl; up = omega arith; stays = λ e. refl }
-
-pub grows-trans : {l m n : List ℕ} → Grows l m → Grows m n → Grows l n
-grows-trans {l} {m} {n} f g = record {
-  same-size = g .same-size ∙ f .same-size;
-  up = omega (arith, f .up, g .up);
-  stays = λ e. g .stays (omega (arith, f .up, g .up)) ∙ f .stays (omega (arith, f .up, g .up));
-}
 
 pub grown-grows : (l : List ℕ) (a m : ℕ) → Grows l (grown l a m)
 unfolding grown
@@ -171,22 +163,6 @@ grown-masks {n} {w} {l} a m h i = record { size = length-set l a _ ∙ h .size; 
 
 pub masks-sum : {n w : ℕ} {l : List ℕ} → Masks n w l → sum l ≤ n * 2 ^ w
 masks-sum {n} {w} {l} h = subst (λ (x : ℕ). sum l ≤ x * 2 ^ w) (h .size) (sum-bound (2 ^ w) l (h .below))
-
--- a sweep: the step at each index in turn
-module _ (step : List ℕ → ℕ → List ℕ) where
-  unfoldable pub sweep : ℕ → List ℕ → List ℕ
-  sweep zero l = l
-  sweep (suc n) l = step (sweep n l) n
-
-  pub sweep-more : {l l′ : List ℕ} (l₀ : List ℕ) (i : ℕ) → l ≡ sweep i l₀ → l′ ≡ step l i → l′ ≡ sweep (i + 1) l₀
-  unfolding sweep
-  sweep-more l₀ i p q = rw add-one (q ∙ ap (λ (x : List ℕ). step x i) p)
-
-  module _ (grows : (l : List ℕ) (i : ℕ) → Grows l (step l i)) where
-    pub sweep-grows : (n : ℕ) (l : List ℕ) → Grows l (sweep n l)
-    unfolding sweep
-    sweep-grows zero l = grows-refl l
-    sweep-grows (suc n) l = grows-trans (sweep-grows n l) (grows (sweep n l) n)
 
 pub cell-zeros : (n a : ℕ) → cell (replicate n 0) a ≡ 0
 cell-zeros zero a = refl
