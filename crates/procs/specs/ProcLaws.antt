@@ -1,12 +1,12 @@
 -- A procedure's line with its node lines, and procedure after procedure.
-use Prim.Native.Nat.{ℕ, suc, _+_, _*_, _≤_, _<_}
-use mathlib.Core.Path.{_≡_, sym, _∙_, ap, subst}
+use Prim.Native.Nat.{ℕ, zero, suc, _+_, _*_, _≤_, _<_}
+use mathlib.Core.Path.{_≡_, refl, sym, _∙_, ap, subst}
 use mathlib.Core.Bool.{Bool}
-use mathlib.Core.List.{List}
+use mathlib.Core.List.{List, _∷_}
 use native.Mathlib.Omega.{arith}
 use native.Mathlib.Numerals.{add-one}
-use lib.ListN.{length, drop, set, replicate}
-use Rattle.table.specs.Table.{noProc}
+use lib.ListN.{length, drop, getD, set, replicate}
+use Rattle.table.specs.Table.{noSlot, noProc}
 use Rattle.table.specs.declared.Slot.{Slot}
 use Rattle.table.specs.declared.Proc.{Proc}
 use Rattle.text.specs.declared.Fault.{Fault}
@@ -105,3 +105,16 @@ module _ {closed : Bool} {x : Counts} {s : List ℕ} {at line : ℕ} {acc : List
 
   pub procs-end : x .procs ≤ i → ProcsAt closed x s at line (record { end = At p; line = l; proc = acc })
   procs-end h = record { rows = rows-end (o .rowing) h }
+
+-- ---- a procedure all 0
+pub set-blank : {A : Type 0} (n i : ℕ) (a : A) → set (replicate n a) i a ≡ replicate n a
+set-blank zero i a = refl
+set-blank (suc n) zero a = refl
+set-blank {A} (suc n) (suc i) a = ap (λ (l : List A). a ∷ l) (set-blank n i a)
+
+blank-is : (i : ℕ) → _≡_ {A = Proc} (record { params = 0; vars = 0; nodes = 0; drop = 0; slots = set (replicate 32 noSlot) i noSlot }) noProc
+blank-is i = λ ι. record { params = 0; vars = 0; nodes = 0; drop = 0; slots = set-blank 32 i noSlot ι }
+
+pub blank-of : (i : ℕ) {q : Proc} (d : Slot) → q ≡ noProc
+    → _≡_ {A = Proc} (record { params = q .params; vars = q .vars; nodes = q .nodes; drop = q .drop; slots = set (q .slots) i (getD (q .slots) 0 d) }) noProc
+blank-of i d p = rw p (blank-is i)

@@ -164,7 +164,9 @@ fn empty_proc() -> table::Proc
 }
 
 // As `empty_proc`, stored into at a computed place: procedures are then copied in one piece and not slot by slot.
-fn blank_proc(k: usize) -> table::Proc {
+fn blank_proc(k: usize) -> table::Proc
+    ensures { λ r. ⌜ r ≡ noProc ⌝ }
+{
     let mut q = empty_proc();
     let none = q.slots[0];
     let i = k % 32;

@@ -39,6 +39,7 @@ use Rattle.rows.specs.Rows.{RowsAt}
 use Rattle.rows.specs.RowLaws.{end-mapped}
 use Rattle.procs.specs.declared.Procs.{Procs}
 use Rattle.procs.specs.Answer.{ProcsAt}
+use Rattle.procs.specs.ProcLaws.{set-blank}
 use Rattle.late.specs.declared.Late.{Late}
 use Rattle.late.specs.declared.Late.the-variants.{Good, Bad}
 use Rattle.late.specs.Late.{lateIn, Counted as Few}
@@ -56,11 +57,6 @@ module _ {A : Type 0} {f : ℕ → Parser A} {n : ℕ} {acc : List A} {s : List 
   rows-place q = rw q at (m .within)
 
 -- ---- a table all 0
-set-blank : {A : Type 0} (n i : ℕ) (a : A) → set (replicate n a) i a ≡ replicate n a
-set-blank zero i a = refl
-set-blank (suc n) zero a = refl
-set-blank {A} (suc n) (suc i) a = ap (λ (l : List A). a ∷ l) (set-blank n i a)
-
 pub blank-is : (i : ℕ) → _≡_ {A = Table} (record {
   trap = 0;
   closed = false;
