@@ -1,14 +1,12 @@
 -- A table's graphs drawn by masks, and what the graph program prints, case by case.
-use Prim.Native.Nat.{ℕ, zero, suc, _+_, _*_, _%_, _≤_, _<_}
+use Prim.Native.Nat.{ℕ, zero, suc, _+_, _*_, _≤_, _<_}
 use mathlib.Core.Path.{_≡_, refl, sym, _∙_, ap}
 use mathlib.Core.Bool.{Bool}
 use mathlib.Core.List.{List}
 use native.Mathlib.Omega.{arith}
 use lib.ListN.{length, getD}
 use lib.Seq.{sets}
-use Rattle.table.specs.Mask.{bit}
 use Rattle.table.specs.Table.{procAt, noSlot}
-use Rattle.table.specs.declared.Slot.{Slot}
 use Rattle.table.specs.declared.Task.{Task}
 use Rattle.table.specs.declared.Proc.{Proc}
 use Rattle.table.specs.declared.Table.{Table}
@@ -23,8 +21,8 @@ use Rattle.put.specs.Put.{Put}
 use Rattle.put.specs.PutLaws.{put-after, put-more}
 use Rattle.writer.specs.CountsLaws.{counts}
 use Rattle.keeps.specs.Keeps.{Keeps}
-use Rattle.dot.specs.Graph.{nodeText, slotText, procText, opening, graph, afterReading, graphPrinted}
-use Rattle.graphs.specs.Graphs.{maskKept, maskNodes, maskProcs, Drawable}
+use Rattle.labels.specs.Graph.{nodeText, slotText, procText, opening, graph, afterReading, graphPrinted}
+use Rattle.graphs.specs.Graphs.{maskKept, maskProcs, Drawable}
 
 -- ---- rows that agree where they stand
 
@@ -46,14 +44,6 @@ graph-kept t keep d k = rw (concat-below
     (t .procs)
     0
     (λ p l. proc-kept (t .closed) (t .task) (t .tasks) p (maskKept keep p) (keptIn t p) (procAt t p) (d .procs .each p (omega arith) .within .count) (λ j m. k .keeps p j (omega (arith, d .procs .count)) m)))
-
--- ---- a node's bit
-
-pub node-put : {l o : List ℕ} {at a : ℕ} {b : Bool} (p keep : ℕ) (slots : List Slot) (j : ℕ) → j < 32 → b ≡ bit (j % 32) keep → Put 3576 l at (nodeText p j b (getD slots j noSlot .node)) o a
-    → Put 3576 l at (maskNodes p keep slots j) o a
-node-put p keep slots j h e w =
-    let z : j % 32 ≡ j = omega arith in
-    rw (e ∙ ap (λ (i : ℕ). bit i keep) z) at w
 
 -- ---- the whole
 

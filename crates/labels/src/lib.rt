@@ -18,7 +18,7 @@ ghost use Rattle.table.specs.Table.{argAt};
 ghost use Rattle.text.specs.Number.{bytes, digits};
 ghost use Rattle.text.specs.Reader.{concat};
 ghost use Rattle.put.specs.Put.{Put, ValueAt, FieldAt};
-ghost use Rattle.lines.specs.Lines.{FewArgs};
+ghost use Rattle.node_lines.specs.NodeLines.{FewArgs};
 ghost use Rattle.labels.specs.Label.{variableText, argumentText, operationText, setText, callText, passText, nodeSays, SaysAt};
 
 // A variable, or `-`.

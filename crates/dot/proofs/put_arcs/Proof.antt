@@ -1,4 +1,4 @@
-use Rattle.dot.specs.Graph.{arcsText}
+use Rattle.labels.specs.Graph.{arcsText}
 use mathlib.Core.Path.{refl}
 use native.Mathlib.Omega.{arith}
 use borrow.Author.Needs.{needs}

@@ -1,5 +1,5 @@
 use Rattle.put.specs.PutLaws.{put-after, put-more}
-use Rattle.dot.specs.Graph.{nodeText}
+use Rattle.labels.specs.Graph.{nodeText}
 use mathlib.Core.Path.{refl, sym, _∙_}
 use native.Mathlib.Omega.{arith}
 use borrow.Author.Needs.{needs}

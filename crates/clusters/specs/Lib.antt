@@ -1,0 +1,2 @@
+pub mod Clusters
+pub mod ClusterLaws
