@@ -1,5 +1,4 @@
 pub mod Numbers
-pub mod MaskTests
 pub mod ArgumentChecks
 pub mod ValueChecks
 pub mod NodeChecks

@@ -4,12 +4,12 @@ use table::Node;
 use table::Op;
 use table::Operand;
 use table::REMOVED;
+use targets::targets;
 ghost use mathlib.Core.Path.{_≡_};
-ghost use mathlib.Core.Bool.{true, false, not, _&&_, _||_};
+ghost use mathlib.Core.Bool.{true, not, _&&_, _||_};
 ghost use Prim.Native.Nat.{ℕ, _≤_, _<_};
-ghost use Rattle.table.specs.Mask.{members};
 ghost use Rattle.table.specs.Table.{isAbsent};
-ghost use Rattle.text.specs.Value.{check, from, oneOf, operation, operand as operandOf, variable as variableOf, ascending, arguments as argumentsOf, within, isOne, noneRemoved, allDeclared};
+ghost use Rattle.text.specs.Value.{check, from, oneOf, operation, operand as operandOf, variable as variableOf, arguments as argumentsOf, noneRemoved, allDeclared};
 ghost use Rattle.text.specs.Format.{nameOf, argNames};
 ghost use Rattle.text.specs.Structure.{numbered};
 ghost use Rattle.checks.specs.Numbers.{firstNumber};
@@ -107,55 +107,6 @@ pub fn variable(closed: bool, vars: u8, v: u8) -> u8
         return MISSPELT;
     }
     reference(v, vars)
-}
-
-// In open form a list of targets has one.
-fn listed(closed: bool, m: u32) -> bool
-    ensures { λ r. ⌜ r ≡ (not (not closed) || isOne (members m)) ⌝ }
-{
-    if closed {
-        return true;
-    }
-    u32::count_ones(m) == 1
-}
-
-// The members of m are 1 to n-1.
-fn inside(m: u32, n: u8) -> bool
-    requires { ⌜ n ≤ 32 ⌝ }
-    ensures { λ r. ⌜ r ≡ within 1 n (members m) ⌝ }
-{
-    if m % 2 == 0 {
-        return (m as u64) < (1u64 << (n as u64));
-    }
-    false
-}
-
-// The targets of an arc, with so many nodes.
-pub fn targets(closed: bool, nodes: u8, m: u32) -> u8
-    requires { ⌜ nodes ≤ 32 ⌝ }
-    ensures { λ r. ⌜ r ≡ numbered (check (ascending (not closed) 1 nodes) (members m)) ⌝ }
-{
-    if listed(closed, m) {
-        if inside(m, nodes) {
-            return 0;
-        }
-        return REFERENCE;
-    }
-    MISSPELT
-}
-
-// The parameters that are dropped, of so many.
-pub fn dropped(params: u8, m: u8) -> u8
-    ensures { λ r. ⌜ r ≡ numbered (check (ascending false 0 params) (members m)) ⌝ }
-{
-    if 8 <= params {
-        return 0;
-    }
-    if (m as u32) < (1u32 << (params as u32)) {
-        0
-    } else {
-        REFERENCE
-    }
 }
 
 fn either(a: bool, b: bool) -> bool

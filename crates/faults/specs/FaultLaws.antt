@@ -18,9 +18,9 @@ use Rattle.checks.specs.Numbers.{first-some, numbered-else}
 use Rattle.late.specs.declared.Late.{Late}
 use Rattle.late.specs.declared.Late.the-variants.{Good, Bad}
 use Rattle.late.specs.Late.{Counted, lateIn}
-use Rattle.faults.specs.Lines.{linesNumber}
-use Rattle.faults.specs.LineLaws.{lines-is}
-use Rattle.faults.specs.Unused.{Ranged}
+use Rattle.line_faults.specs.Lines.{linesNumber}
+use Rattle.line_faults.specs.LineLaws.{lines-is}
+use Rattle.unused.specs.Unused.{Ranged}
 
 numbered-none : (f : Option Fault) → numbered f ≡ 0 → f ≡ none
 unfolding number

@@ -1,7 +1,8 @@
 use Prim.Native.Nat.{_+_, _*_, _-_, _≤_}
 use mathlib.Core.Path.{refl}
 use Rattle.text.specs.Reader.{procLate}
-use Rattle.late.specs.Walks.{Walked, walked-none, walked-more, walked-found, walked-all, tasks-late, procs-late, late-found}
+use Rattle.late_lines.specs.Walks.{Walked, walked-none, walked-more, walked-found, walked-all}
+use Rattle.late.specs.Walks.{tasks-late, procs-late, late-found}
 use borrow.Author.Needs.{needs}
 use native.Mathlib.Omega.{arith}
 use Rattle.late.proofs.find.Statement.{statement}

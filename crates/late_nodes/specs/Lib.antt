@@ -1,0 +1,4 @@
+pub mod Terms
+pub mod MaskLaws
+pub mod NodeLaws
+pub mod Steps

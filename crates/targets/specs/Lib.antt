@@ -1,0 +1,2 @@
+pub mod MaskTests
+pub mod ListChecks
