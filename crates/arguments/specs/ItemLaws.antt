@@ -14,9 +14,9 @@ use Rattle.text.specs.declared.Fault.{Fault}
 use Rattle.text.specs.Value.{operand, numeral, saidOperand, operandFault, check}
 use Rattle.text.specs.Line.{took, refused, verdict, judged}
 use Rattle.text.specs.NumberLaws.{cases}
-use Rattle.scan.specs.declared.Operand.{Operand as Answer}
-use Rattle.scan.specs.declared.Operand.the-variants.{Is as IsOperand, Not as NotOperand}
-use Rattle.scan.specs.Answer.{OperandJudged}
+use Rattle.operands.specs.declared.Operand.{Operand as Answer}
+use Rattle.operands.specs.declared.Operand.the-variants.{Is as IsOperand, Not as NotOperand}
+use Rattle.operands.specs.Answer.{OperandJudged}
 use Rattle.machine.specs.Program.{kept, saidUpTo, fitting, asValue, saidValue}
 use Rattle.arguments.specs.declared.Number.{Number}
 use Rattle.arguments.specs.declared.Number.the-variants.{Is, Not}

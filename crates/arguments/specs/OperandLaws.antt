@@ -14,9 +14,9 @@ use Rattle.digits.specs.declared.Num.{Num}
 use Rattle.digits.specs.declared.Num.the-variants.{Good, Bad}
 use Rattle.digits.specs.Read.{numberOf}
 use Rattle.digits.specs.NumeralLaws.{numeral-bad}
-use Rattle.scan.specs.declared.Operand.{Operand as Answer}
-use Rattle.scan.specs.declared.Operand.the-variants.{Not as NotOperand}
-use Rattle.scan.specs.Answer.{OperandJudged, Judged}
+use Rattle.operands.specs.declared.Operand.{Operand as Answer}
+use Rattle.operands.specs.declared.Operand.the-variants.{Not as NotOperand}
+use Rattle.operands.specs.Answer.{OperandJudged, Judged}
 
 pub by-number : (t : List ℕ) {kind : Option ℕ → Option Operand} {n x e : ℕ} {r : Answer} → Judged kind n x e r → {w : Num} → w ≡ numberOf t → w ≡ Good x
     → OperandJudged n (kind (numeral t)) e r

@@ -4,7 +4,7 @@ ghost use mathlib.Core.Path.{_≡_};
 ghost use lib.ListN.{length};
 ghost use lib.Seq.{sets};
 ghost use Rattle.text.specs.Value.{numeral, asVar, asConst, asNegative, saidOperand};
-ghost use Rattle.scan.specs.Answer.{OperandJudged};
+ghost use Rattle.operands.specs.Answer.{OperandJudged};
 ghost use Rattle.machine.specs.Program.{saidUpTo, saidValue, saidItems, mostNodes, mostBytes};
 ghost use Rattle.arguments.specs.Answers.{digitsUpTo, numberOf, valueOf, countOf, leading};
 
@@ -68,39 +68,39 @@ fn up_to(t: &[u8], m: usize) -> Number
 }
 
 // What the digits behind `v`, behind `-` or alone say.
-fn named(t: &[u8]) -> scan::Operand
+fn named(t: &[u8]) -> operands::Operand
     ensures { λ r. ⌜ OperandJudged 0 (asVar (numeral (now (t .entry)))) 0 r ⌝ }
 {
     let digits::Num::Good(x) = digits::number(t) else {
-        return scan::Operand::Not(text::Fault::Misspelt);
+        return operands::Operand::Not(text::Fault::Misspelt);
     };
-    scan::named_operand(x, 0, 0)
+    operands::named_operand(x, 0, 0)
 }
 
-fn negative(t: &[u8]) -> scan::Operand
+fn negative(t: &[u8]) -> operands::Operand
     ensures { λ r. ⌜ OperandJudged 0 (asNegative (numeral (now (t .entry)))) 0 r ⌝ }
 {
     let digits::Num::Good(x) = digits::number(t) else {
-        return scan::Operand::Not(text::Fault::Misspelt);
+        return operands::Operand::Not(text::Fault::Misspelt);
     };
-    scan::negative_operand(x, 0, 0)
+    operands::negative_operand(x, 0, 0)
 }
 
-fn constant(t: &[u8]) -> scan::Operand
+fn constant(t: &[u8]) -> operands::Operand
     ensures { λ r. ⌜ OperandJudged 0 (asConst (numeral (now (t .entry)))) 0 r ⌝ }
 {
     let digits::Num::Good(x) = digits::number(t) else {
-        return scan::Operand::Not(text::Fault::Misspelt);
+        return operands::Operand::Not(text::Fault::Misspelt);
     };
-    scan::constant_operand(x, 0, 0)
+    operands::constant_operand(x, 0, 0)
 }
 
 // A constant; no variable is declared.
-fn operand_value(t: &[u8]) -> scan::Operand
+fn operand_value(t: &[u8]) -> operands::Operand
     ensures { λ r. ⌜ OperandJudged 0 (saidOperand (now (t .entry))) 0 r ⌝ }
 {
     if t.len() == 0 {
-        return scan::Operand::Not(text::Fault::Misspelt);
+        return operands::Operand::Not(text::Fault::Misspelt);
     }
     let b = t[0];
     if b == 118 {
@@ -116,7 +116,7 @@ fn operand_value(t: &[u8]) -> scan::Operand
 fn signed(t: &[u8]) -> Value
     ensures { λ r. ⌜ r ≡ valueOf (saidValue (now (t .entry))) ⌝ }
 {
-    let scan::Operand::Is(o, _) = operand_value(t) else {
+    let operands::Operand::Is(o, _) = operand_value(t) else {
         return Value::Not;
     };
     let table::Operand::Const(z) = o else {

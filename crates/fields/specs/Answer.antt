@@ -5,16 +5,16 @@ use mathlib.Core.List.{List}
 use lib.ListN.{length, drop}
 use Rattle.text.specs.declared.Fault.{Fault}
 use Rattle.text.specs.Line.{Line, Vals, Outcome, took, refused, line, _>>=_, give}
-use Rattle.scan.specs.declared.Number.{Number}
-use Rattle.scan.specs.declared.Number.the-variants.{Is as IsNumber, Not as NotNumber}
+use Rattle.numbers.specs.declared.Number.{Number}
+use Rattle.numbers.specs.declared.Number.the-variants.{Is as IsNumber, Not as NotNumber}
 use Rattle.words.specs.declared.Choice.{Choice}
 use Rattle.words.specs.declared.Choice.the-variants.{Is as IsChoice, Not as NotChoice}
 use Rattle.words.specs.declared.Kind.{Kind as KindAnswer}
 use Rattle.words.specs.declared.Kind.the-variants.{Is as IsKind, Not as NotKind}
 use Rattle.words.specs.declared.Operation.{Operation}
 use Rattle.words.specs.declared.Operation.the-variants.{Is as IsOp, Not as NotOp}
-use Rattle.scan.specs.declared.Operand.{Operand as OperandAnswer}
-use Rattle.scan.specs.declared.Operand.the-variants.{Is as IsOperand, Not as NotOperand}
+use Rattle.operands.specs.declared.Operand.{Operand as OperandAnswer}
+use Rattle.operands.specs.declared.Operand.the-variants.{Is as IsOperand, Not as NotOperand}
 use Rattle.lists.specs.declared.Set.{Set}
 use Rattle.lists.specs.declared.Set.the-variants.{Is as IsSet, Not as NotSet}
 use Rattle.lists.specs.declared.Passed.{Passed}

@@ -14,8 +14,8 @@ use Rattle.text.specs.Value.{ValueKind, Of, number, choice, kind, operation, op
 use Rattle.text.specs.ValueLaws.{no}
 use Rattle.text.specs.Line.{Line, end, field, Vals, Outcome, took, refused, onto, fieldOf, line}
 use Rattle.text.specs.Format.{variableOf, setOf, argsOf}
-use Rattle.scan.specs.declared.Number.{Number}
-use Rattle.scan.specs.declared.Number.the-variants.{Is as IsNumber, Not as NotNumber}
+use Rattle.numbers.specs.declared.Number.{Number}
+use Rattle.numbers.specs.declared.Number.the-variants.{Is as IsNumber, Not as NotNumber}
 use Rattle.words.specs.declared.Choice.{Choice}
 use Rattle.words.specs.declared.Choice.the-variants.{Is as IsChoice, Not as NotChoice}
 use Rattle.scan.specs.declared.Ended.{Ended}
@@ -26,14 +26,15 @@ use Rattle.words.specs.declared.Kind.{Kind as KindAnswer}
 use Rattle.words.specs.declared.Kind.the-variants.{Is as IsKind, Not as NotKind}
 use Rattle.words.specs.declared.Operation.{Operation}
 use Rattle.words.specs.declared.Operation.the-variants.{Is as IsOp, Not as NotOp}
-use Rattle.scan.specs.declared.Operand.{Operand as OperandAnswer}
-use Rattle.scan.specs.declared.Operand.the-variants.{Is as IsOperand, Not as NotOperand}
+use Rattle.operands.specs.declared.Operand.{Operand as OperandAnswer}
+use Rattle.operands.specs.declared.Operand.the-variants.{Is as IsOperand, Not as NotOperand}
 use Rattle.lists.specs.declared.Set.{Set}
 use Rattle.lists.specs.declared.Set.the-variants.{Is as IsSet, Not as NotSet}
 use Rattle.lists.specs.declared.Passed.{Passed}
 use Rattle.lists.specs.declared.Passed.the-variants.{Is as IsArgs, Not as NotArgs}
-use Rattle.scan.specs.Answer.{NumberAt, OperandAt, mapped, VariableAt}
-use Rattle.scan.specs.ValueLaws.{mapped-took, mapped-refused}
+use Rattle.numbers.specs.Answer.{NumberAt, mapped}
+use Rattle.operands.specs.Answer.{OperandAt, VariableAt}
+use Rattle.numbers.specs.ValueLaws.{mapped-took, mapped-refused}
 use Rattle.words.specs.Answer.{ChoiceAt, kindOf, KindAt, OpAt}
 use Rattle.lists.specs.Sets.{SetAt}
 use Rattle.lists.specs.Passing.{PassedAt}

@@ -2,12 +2,12 @@
 ghost use mathlib.Core.Path.{_≡_};
 ghost use Rattle.fields.specs.Answer.{numberFault, choiceFault, endFault, kindFault, opFault, operandFault, setFault, argsFault};
 
-pub fn number_fault(n: scan::Number) -> text::Fault
+pub fn number_fault(n: numbers::Number) -> text::Fault
     ensures { λ r. ⌜ r ≡ numberFault n ⌝ }
 {
     match n {
-        scan::Number::Is(_, _) => text::Fault::Form,
-        scan::Number::Not(f) => f,
+        numbers::Number::Is(_, _) => text::Fault::Form,
+        numbers::Number::Not(f) => f,
     }
 }
 
@@ -47,12 +47,12 @@ pub fn op_fault(n: words::Operation) -> text::Fault
     }
 }
 
-pub fn operand_fault(n: scan::Operand) -> text::Fault
+pub fn operand_fault(n: operands::Operand) -> text::Fault
     ensures { λ r. ⌜ r ≡ operandFault n ⌝ }
 {
     match n {
-        scan::Operand::Is(_, _) => text::Fault::Form,
-        scan::Operand::Not(f) => f,
+        operands::Operand::Is(_, _) => text::Fault::Form,
+        operands::Operand::Not(f) => f,
     }
 }
 

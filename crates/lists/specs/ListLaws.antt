@@ -26,7 +26,7 @@ use Rattle.scan.specs.declared.Token.the-variants.{At as Between, Not as Refuse
 use Rattle.scan.specs.declared.Found.{Found}
 use Rattle.scan.specs.declared.Found.the-variants.{At, Differs, Broken}
 use Rattle.scan.specs.Place.{AfterKey, ValueAt, refusalOf}
-use Rattle.scan.specs.Answer.{mapped}
+use Rattle.numbers.specs.Answer.{mapped}
 use Rattle.lists.specs.declared.Set.{Set}
 use Rattle.lists.specs.declared.Set.the-variants.{Is, Not}
 use Rattle.lists.specs.Items.{upTo, more, inside, bitOf}

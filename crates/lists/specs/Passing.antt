@@ -13,7 +13,7 @@ use Rattle.text.specs.Number.{bytes}
 use Rattle.text.specs.Value.{arguments, saidVariable, split, each, noneRemoved, said}
 use Rattle.text.specs.Line.{Outcome, took, refused, judged, fieldOf}
 use Rattle.text.specs.Format.{variableOf, argsOf}
-use Rattle.scan.specs.Answer.{mapped}
+use Rattle.numbers.specs.Answer.{mapped}
 use Rattle.lists.specs.declared.Argument.{Argument}
 use Rattle.lists.specs.declared.Argument.the-variants.{Is as IsArgument, Not as NotArgument}
 use Rattle.lists.specs.declared.Passed.{Passed}

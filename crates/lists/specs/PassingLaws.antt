@@ -29,7 +29,7 @@ use Rattle.scan.specs.declared.Token.{Token}
 use Rattle.scan.specs.declared.Token.the-variants.{At as Between, Not as Refused}
 use Rattle.scan.specs.Place.{TokenAt, refusalOf}
 use Rattle.scan.specs.PlaceLaws.{token-within}
-use Rattle.scan.specs.Answer.{mapped}
+use Rattle.numbers.specs.Answer.{mapped}
 use Rattle.lists.specs.declared.Argument.{Argument}
 use Rattle.lists.specs.declared.Argument.the-variants.{Is as IsArgument, Not as NotArgument}
 use Rattle.lists.specs.declared.Passed.{Passed}

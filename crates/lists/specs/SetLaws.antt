@@ -20,7 +20,7 @@ use Rattle.text.specs.NumberLaws.{and-left, and-right, cases}
 use Rattle.text.specs.Value.{ascending, numeral, split, followed, each, ascends, within, unsaid, check}
 use Rattle.text.specs.Line.{judged}
 use Rattle.text.specs.Format.{setOf}
-use Rattle.scan.specs.Answer.{mapped}
+use Rattle.numbers.specs.Answer.{mapped}
 use Rattle.lists.specs.declared.Item.{Item}
 use Rattle.lists.specs.declared.Item.the-variants.{Is as IsItem, Not as NotItem}
 use Rattle.lists.specs.declared.Set.{Set}

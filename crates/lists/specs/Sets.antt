@@ -10,7 +10,7 @@ use Rattle.text.specs.Line.{Outcome, took, refused, judged, valueOf, fieldOf}
 use Rattle.text.specs.Format.{setOf}
 use Rattle.digits.specs.declared.Num.the-variants.{Good}
 use Rattle.digits.specs.Read.{numberOf}
-use Rattle.scan.specs.Answer.{mapped}
+use Rattle.numbers.specs.Answer.{mapped}
 use Rattle.lists.specs.declared.Set.{Set}
 use Rattle.lists.specs.declared.Set.the-variants.{Is, Not}
 

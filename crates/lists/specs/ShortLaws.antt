@@ -18,10 +18,10 @@ use Rattle.text.specs.NumberLaws.{byOrder, and-right, cases, all-head, all-tail
 use Rattle.text.specs.Value.{same, split, each, said}
 use Rattle.text.specs.Line.{run, stops}
 use Rattle.scan.specs.PlaceLaws.{count-more, count-none, Running, running-start, running-digits, run-turn, value-ends}
-use Rattle.scan.specs.declared.Short.{Short}
-use Rattle.scan.specs.declared.Short.the-variants.{Is}
-use Rattle.scan.specs.Place.{Spelt, ShortAt}
-use Rattle.scan.specs.NumeralLaws.{short-is, short-numeral}
+use Rattle.numbers.specs.declared.Short.{Short}
+use Rattle.numbers.specs.declared.Short.the-variants.{Is}
+use Rattle.numbers.specs.Numerals.{Spelt, ShortAt}
+use Rattle.numbers.specs.NumeralLaws.{short-is, short-numeral}
 use Rattle.lists.specs.declared.Item.the-variants.{Is as IsItem}
 use Rattle.lists.specs.declared.ShortList.{ShortList}
 use Rattle.lists.specs.declared.ShortList.the-variants.{Is as IsQuick, Not as NotQuick}

@@ -176,8 +176,8 @@ fn short_list(u: &[u8], lo: u64, below: u64) -> ShortList
     let mut from = 0;
     let mut mask = 0u32;
     while from < u.len() {
-        let item = scan::short_number(u, from);
-        let scan::Short::Is(v, to) = item else {
+        let item = numbers::short_number(u, from);
+        let numbers::Short::Is(v, to) = item else {
             return ShortList::Not;
         };
         let b = bit(v, lo, below);
@@ -226,8 +226,8 @@ fn single_at(s: &[u8], at: usize, lo: u64, below: u64) -> Set
     requires { ⌜ (at ≤ length (now s)) × (below ≤ 32) ⌝ }
     ensures { λ r. ⌜ SetIn true lo below (now (s .entry)) at r ⌝ }
 {
-    let item = scan::short_number(s, at);
-    let scan::Short::Is(v, to) = item else {
+    let item = numbers::short_number(s, at);
+    let numbers::Short::Is(v, to) = item else {
         return any_list(s, at, true, lo, below);
     };
     if scan::stops(s[to]) {

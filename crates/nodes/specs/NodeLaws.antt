@@ -16,7 +16,7 @@ use Rattle.text.specs.Reader.{Numbered}
 use Rattle.scan.specs.declared.Ended.{Ended}
 use Rattle.scan.specs.declared.Ended.the-variants.{Is as Fed, Not as Unfed}
 use Rattle.scan.specs.Place.{FeedAt}
-use Rattle.scan.specs.declared.Operand.the-variants.{Is as IsOperand, Not as NotOperand}
+use Rattle.operands.specs.declared.Operand.the-variants.{Is as IsOperand, Not as NotOperand}
 use Rattle.words.specs.declared.NodeKind.{NodeKind as Word}
 use Rattle.lists.specs.declared.Set.{Set as Mask}
 use Rattle.lists.specs.declared.Set.the-variants.{Is as IsSet, Not as NotSet}

@@ -4,7 +4,7 @@ ghost use mathlib.Core.Path.{_≡_};
 ghost use mathlib.Core.List.{[], _∷_};
 ghost use lib.ListN.{length};
 ghost use Rattle.text.specs.Value.{start, set, test, read, call, wait, signal, send, recv, assert, out, return};
-ghost use Rattle.scan.specs.Answer.{NumberAt};
+ghost use Rattle.numbers.specs.Answer.{NumberAt};
 ghost use Rattle.fields.specs.Answer.{LineAt};
 ghost use Rattle.nodes.specs.Answer.{toFault, bodyFault, lastLine, lastSet, toIn, scopeIn, Fits, bodyIn, setLine, setNode, testLine, testNode, BodyAt, NodeAt};
 ghost use Rattle.words.specs.Answer.{kindOf};
@@ -88,23 +88,23 @@ fn set_operands(s: &[u8], at: usize, c: Scope, var: u8, op: table::Op) -> Body
     requires { ⌜ (at ≤ length (now s)) × Fits c ⌝ }
     ensures { λ r. ⌜ LineAt (setLine (scopeIn c)) (setNode (scopeIn c) var op) (now (s .entry)) at (bodyIn r) ⌝ }
 {
-    let a_field = scan::operand_field(s, at, 97, c.vars);
-    let scan::Operand::Is(_, p) = a_field else {
+    let a_field = operands::operand_field(s, at, 97, c.vars);
+    let operands::Operand::Is(_, p) = a_field else {
         return Body::Not(fields::operand_fault(a_field));
     };
-    let b_field = scan::operand_field(s, p, 98, c.vars);
-    let scan::Operand::Is(_, q) = b_field else {
+    let b_field = operands::operand_field(s, p, 98, c.vars);
+    let operands::Operand::Is(_, q) = b_field else {
         return Body::Not(fields::operand_fault(b_field));
     };
     let last = targets_end(s, q, 116, 111, !c.closed, c.nodes);
     let To::Is(to, e) = last else {
         return Body::Not(to_fault(last));
     };
-    let scan::Operand::Is(a, _) = a_field else {
-        return Body::Not(fields::operand_fault(a_field));
+    let operands::Operand::Is(a, _) = a_field else {
+        return Body::Not(text::Fault::Form);
     };
-    let scan::Operand::Is(b, _) = b_field else {
-        return Body::Not(fields::operand_fault(b_field));
+    let operands::Operand::Is(b, _) = b_field else {
+        return Body::Not(text::Fault::Form);
     };
     Body::Is(table::Node::Set { var, op, a, b, to }, e)
 }
@@ -113,8 +113,18 @@ fn set_node(s: &[u8], at: usize, c: Scope) -> Body
     requires { ⌜ (at ≤ length (now s)) × Fits c ⌝ }
     ensures { λ r. ⌜ BodyAt (scopeIn c) set (now (s .entry)) at r ⌝ }
 {
-    let var_field = scan::number_word(s, at, 32, 118, 97, 114, 0, c.vars, text::Fault::Reference);
-    let scan::Number::Is(var, a) = var_field else {
+    let var_field = numbers::number_word(
+        s,
+        at,
+        32,
+        118,
+        97,
+        114,
+        0,
+        c.vars,
+        text::Fault::Reference,
+    );
+    let numbers::Number::Is(var, a) = var_field else {
         return Body::Not(fields::number_fault(var_field));
     };
     let word = words::operation_field(s, a, false);
@@ -129,12 +139,12 @@ fn test_operands(s: &[u8], at: usize, c: Scope, op: table::Op) -> Body
     requires { ⌜ (at ≤ length (now s)) × Fits c ⌝ }
     ensures { λ r. ⌜ LineAt (testLine (scopeIn c)) (testNode (scopeIn c) op) (now (s .entry)) at (bodyIn r) ⌝ }
 {
-    let a_field = scan::operand_field(s, at, 97, c.vars);
-    let scan::Operand::Is(_, p) = a_field else {
+    let a_field = operands::operand_field(s, at, 97, c.vars);
+    let operands::Operand::Is(_, p) = a_field else {
         return Body::Not(fields::operand_fault(a_field));
     };
-    let b_field = scan::operand_field(s, p, 98, c.vars);
-    let scan::Operand::Is(_, q) = b_field else {
+    let b_field = operands::operand_field(s, p, 98, c.vars);
+    let operands::Operand::Is(_, q) = b_field else {
         return Body::Not(fields::operand_fault(b_field));
     };
     let yes_field = lists::ascending_word(s, q, 32, 121, 101, 115, b"=", !c.closed, 1, c.nodes);
@@ -145,11 +155,11 @@ fn test_operands(s: &[u8], at: usize, c: Scope, op: table::Op) -> Body
     let To::Is(no, e) = last else {
         return Body::Not(to_fault(last));
     };
-    let scan::Operand::Is(a, _) = a_field else {
-        return Body::Not(fields::operand_fault(a_field));
+    let operands::Operand::Is(a, _) = a_field else {
+        return Body::Not(text::Fault::Form);
     };
-    let scan::Operand::Is(b, _) = b_field else {
-        return Body::Not(fields::operand_fault(b_field));
+    let operands::Operand::Is(b, _) = b_field else {
+        return Body::Not(text::Fault::Form);
     };
     Body::Is(table::Node::Test { op, a, b, yes, no }, e)
 }
@@ -169,8 +179,18 @@ fn read_node(s: &[u8], at: usize, c: Scope) -> Body
     requires { ⌜ (at ≤ length (now s)) × Fits c ⌝ }
     ensures { λ r. ⌜ BodyAt (scopeIn c) read (now (s .entry)) at r ⌝ }
 {
-    let var_field = scan::number_word(s, at, 32, 118, 97, 114, 0, c.vars, text::Fault::Reference);
-    let scan::Number::Is(var, a) = var_field else {
+    let var_field = numbers::number_word(
+        s,
+        at,
+        32,
+        118,
+        97,
+        114,
+        0,
+        c.vars,
+        text::Fault::Reference,
+    );
+    let numbers::Number::Is(var, a) = var_field else {
         return Body::Not(fields::number_fault(var_field));
     };
     let last = targets_end(s, a, 116, 111, !c.closed, c.nodes);
@@ -184,8 +204,8 @@ fn call_node(s: &[u8], at: usize, c: Scope) -> Body
     requires { ⌜ (at ≤ length (now s)) × Fits c ⌝ }
     ensures { λ r. ⌜ BodyAt (scopeIn c) call (now (s .entry)) at r ⌝ }
 {
-    let callee_field = scan::number_field(s, at, b" proc=", 0, c.procs, text::Fault::Reference);
-    let scan::Number::Is(callee, a) = callee_field else {
+    let callee_field = numbers::number_field(s, at, b" proc=", 0, c.procs, text::Fault::Reference);
+    let numbers::Number::Is(callee, a) = callee_field else {
         return Body::Not(fields::number_fault(callee_field));
     };
     let list = lists::arguments_field(s, a, c.closed, c.vars);
@@ -203,8 +223,8 @@ fn wait_node(s: &[u8], at: usize, c: Scope) -> Body
     requires { ⌜ (at ≤ length (now s)) × Fits c ⌝ }
     ensures { λ r. ⌜ BodyAt (scopeIn c) wait (now (s .entry)) at r ⌝ }
 {
-    let sem_field = scan::number_field(s, at, b" sem=", 0, c.sems, text::Fault::Reference);
-    let scan::Number::Is(sem, a) = sem_field else {
+    let sem_field = numbers::number_field(s, at, b" sem=", 0, c.sems, text::Fault::Reference);
+    let numbers::Number::Is(sem, a) = sem_field else {
         return Body::Not(fields::number_fault(sem_field));
     };
     let last = targets_end(s, a, 116, 111, !c.closed, c.nodes);
@@ -218,8 +238,8 @@ fn signal_node(s: &[u8], at: usize, c: Scope) -> Body
     requires { ⌜ (at ≤ length (now s)) × Fits c ⌝ }
     ensures { λ r. ⌜ BodyAt (scopeIn c) signal (now (s .entry)) at r ⌝ }
 {
-    let sem_field = scan::number_field(s, at, b" sem=", 0, c.sems, text::Fault::Reference);
-    let scan::Number::Is(sem, a) = sem_field else {
+    let sem_field = numbers::number_field(s, at, b" sem=", 0, c.sems, text::Fault::Reference);
+    let numbers::Number::Is(sem, a) = sem_field else {
         return Body::Not(fields::number_fault(sem_field));
     };
     let last = targets_end(s, a, 116, 111, !c.closed, c.nodes);
@@ -233,12 +253,12 @@ fn send_node(s: &[u8], at: usize, c: Scope) -> Body
     requires { ⌜ (at ≤ length (now s)) × Fits c ⌝ }
     ensures { λ r. ⌜ BodyAt (scopeIn c) send (now (s .entry)) at r ⌝ }
 {
-    let queue_field = scan::number_field(s, at, b" queue=", 0, c.queues, text::Fault::Reference);
-    let scan::Number::Is(queue, a) = queue_field else {
+    let queue_field = numbers::number_field(s, at, b" queue=", 0, c.queues, text::Fault::Reference);
+    let numbers::Number::Is(queue, a) = queue_field else {
         return Body::Not(fields::number_fault(queue_field));
     };
-    let name = scan::variable_field(s, a, c.closed, c.vars);
-    let scan::Number::Is(var, b) = name else {
+    let name = operands::variable_field(s, a, c.closed, c.vars);
+    let numbers::Number::Is(var, b) = name else {
         return Body::Not(fields::number_fault(name));
     };
     let last = targets_end(s, b, 116, 111, !c.closed, c.nodes);
@@ -252,12 +272,12 @@ fn recv_node(s: &[u8], at: usize, c: Scope) -> Body
     requires { ⌜ (at ≤ length (now s)) × Fits c ⌝ }
     ensures { λ r. ⌜ BodyAt (scopeIn c) recv (now (s .entry)) at r ⌝ }
 {
-    let queue_field = scan::number_field(s, at, b" queue=", 0, c.queues, text::Fault::Reference);
-    let scan::Number::Is(queue, a) = queue_field else {
+    let queue_field = numbers::number_field(s, at, b" queue=", 0, c.queues, text::Fault::Reference);
+    let numbers::Number::Is(queue, a) = queue_field else {
         return Body::Not(fields::number_fault(queue_field));
     };
-    let name = scan::variable_field(s, a, c.closed, c.vars);
-    let scan::Number::Is(var, b) = name else {
+    let name = operands::variable_field(s, a, c.closed, c.vars);
+    let numbers::Number::Is(var, b) = name else {
         return Body::Not(fields::number_fault(name));
     };
     let last = targets_end(s, b, 116, 111, !c.closed, c.nodes);
@@ -271,8 +291,8 @@ fn assert_node(s: &[u8], at: usize, c: Scope) -> Body
     requires { ⌜ (at ≤ length (now s)) × Fits c ⌝ }
     ensures { λ r. ⌜ BodyAt (scopeIn c) assert (now (s .entry)) at r ⌝ }
 {
-    let name = scan::variable_field(s, at, c.closed, c.vars);
-    let scan::Number::Is(var, a) = name else {
+    let name = operands::variable_field(s, at, c.closed, c.vars);
+    let numbers::Number::Is(var, a) = name else {
         return Body::Not(fields::number_fault(name));
     };
     let last = targets_end(s, a, 116, 111, !c.closed, c.nodes);
@@ -286,8 +306,8 @@ fn out_node(s: &[u8], at: usize, c: Scope) -> Body
     requires { ⌜ (at ≤ length (now s)) × Fits c ⌝ }
     ensures { λ r. ⌜ BodyAt (scopeIn c) out (now (s .entry)) at r ⌝ }
 {
-    let name = scan::variable_field(s, at, c.closed, c.vars);
-    let scan::Number::Is(var, a) = name else {
+    let name = operands::variable_field(s, at, c.closed, c.vars);
+    let numbers::Number::Is(var, a) = name else {
         return Body::Not(fields::number_fault(name));
     };
     let last = targets_end(s, a, 116, 111, !c.closed, c.nodes);
@@ -330,14 +350,14 @@ fn node_body(s: &[u8], at: usize, c: Scope, k: words::NodeKind) -> Body
 }
 
 // The number of a node line.
-fn node_number(s: &[u8], at: usize, lo: u64, below: u64, fault: text::Fault) -> scan::Number
+fn node_number(s: &[u8], at: usize, lo: u64, below: u64, fault: text::Fault) -> numbers::Number
     requires { ⌜ (at ≤ length (now s)) × (below ≤ 256) ⌝ }
     ensures { λ r. ⌜ NumberAt lo below fault (110 ∷ 111 ∷ 100 ∷ 101 ∷ 61 ∷ []) (now (s .entry)) at r ⌝ }
 {
     match scan::after_word(s, at, 110, 111, 100, 101, b"=") {
-        scan::Found::At(b) => scan::number_at(s, b, lo, below, fault),
-        scan::Found::Differs => scan::Number::Not(text::Fault::Form),
-        scan::Found::Broken => scan::Number::Not(text::Fault::Ended),
+        scan::Found::At(b) => numbers::number_at(s, b, lo, below, fault),
+        scan::Found::Differs => numbers::Number::Not(text::Fault::Form),
+        scan::Found::Broken => numbers::Number::Not(text::Fault::Ended),
     }
 }
 
@@ -347,7 +367,7 @@ pub fn node_line(s: &[u8], at: usize, line: usize, c: Scope, lo: u64, below: u64
     ensures { λ r. ⌜ NodeAt (scopeIn c) lo below (now (s .entry)) at line r ⌝ }
 {
     let index = node_number(s, at, lo, below, text::Fault::Index);
-    let scan::Number::Is(j, p) = index else {
+    let numbers::Number::Is(j, p) = index else {
         return Line::Refused(fields::number_fault(index), line);
     };
     let word = words::kind_field(s, p, c.closed, j);

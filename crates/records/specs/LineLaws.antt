@@ -20,9 +20,9 @@ use Rattle.text.specs.ValueLaws.{no}
 use Rattle.text.specs.Line.{took, After, at as stands, differs, broken, after, run, verdict, judged, valueOf, afterKey, fieldOf}
 use Rattle.text.specs.Format.{elem, setOf}
 use Rattle.text.specs.NodeLaws.{list-fact}
-use Rattle.scan.specs.declared.Number.{Number}
-use Rattle.scan.specs.declared.Number.the-variants.{Is as IsNumber}
-use Rattle.scan.specs.Answer.{NumberAt}
+use Rattle.numbers.specs.declared.Number.{Number}
+use Rattle.numbers.specs.declared.Number.the-variants.{Is as IsNumber}
+use Rattle.numbers.specs.Answer.{NumberAt}
 use Rattle.lists.specs.declared.Set.{Set}
 use Rattle.lists.specs.declared.Set.the-variants.{Is as IsSet}
 use Rattle.lists.specs.Sets.{SetAt}
@@ -30,7 +30,7 @@ use Rattle.records.specs.declared.QueueLine.{QueueLine}
 use Rattle.records.specs.declared.ProcLine.{ProcLine}
 use Rattle.records.specs.declared.ProcHead.{ProcHead}
 use Rattle.records.specs.Answer.{QueueAt, SizesAt, ProcAt, headOf}
-use Rattle.scan.specs.ValueLaws.{mapped-took}
+use Rattle.numbers.specs.ValueLaws.{mapped-took}
 use Rattle.fields.specs.FieldLaws.{number-next}
 
 -- ---- a value that was read has no fault

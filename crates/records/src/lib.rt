@@ -60,8 +60,8 @@ pub fn head_line(s: &[u8], at: usize) -> HeadLine
     requires { ⌜ at ≤ length (now s) ⌝ }
     ensures { λ r. ⌜ LineAt headLine (λ w. w) (now (s .entry)) at (headIn r) ⌝ }
 {
-    let trap = scan::number_field(s, at, b"trap=", 1, 2, text::Fault::Range);
-    let scan::Number::Is(n, a) = trap else {
+    let trap = numbers::number_field(s, at, b"trap=", 1, 2, text::Fault::Range);
+    let numbers::Number::Is(n, a) = trap else {
         return HeadLine::Refused(fields::number_fault(trap));
     };
     let form = words::choice_field(s, a, b" form=", b"open", b"closed");
@@ -80,12 +80,12 @@ fn last_counts(s: &[u8], at: usize, tasks: u8, procs: u8) -> CountsLine
     requires { ⌜ (at ≤ length (now s)) × (tasks < 5) × (procs < 9) ⌝ }
     ensures { λ r. ⌜ CountsAt lastCounts (counted tasks procs) (now (s .entry)) at r ⌝ }
 {
-    let third = scan::number_field(s, at, b" sems=", 0, 9, text::Fault::Range);
-    let scan::Number::Is(sems, a) = third else {
+    let third = numbers::number_field(s, at, b" sems=", 0, 9, text::Fault::Range);
+    let numbers::Number::Is(sems, a) = third else {
         return CountsLine::Refused(fields::number_fault(third));
     };
-    let fourth = scan::number_field(s, a, b" queues=", 0, 9, text::Fault::Range);
-    let scan::Number::Is(queues, b) = fourth else {
+    let fourth = numbers::number_field(s, a, b" queues=", 0, 9, text::Fault::Range);
+    let numbers::Number::Is(queues, b) = fourth else {
         return CountsLine::Refused(fields::number_fault(fourth));
     };
     let end = scan::feed(s, b);
@@ -106,12 +106,12 @@ pub fn counts_line(s: &[u8], at: usize) -> CountsLine
     requires { ⌜ at ≤ length (now s) ⌝ }
     ensures { λ r. ⌜ CountsAt countsLine (λ w. w) (now (s .entry)) at r ⌝ }
 {
-    let first = scan::number_field(s, at, b"tasks=", 1, 5, text::Fault::Range);
-    let scan::Number::Is(tasks, a) = first else {
+    let first = numbers::number_field(s, at, b"tasks=", 1, 5, text::Fault::Range);
+    let numbers::Number::Is(tasks, a) = first else {
         return CountsLine::Refused(fields::number_fault(first));
     };
-    let second = scan::number_field(s, a, b" procs=", 1, 9, text::Fault::Range);
-    let scan::Number::Is(procs, b) = second else {
+    let second = numbers::number_field(s, a, b" procs=", 1, 9, text::Fault::Range);
+    let numbers::Number::Is(procs, b) = second else {
         return CountsLine::Refused(fields::number_fault(second));
     };
     last_counts(s, b, tasks, procs)
@@ -122,12 +122,12 @@ pub fn task_line(s: &[u8], at: usize, i: u64, procs: u64) -> TaskLine
     requires { ⌜ (at ≤ length (now s)) × (i < 4) × (procs ≤ 8) ⌝ }
     ensures { λ r. ⌜ LineAt (taskLine procs i) (taskOf procs i) (now (s .entry)) at (taskIn r) ⌝ }
 {
-    let index = scan::number_field(s, at, b"task=", i, i + 1, text::Fault::Index);
-    let scan::Number::Is(_, a) = index else {
+    let index = numbers::number_field(s, at, b"task=", i, i + 1, text::Fault::Index);
+    let numbers::Number::Is(_, a) = index else {
         return TaskLine::Refused(fields::number_fault(index));
     };
-    let top = scan::number_field(s, a, b" top=", 0, procs, text::Fault::Reference);
-    let scan::Number::Is(p, b) = top else {
+    let top = numbers::number_field(s, a, b" top=", 0, procs, text::Fault::Reference);
+    let numbers::Number::Is(p, b) = top else {
         return TaskLine::Refused(fields::number_fault(top));
     };
     let end = scan::feed(s, b);
@@ -142,12 +142,12 @@ pub fn sem_line(s: &[u8], at: usize, i: u64) -> SemLine
     requires { ⌜ (at ≤ length (now s)) × (i < 8) ⌝ }
     ensures { λ r. ⌜ LineAt (semLine i) (semOf i) (now (s .entry)) at (semIn r) ⌝ }
 {
-    let index = scan::number_field(s, at, b"sem=", i, i + 1, text::Fault::Index);
-    let scan::Number::Is(_, a) = index else {
+    let index = numbers::number_field(s, at, b"sem=", i, i + 1, text::Fault::Index);
+    let numbers::Number::Is(_, a) = index else {
         return SemLine::Refused(fields::number_fault(index));
     };
-    let count = scan::number_field(s, a, b" count=", 0, 256, text::Fault::Range);
-    let scan::Number::Is(n, b) = count else {
+    let count = numbers::number_field(s, a, b" count=", 0, 256, text::Fault::Range);
+    let numbers::Number::Is(n, b) = count else {
         return SemLine::Refused(fields::number_fault(count));
     };
     let end = scan::feed(s, b);
@@ -189,12 +189,12 @@ pub fn queue_line(s: &[u8], at: usize, closed: bool, i: u64) -> QueueLine
     requires { ⌜ (at ≤ length (now s)) × (i < 8) ⌝ }
     ensures { λ r. ⌜ QueueAt closed i (now (s .entry)) at r ⌝ }
 {
-    let index = scan::number_field(s, at, b"queue=", i, i + 1, text::Fault::Index);
-    let scan::Number::Is(_, a) = index else {
+    let index = numbers::number_field(s, at, b"queue=", i, i + 1, text::Fault::Index);
+    let numbers::Number::Is(_, a) = index else {
         return QueueLine::Refused(fields::number_fault(index));
     };
-    let room = scan::number_field(s, a, b" cap=", 1, 9, text::Fault::Range);
-    let scan::Number::Is(cap, b) = room else {
+    let room = numbers::number_field(s, a, b" cap=", 1, 9, text::Fault::Range);
+    let numbers::Number::Is(cap, b) = room else {
         return QueueLine::Refused(fields::number_fault(room));
     };
     if closed {
@@ -249,12 +249,12 @@ fn proc_sizes(s: &[u8], at: usize, closed: bool, params: u8) -> ProcLine
     requires { ⌜ (at ≤ length (now s)) × (params < 5) ⌝ }
     ensures { λ r. ⌜ SizesAt closed params (now (s .entry)) at r ⌝ }
 {
-    let room = scan::number_field(s, at, b" vars=", params as u64, 17, text::Fault::Range);
-    let scan::Number::Is(vars, a) = room else {
+    let room = numbers::number_field(s, at, b" vars=", params as u64, 17, text::Fault::Range);
+    let numbers::Number::Is(vars, a) = room else {
         return ProcLine::Refused(fields::number_fault(room));
     };
-    let count = scan::number_field(s, a, b" nodes=", 2, 33, text::Fault::Range);
-    let scan::Number::Is(nodes, b) = count else {
+    let count = numbers::number_field(s, a, b" nodes=", 2, 33, text::Fault::Range);
+    let numbers::Number::Is(nodes, b) = count else {
         return ProcLine::Refused(fields::number_fault(count));
     };
     if closed {
@@ -268,12 +268,12 @@ pub fn proc_line(s: &[u8], at: usize, closed: bool, i: u64) -> ProcLine
     requires { ⌜ (at ≤ length (now s)) × (i < 8) ⌝ }
     ensures { λ r. ⌜ ProcAt closed i (now (s .entry)) at r ⌝ }
 {
-    let index = scan::number_field(s, at, b"proc=", i, i + 1, text::Fault::Index);
-    let scan::Number::Is(_, a) = index else {
+    let index = numbers::number_field(s, at, b"proc=", i, i + 1, text::Fault::Index);
+    let numbers::Number::Is(_, a) = index else {
         return ProcLine::Refused(fields::number_fault(index));
     };
-    let count = scan::number_field(s, a, b" params=", 0, 5, text::Fault::Range);
-    let scan::Number::Is(params, b) = count else {
+    let count = numbers::number_field(s, a, b" params=", 0, 5, text::Fault::Range);
+    let numbers::Number::Is(params, b) = count else {
         return ProcLine::Refused(fields::number_fault(count));
     };
     proc_sizes(s, b, closed, params)

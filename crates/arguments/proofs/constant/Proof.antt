@@ -3,10 +3,6 @@ use Rattle.arguments.specs.OperandLaws.{const-bad, by-number}
 use borrow.Author.Needs.{needs}
 use Rattle.arguments.proofs.constant.Statement.{statement}
 use Rattle.arguments.proofs.constant.Tie as tie
-use Rattle.arguments.proofs.constant.Reads as reads
-use Rattle.arguments.proofs.constant.Lts as lts
-use Rattle.digits.proofs.number.Reads as number-reads
-use Rattle.scan.proofs.constant_operand.Reads as constant-operand-reads
 
 -- src/lib.rt:92:32
 number-requires : tie.Need-number-requires

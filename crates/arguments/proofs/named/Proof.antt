@@ -3,10 +3,6 @@ use Rattle.arguments.specs.OperandLaws.{var-bad, by-number}
 use borrow.Author.Needs.{needs}
 use Rattle.arguments.proofs.named.Statement.{statement}
 use Rattle.arguments.proofs.named.Tie as tie
-use Rattle.arguments.proofs.named.Reads as reads
-use Rattle.arguments.proofs.named.Lts as lts
-use Rattle.digits.proofs.number.Reads as number-reads
-use Rattle.scan.proofs.named_operand.Reads as named-operand-reads
 
 -- src/lib.rt:74:32
 number-requires : tie.Need-number-requires

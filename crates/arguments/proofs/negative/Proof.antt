@@ -3,10 +3,6 @@ use Rattle.arguments.specs.OperandLaws.{neg-bad, by-number}
 use borrow.Author.Needs.{needs}
 use Rattle.arguments.proofs.negative.Statement.{statement}
 use Rattle.arguments.proofs.negative.Tie as tie
-use Rattle.arguments.proofs.negative.Reads as reads
-use Rattle.arguments.proofs.negative.Lts as lts
-use Rattle.digits.proofs.number.Reads as number-reads
-use Rattle.scan.proofs.negative_operand.Reads as negative-operand-reads
 
 -- src/lib.rt:83:32
 number-requires : tie.Need-number-requires

@@ -2,11 +2,6 @@ use Rattle.arguments.specs.OperandLaws.{operand-none, operand-var, opera
 use borrow.Author.Needs.{needs}
 use Rattle.arguments.proofs.operand_value.Statement.{statement}
 use Rattle.arguments.proofs.operand_value.Tie as tie
-use Rattle.arguments.proofs.operand_value.Reads as reads
-use Rattle.arguments.proofs.operand_value.Lts as lts
-use Rattle.arguments.proofs.constant.Reads as constant-reads
-use Rattle.arguments.proofs.named.Reads as named-reads
-use Rattle.arguments.proofs.negative.Reads as negative-reads
 
 -- src/lib.rt:103:9
 returns : tie.Need-returns

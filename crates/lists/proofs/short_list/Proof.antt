@@ -1,7 +1,7 @@
 use borrow.Author.Needs.{needs}
 use Prim.Native.Nat.{_-_}
 use lib.ListN.{length}
-use Rattle.scan.specs.NumeralLaws.{short-within, short-after, short-less}
+use Rattle.numbers.specs.NumeralLaws.{short-within, short-after, short-less}
 use Rattle.lists.specs.ShortLaws.{Listing, list-start, list-open, list-fits, list-end, list-turn}
 use Rattle.lists.proofs.short_list.Statement.{statement}
 use Rattle.lists.proofs.short_list.Tie as tie

@@ -1,4 +1,4 @@
-use Rattle.scan.specs.NumeralLaws.{short-within}
+use Rattle.numbers.specs.NumeralLaws.{short-within}
 use Rattle.lists.specs.ShortLaws.{single-at}
 use borrow.Author.Needs.{needs}
 use Rattle.lists.proofs.single_at.Statement.{statement}

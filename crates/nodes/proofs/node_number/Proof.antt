@@ -1,5 +1,5 @@
 use Rattle.scan.specs.PlaceLaws.{found-within}
-use Rattle.scan.specs.ValueLaws.{number-found, number-differs, number-broken}
+use Rattle.numbers.specs.ValueLaws.{number-found, number-differs, number-broken}
 use borrow.Author.Needs.{needs}
 use Rattle.nodes.proofs.node_number.Statement.{statement}
 use Rattle.nodes.proofs.node_number.Tie as tie

@@ -55,11 +55,8 @@ enum-known-a-field-2 c = search needs
 enum-told-4 : tie.Need-enum-told-4
 enum-told-4 c = search needs
 
-operand-fault-requires-3 : tie.Need-operand-fault-requires-3
-operand-fault-requires-3 c κs = search needs
-
 returns-4 : tie.Need-returns-4
-returns-4 c = no-fault (c .before .enum-told4 .given .1)
+returns-4 c = no-fault (c .enum-told4 .given .1)
 
 enum-known-b-field-2 : tie.Need-enum-known-b-field-2
 enum-known-b-field-2 c = search needs
@@ -67,11 +64,8 @@ enum-known-b-field-2 c = search needs
 enum-told-5 : tie.Need-enum-told-5
 enum-told-5 c = search needs
 
-operand-fault-requires-4 : tie.Need-operand-fault-requires-4
-operand-fault-requires-4 c κs = search needs
-
 returns-5 : tie.Need-returns-5
-returns-5 c = no-fault (c .before .enum-told5 .given .1)
+returns-5 c = no-fault (c .enum-told5 .given .1)
 
 returns-6 : tie.Need-returns-6
 returns-6 c = search (needs, operand-next, last-got, set-to)
@@ -97,10 +91,8 @@ set-operands-spec =
     returns-3
     enum-known-a-field-2
     enum-told-4
-    operand-fault-requires-3
     returns-4
     enum-known-b-field-2
     enum-told-5
-    operand-fault-requires-4
     returns-5
     returns-6)

@@ -73,11 +73,8 @@ enum-known-a-field-2 c = search needs
 enum-told-5 : tie.Need-enum-told-5
 enum-told-5 c = search needs
 
-operand-fault-requires-3 : tie.Need-operand-fault-requires-3
-operand-fault-requires-3 c κs = search needs
-
 returns-5 : tie.Need-returns-5
-returns-5 c = no-fault (c .before .enum-told5 .given .1)
+returns-5 c = no-fault (c .enum-told5 .given .1)
 
 enum-known-b-field-2 : tie.Need-enum-known-b-field-2
 enum-known-b-field-2 c = search needs
@@ -85,11 +82,8 @@ enum-known-b-field-2 c = search needs
 enum-told-6 : tie.Need-enum-told-6
 enum-told-6 c = search needs
 
-operand-fault-requires-4 : tie.Need-operand-fault-requires-4
-operand-fault-requires-4 c κs = search needs
-
 returns-6 : tie.Need-returns-6
-returns-6 c = no-fault (c .before .enum-told6 .given .1)
+returns-6 c = no-fault (c .enum-told6 .given .1)
 
 returns-7 : tie.Need-returns-7
 returns-7 c = operand-next (c .before .before .before .before .before .before .before .before .before .before .before .before .before .before .before .before .before .before .before .before .before .before .before .before .operand-field .ensures) (c .before .before .before .before .before .before .before .before .before .before .before .before .before .before .before .before .before .before .before .before .before .before .a-field .given .1) (search (needs, operand-next, set-next, last-got, test-no))
@@ -121,10 +115,8 @@ test-operands-spec =
     returns-4
     enum-known-a-field-2
     enum-told-5
-    operand-fault-requires-3
     returns-5
     enum-known-b-field-2
     enum-told-6
-    operand-fault-requires-4
     returns-6
     returns-7)

@@ -5,12 +5,6 @@ use native.Mathlib.Omega.{arith}
 use borrow.Author.Needs.{needs}
 use Rattle.records.proofs.closed_proc.Statement.{statement}
 use Rattle.records.proofs.closed_proc.Tie as tie
-use Rattle.records.proofs.closed_proc.Reads as reads
-use Rattle.records.proofs.closed_proc.Lts as lts
-use Rattle.fields.proofs.end_fault.Reads as end-fault-reads
-use Rattle.fields.proofs.set_fault.Reads as set-fault-reads
-use Rattle.lists.proofs.ascending_field.Reads as ascending-field-reads
-use Rattle.scan.proofs.feed.Reads as feed-reads
 
 -- src/lib.rt:353:46
 slice-aggregate-ascending-field : tie.Need-slice-aggregate-ascending-field

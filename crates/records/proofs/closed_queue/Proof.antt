@@ -2,12 +2,6 @@ use Rattle.fields.specs.FieldLaws.{choice-next, choice-stop, choice-within, fee
 use borrow.Author.Needs.{needs}
 use Rattle.records.proofs.closed_queue.Statement.{statement}
 use Rattle.records.proofs.closed_queue.Tie as tie
-use Rattle.records.proofs.closed_queue.Reads as reads
-use Rattle.records.proofs.closed_queue.Lts as lts
-use Rattle.fields.proofs.choice_fault.Reads as choice-fault-reads
-use Rattle.fields.proofs.end_fault.Reads as end-fault-reads
-use Rattle.words.proofs.choice_field.Reads as choice-field-reads
-use Rattle.scan.proofs.feed.Reads as feed-reads
 
 -- src/lib.rt:187:42
 slice-aggregate-choice-field : tie.Need-slice-aggregate-choice-field

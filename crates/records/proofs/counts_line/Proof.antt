@@ -2,11 +2,6 @@ use Rattle.fields.specs.FieldLaws.{choice-within, number-below, number-next, nu
 use borrow.Author.Needs.{needs}
 use Rattle.records.proofs.counts_line.Statement.{statement}
 use Rattle.records.proofs.counts_line.Tie as tie
-use Rattle.records.proofs.counts_line.Reads as reads
-use Rattle.records.proofs.counts_line.Lts as lts
-use Rattle.records.proofs.last_counts.Reads as last-counts-reads
-use Rattle.fields.proofs.number_fault.Reads as number-fault-reads
-use Rattle.scan.proofs.number_field.Reads as number-field-reads
 
 -- src/lib.rt:126:43
 slice-aggregate-number-field : tie.Need-slice-aggregate-number-field

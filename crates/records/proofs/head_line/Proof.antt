@@ -2,14 +2,6 @@ use Rattle.fields.specs.FieldLaws.{choice-next, choice-stop, choice-within, fee
 use borrow.Author.Needs.{needs}
 use Rattle.records.proofs.head_line.Statement.{statement}
 use Rattle.records.proofs.head_line.Tie as tie
-use Rattle.records.proofs.head_line.Reads as reads
-use Rattle.records.proofs.head_line.Lts as lts
-use Rattle.fields.proofs.choice_fault.Reads as choice-fault-reads
-use Rattle.fields.proofs.end_fault.Reads as end-fault-reads
-use Rattle.fields.proofs.number_fault.Reads as number-fault-reads
-use Rattle.words.proofs.choice_field.Reads as choice-field-reads
-use Rattle.scan.proofs.feed.Reads as feed-reads
-use Rattle.scan.proofs.number_field.Reads as number-field-reads
 
 -- src/lib.rt:80:42
 slice-aggregate-number-field : tie.Need-slice-aggregate-number-field

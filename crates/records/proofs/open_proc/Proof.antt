@@ -2,10 +2,6 @@ use Rattle.fields.specs.FieldLaws.{feed-last, feed-stop}
 use borrow.Author.Needs.{needs}
 use Rattle.records.proofs.open_proc.Statement.{statement}
 use Rattle.records.proofs.open_proc.Tie as tie
-use Rattle.records.proofs.open_proc.Reads as reads
-use Rattle.records.proofs.open_proc.Lts as lts
-use Rattle.fields.proofs.end_fault.Reads as end-fault-reads
-use Rattle.scan.proofs.feed.Reads as feed-reads
 
 -- src/lib.rt:341:9
 feed-requires : tie.Need-feed-requires

@@ -2,10 +2,6 @@ use Rattle.fields.specs.FieldLaws.{choice-within, feed-last, feed-stop, number-
 use borrow.Author.Needs.{needs}
 use Rattle.records.proofs.open_queue.Statement.{statement}
 use Rattle.records.proofs.open_queue.Tie as tie
-use Rattle.records.proofs.open_queue.Reads as reads
-use Rattle.records.proofs.open_queue.Lts as lts
-use Rattle.fields.proofs.end_fault.Reads as end-fault-reads
-use Rattle.scan.proofs.feed.Reads as feed-reads
 
 -- src/lib.rt:175:9
 feed-requires : tie.Need-feed-requires

@@ -3,11 +3,6 @@ use Rattle.records.specs.LineLaws.{proc-sizes}
 use borrow.Author.Needs.{needs}
 use Rattle.records.proofs.proc_line.Statement.{statement}
 use Rattle.records.proofs.proc_line.Tie as tie
-use Rattle.records.proofs.proc_line.Reads as reads
-use Rattle.records.proofs.proc_line.Lts as lts
-use Rattle.fields.proofs.number_fault.Reads as number-fault-reads
-use Rattle.records.proofs.proc_sizes.Reads as proc-sizes-reads
-use Rattle.scan.proofs.number_field.Reads as number-field-reads
 
 -- src/lib.rt:400:43
 slice-aggregate-number-field : tie.Need-slice-aggregate-number-field

@@ -3,12 +3,6 @@ use Rattle.records.specs.LineLaws.{sizes-form}
 use borrow.Author.Needs.{needs}
 use Rattle.records.proofs.proc_sizes.Statement.{statement}
 use Rattle.records.proofs.proc_sizes.Tie as tie
-use Rattle.records.proofs.proc_sizes.Reads as reads
-use Rattle.records.proofs.proc_sizes.Lts as lts
-use Rattle.records.proofs.closed_proc.Reads as closed-proc-reads
-use Rattle.fields.proofs.number_fault.Reads as number-fault-reads
-use Rattle.records.proofs.open_proc.Reads as open-proc-reads
-use Rattle.scan.proofs.number_field.Reads as number-field-reads
 
 -- src/lib.rt:375:42
 slice-aggregate-number-field : tie.Need-slice-aggregate-number-field

@@ -3,12 +3,6 @@ use Rattle.records.specs.LineLaws.{queue-form}
 use borrow.Author.Needs.{needs}
 use Rattle.records.proofs.queue_line.Statement.{statement}
 use Rattle.records.proofs.queue_line.Tie as tie
-use Rattle.records.proofs.queue_line.Reads as reads
-use Rattle.records.proofs.queue_line.Lts as lts
-use Rattle.records.proofs.closed_queue.Reads as closed-queue-reads
-use Rattle.fields.proofs.number_fault.Reads as number-fault-reads
-use Rattle.records.proofs.open_queue.Reads as open-queue-reads
-use Rattle.scan.proofs.number_field.Reads as number-field-reads
 
 -- src/lib.rt:203:43
 slice-aggregate-number-field : tie.Need-slice-aggregate-number-field

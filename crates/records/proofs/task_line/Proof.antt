@@ -2,12 +2,6 @@ use Rattle.fields.specs.FieldLaws.{number-within, number-next, number-stop, fee
 use borrow.Author.Needs.{needs}
 use Rattle.records.proofs.task_line.Statement.{statement}
 use Rattle.records.proofs.task_line.Tie as tie
-use Rattle.records.proofs.task_line.Reads as reads
-use Rattle.records.proofs.task_line.Lts as lts
-use Rattle.fields.proofs.end_fault.Reads as end-fault-reads
-use Rattle.fields.proofs.number_fault.Reads as number-fault-reads
-use Rattle.scan.proofs.feed.Reads as feed-reads
-use Rattle.scan.proofs.number_field.Reads as number-field-reads
 
 -- src/lib.rt:41:43
 slice-aggregate-number-field : tie.Need-slice-aggregate-number-field

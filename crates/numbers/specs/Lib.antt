@@ -1,0 +1,4 @@
+pub mod Numerals
+pub mod Answer
+pub mod NumeralLaws
+pub mod ValueLaws
