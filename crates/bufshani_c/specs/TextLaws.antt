@@ -9,7 +9,8 @@ use Rattle.text.specs.Writer.{text, fitted}
 use Rattle.bufshani.specs.PrintLaws.{sound-read}
 use Rattle.bufshani.specs.WriteLaws.{write-good}
 use Rattle.machine.specs.Run.{run}
-use Rattle.bufshani_c.specs.Texts.{Coded, packed, afterWriting, rewriting, rewritten, afterRunning, running, stepped}
+use Rattle.bufshani_c.specs.Texts.{Coded, afterWriting, rewriting, rewritten, afterRunning, running, stepped}
+use Rattle.codes.specs.Code.{packed}
 
 module _ (s out : List ℕ) (r : Reading) (e : r ≡ read s) where
   from-reading : rewriting (r .number) r out ≡ rewritten s out

@@ -1,15 +1,12 @@
 -- What the library for Rust and C answers.
-use Prim.Native.Nat.{ℕ, zero, suc, _+_, _*_, _%_}
+use Prim.Native.Nat.{ℕ, zero, suc}
 use mathlib.Core.List.{List}
 use lib.IntN.{ℤ}
 use Rattle.text.specs.declared.Reading.{Reading}
 use Rattle.text.specs.Reader.{read}
 use Rattle.text.specs.Writer.{Written, writeTo}
 use Rattle.machine.specs.Run.{Ran, run}
-
--- a number above 2^32, and what stands below it
-abbrev pub packed : ℕ → ℕ → ℕ
-packed n low = n * 4294967296 + low % 4294967296
+use Rattle.codes.specs.Code.{packed}
 
 pub record Coded : Type 0 where
   pub answer : ℕ

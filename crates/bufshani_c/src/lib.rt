@@ -1,16 +1,12 @@
 // The library for Rust and C: texts and numbers in, numbers and lent bytes out. A refusal is its number times 2^32 plus its line.
+use codes::pack;
 ghost use mathlib.Core.Path.{_≡_};
 ghost use Rattle.text.specs.Reader.{read};
 ghost use Rattle.closing.specs.Program.{printed};
 ghost use Rattle.put.specs.Put.{Put};
 ghost use Rattle.run_text.specs.Text.{TextRun};
-ghost use Rattle.bufshani_c.specs.Texts.{packed, rewritten, stepped};
-
-fn pack(number: u8, low: usize) -> u64
-    ensures { λ r. ⌜ r ≡ packed number low ⌝ }
-{
-    (number as u64) * 4294967296 + (low as u64) % 4294967296
-}
+ghost use Rattle.codes.specs.Code.{packed};
+ghost use Rattle.bufshani_c.specs.Texts.{rewritten, stepped};
 
 // 0 for an accepted text, or its refusal.
 #[no_mangle]

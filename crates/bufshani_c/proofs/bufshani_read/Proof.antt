@@ -1,13 +1,9 @@
 use mathlib.Core.Path.{_∙_, ap}
 use Rattle.text.specs.declared.Reading.{Reading}
-use Rattle.bufshani_c.specs.Texts.{packed}
+use Rattle.codes.specs.Code.{packed}
 use borrow.Author.Needs.{needs}
 use Rattle.bufshani_c.proofs.bufshani_read.Statement.{statement}
 use Rattle.bufshani_c.proofs.bufshani_read.Tie as tie
-use Rattle.bufshani_c.proofs.bufshani_read.Reads as reads
-use Rattle.bufshani_c.proofs.bufshani_read.Lts as lts
-use Rattle.bufshani_c.proofs.pack.Reads as pack-reads
-use Rattle.reader.proofs.read.Reads as read-reads
 
 -- src/lib.rt:19:9
 read-requires : tie.Need-read-requires

@@ -1,15 +1,11 @@
 use mathlib.Core.Path.{_∙_, ap}
 use Rattle.machine.specs.declared.Running.{Running}
-use Rattle.bufshani_c.specs.Texts.{Coded, packed}
+use Rattle.bufshani_c.specs.Texts.{Coded}
+use Rattle.codes.specs.Code.{packed}
 use Rattle.bufshani_c.specs.TextLaws.{stepped-refused, stepped-good}
 use borrow.Author.Needs.{needs}
 use Rattle.bufshani_c.proofs.bufshani_steps.Statement.{statement}
 use Rattle.bufshani_c.proofs.bufshani_steps.Tie as tie
-use Rattle.bufshani_c.proofs.bufshani_steps.Reads as reads
-use Rattle.bufshani_c.proofs.bufshani_steps.Lts as lts
-use Rattle.bufshani.proofs.run.Reads as run-reads
-use Rattle.bufshani_c.proofs.pack.Reads as pack-reads
-use Rattle.reader.proofs.read.Reads as read-reads
 
 -- src/lib.rt:58:9
 read-requires : tie.Need-read-requires

@@ -2,16 +2,12 @@ use mathlib.Core.Path.{sym, _∙_, ap}
 use Rattle.text.specs.declared.Writing.{Writing}
 use Rattle.writer.specs.CountsLaws.{counts}
 use Rattle.bufshani.specs.PrintLaws.{sound-read}
-use Rattle.bufshani_c.specs.Texts.{Coded, packed}
+use Rattle.bufshani_c.specs.Texts.{Coded}
+use Rattle.codes.specs.Code.{packed}
 use Rattle.bufshani_c.specs.TextLaws.{rewritten-refused, rewritten-good}
 use borrow.Author.Needs.{needs}
 use Rattle.bufshani_c.proofs.bufshani_write.Statement.{statement}
 use Rattle.bufshani_c.proofs.bufshani_write.Tie as tie
-use Rattle.bufshani_c.proofs.bufshani_write.Reads as reads
-use Rattle.bufshani_c.proofs.bufshani_write.Lts as lts
-use Rattle.bufshani_c.proofs.pack.Reads as pack-reads
-use Rattle.reader.proofs.read.Reads as read-reads
-use Rattle.writer.proofs.write_ready.Reads as write-ready-reads
 
 -- src/lib.rt:29:9
 read-requires : tie.Need-read-requires
