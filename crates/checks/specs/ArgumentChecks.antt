@@ -129,3 +129,10 @@ declared-used n len k v l e = rw (lt-ltb k len l, ne-eqb v removed e)
 
 pub declared-unused : (n len k v : ℕ) → len ≤ k → true ≡ declaredAt n len k v
 declared-unused n len k v l = rw (le-ltb k len l)
+
+-- from the two that a test joins
+pub both-of : {a b x y r : Bool} → r ≡ a && b → a ≡ x → b ≡ y → r ≡ x && y
+both-of e p q = rw (e, p, q)
+
+pub either-of : {a b x y r : Bool} → r ≡ a || b → a ≡ x → b ≡ y → r ≡ x || y
+either-of e p q = rw (e, p, q)

@@ -38,3 +38,7 @@ first-none a b e = rw e
 pub first-some : (a b : ℕ) → (a ≡ 0 → ⊥) → a ≡ firstNumber a b
 first-some zero b h = absurd (h refl)
 first-some (suc a) b h = refl
+
+-- from the faults of the two
+pub first-of : {a b x y r : ℕ} → r ≡ firstNumber a b → a ≡ x → b ≡ y → r ≡ firstNumber x y
+first-of e p q = rw (e, p, q)

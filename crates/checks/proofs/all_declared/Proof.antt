@@ -1,3 +1,5 @@
+use mathlib.Core.Path.{_∙_, sym}
+use Rattle.checks.specs.ArgumentChecks.{both-of}
 use Rattle.checks.specs.ArgumentChecks.{declared-is}
 use borrow.Author.Needs.{needs}
 use Rattle.checks.proofs.all_declared.Statement.{statement}
@@ -31,7 +33,7 @@ both-requires-4 : tie.Need-both-requires-4
 both-requires-4 c κs = search needs
 
 returns : tie.Need-returns
-returns c = cc (declared-is _ _)
+returns c = both-of (c .both4 .ensures) (c .before .before .before .before .before .before .before .before .declared-at .ensures) (both-of (c .before .both3 .ensures) (c .before .before .before .before .before .before .before .declared-at2 .ensures) (both-of (c .before .before .both2 .ensures) (c .before .before .before .before .before .before .declared-at3 .ensures) (both-of (c .before .before .before .both .ensures) (c .before .before .before .before .before .declared-at4 .ensures) (c .before .before .before .before .declared-at5 .ensures)))) ∙ sym (declared-is (c .before .before .before .before .before .before .before .before .before .args .vars) (c .before .before .before .before .before .before .before .before .before .args .xs))
 
 pub all-declared-spec : {M : Type 1} → statement M
 all-declared-spec =

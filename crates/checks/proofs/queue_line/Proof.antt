@@ -1,3 +1,5 @@
+use mathlib.Core.Path.{refl}
+use Rattle.checks.specs.Numbers.{first-of}
 use borrow.Author.Needs.{needs}
 use Rattle.checks.proofs.queue_line.Statement.{statement}
 use Rattle.checks.proofs.queue_line.Tie as tie
@@ -21,7 +23,7 @@ first-requires-2 : tie.Need-first-requires-2
 first-requires-2 c κs = search needs
 
 returns : tie.Need-returns
-returns c = cc
+returns c = first-of (c .first2 .ensures) (c .before .before .behind .ensures) (first-of (c .before .first .ensures) (c .before .before .before .before .before .reference .ensures) (first-of (c .before .before .before .leads .ensures) (c .before .before .before .before .variable .ensures) refl))
 
 pub queue-line-spec : {M : Type 1} → statement M
 queue-line-spec =

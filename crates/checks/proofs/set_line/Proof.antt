@@ -1,3 +1,5 @@
+use mathlib.Core.Path.{refl}
+use Rattle.checks.specs.Numbers.{first-of}
 use borrow.Author.Needs.{needs}
 use Rattle.checks.proofs.set_line.Statement.{statement}
 use Rattle.checks.proofs.set_line.Tie as tie
@@ -27,7 +29,7 @@ first-requires-3 : tie.Need-first-requires-3
 first-requires-3 c κs = search needs
 
 returns : tie.Need-returns
-returns c = cc
+returns c = first-of (c .first3 .ensures) (c .before .before .before .behind .ensures) (first-of (c .before .first2 .ensures) (c .before .before .before .before .before .before .before .reference .ensures) (first-of (c .before .before .first .ensures) (c .before .before .before .before .before .before .operand .ensures) (first-of (c .before .before .before .before .leads .ensures) (c .before .before .before .before .before .operand2 .ensures) refl)))
 
 pub set-line-spec : {M : Type 1} → statement M
 set-line-spec =

@@ -1,3 +1,5 @@
+use mathlib.Core.Path.{_∙_, sym}
+use Rattle.checks.specs.ArgumentChecks.{either-of}
 use Rattle.checks.specs.ArgumentChecks.{removed-is}
 use borrow.Author.Needs.{needs}
 use Rattle.checks.proofs.some_removed.Statement.{statement}
@@ -25,7 +27,7 @@ either-requires-3 : tie.Need-either-requires-3
 either-requires-3 c κs = search needs
 
 returns : tie.Need-returns
-returns c = cc (removed-is _)
+returns c = either-of (c .either3 .ensures) (c .before .before .before .before .before .before .removed-at .ensures) (either-of (c .before .either2 .ensures) (c .before .before .before .before .before .removed-at2 .ensures) (either-of (c .before .before .either .ensures) (c .before .before .before .before .removed-at3 .ensures) (c .before .before .before .removed-at4 .ensures))) ∙ sym (removed-is (c .before .before .before .before .before .before .before .args .xs))
 
 pub some-removed-spec : {M : Type 1} → statement M
 some-removed-spec =

@@ -1,3 +1,5 @@
+use mathlib.Core.Path.{refl}
+use Rattle.checks.specs.Numbers.{first-of}
 use borrow.Author.Needs.{needs}
 use Rattle.checks.proofs.test_line.Statement.{statement}
 use Rattle.checks.proofs.test_line.Tie as tie
@@ -33,7 +35,7 @@ first-requires-4 : tie.Need-first-requires-4
 first-requires-4 c κs = search needs
 
 returns : tie.Need-returns
-returns c = cc
+returns c = first-of (c .first4 .ensures) (c .before .before .before .before .behind .ensures) (first-of (c .before .first3 .ensures) (c .before .before .before .before .before .before .before .before .before .compares .ensures) (first-of (c .before .before .first2 .ensures) (c .before .before .before .before .before .before .before .before .operand .ensures) (first-of (c .before .before .before .first .ensures) (c .before .before .before .before .before .before .before .operand2 .ensures) (first-of (c .before .before .before .before .before .leads .ensures) (c .before .before .before .before .before .before .targets .ensures) refl))))
 
 pub test-line-spec : {M : Type 1} → statement M
 test-line-spec =

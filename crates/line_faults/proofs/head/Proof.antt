@@ -1,3 +1,4 @@
+use Rattle.checks.specs.Numbers.{first-of}
 use borrow.Author.Needs.{needs}
 use Rattle.line_faults.proofs.head.Statement.{statement}
 use Rattle.line_faults.proofs.head.Tie as tie
@@ -30,7 +31,7 @@ first-requires-4 : tie.Need-first-requires-4
 first-requires-4 c κs = search needs
 
 returns : tie.Need-returns
-returns c = cc
+returns c = first-of (c .first4 .ensures) (c .before .before .before .before .before .before .before .before .between .ensures) (first-of (c .before .first3 .ensures) (c .before .before .before .before .before .before .before .between2 .ensures) (first-of (c .before .before .first2 .ensures) (c .before .before .before .before .before .before .between3 .ensures) (first-of (c .before .before .before .first .ensures) (c .before .before .before .before .before .between4 .ensures) (c .before .before .before .before .between5 .ensures))))
 
 pub head-spec : {M : Type 1} → statement M
 head-spec =

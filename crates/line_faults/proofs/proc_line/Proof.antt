@@ -1,3 +1,4 @@
+use Rattle.checks.specs.Numbers.{first-of}
 use borrow.Author.Needs.{needs}
 use Rattle.line_faults.proofs.proc_line.Statement.{statement}
 use Rattle.line_faults.proofs.proc_line.Tie as tie
@@ -24,7 +25,7 @@ first-requires-3 : tie.Need-first-requires-3
 first-requires-3 c κs = search needs
 
 returns : tie.Need-returns
-returns c = cc
+returns c = first-of (c .first3 .ensures) (c .before .before .before .before .before .before .between .ensures) (first-of (c .before .first2 .ensures) (c .before .before .before .before .before .between2 .ensures) (first-of (c .before .before .first .ensures) (c .before .before .before .before .between3 .ensures) (c .before .before .before .drop-list .ensures)))
 
 pub proc-line-spec : {M : Type 1} → statement M
 proc-line-spec =

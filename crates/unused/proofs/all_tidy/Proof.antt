@@ -1,3 +1,5 @@
+use mathlib.Core.Path.{_∙_, sym}
+use Rattle.checks.specs.ArgumentChecks.{both-of}
 use Rattle.unused.specs.UnusedLaws.{tidy-is, values-long}
 use borrow.Author.Needs.{needs}
 use Rattle.unused.proofs.all_tidy.Statement.{statement}
@@ -25,7 +27,7 @@ both-requires-3 : tie.Need-both-requires-3
 both-requires-3 c κs = search needs
 
 returns : tie.Need-returns
-returns c = cc (tidy-is (c .before .before .before .before .before .before .before .before .before .before .args .t) (c .before .before .before .before .before .before .before .before .before .before .pre) (search (needs, values-long)) (search (needs, values-long)) (search (needs, values-long)) (search (needs, values-long)))
+returns c = both-of (c .both3 .ensures) (c .before .before .before .before .before .before .tasks-tidy .ensures) (both-of (c .before .both2 .ensures) (c .before .before .before .before .before .sems-tidy .ensures) (both-of (c .before .before .both .ensures) (c .before .before .before .before .queues-tidy .ensures) (c .before .before .before .procs-tidy .ensures))) ∙ sym (tidy-is (c .before .before .before .before .before .before .before .before .before .before .args .t) (c .before .before .before .before .before .before .before .before .before .before .pre) (search (needs, values-long)) (search (needs, values-long)) (search (needs, values-long)) (search (needs, values-long)))
 
 pub all-tidy-spec : {M : Type 1} → statement M
 all-tidy-spec =

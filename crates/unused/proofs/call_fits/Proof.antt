@@ -1,3 +1,5 @@
+use mathlib.Core.Path.{_∙_, sym}
+use Rattle.checks.specs.ArgumentChecks.{both-of}
 use Rattle.unused.specs.UnusedLaws.{args-are}
 use borrow.Author.Needs.{needs}
 use Rattle.unused.proofs.call_fits.Statement.{statement}
@@ -25,7 +27,7 @@ both-requires-3 : tie.Need-both-requires-3
 both-requires-3 c κs = search needs
 
 returns : tie.Need-returns
-returns c = cc (args-are _)
+returns c = both-of (c .both3 .ensures) (c .before .before .before .before .before .before .spare .ensures) (both-of (c .before .both2 .ensures) (c .before .before .before .before .before .spare2 .ensures) (both-of (c .before .before .both .ensures) (c .before .before .before .before .spare3 .ensures) (c .before .before .before .spare4 .ensures))) ∙ sym (args-are (c .before .before .before .before .before .before .before .args .xs))
 
 pub call-fits-spec : {M : Type 1} → statement M
 call-fits-spec =
