@@ -4,11 +4,6 @@ use native.Mathlib.Omega.{arith}
 use borrow.Author.Needs.{needs}
 use Rattle.close.proofs.main.Statement.{statement}
 use Rattle.close.proofs.main.Tie as tie
-use Rattle.close.proofs.main.Reads as reads
-use Rattle.close.proofs.main.Lts as lts
-use Rattle.bufshani.proofs.close_text.Reads as close-text-reads
-use Rattle.io.proofs.read_full.Reads as read-full-reads
-use Rattle.io.proofs.write_all.Reads as write-all-reads
 
 -- src/main.rt:4:30
 slice-aggregate-read-full : tie.Need-slice-aggregate-read-full

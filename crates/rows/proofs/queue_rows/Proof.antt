@@ -6,10 +6,6 @@ use Rattle.rows.specs.RowLaws.{Rowing, rows-start, rows-turn, rows-stop,
 use borrow.Author.Needs.{needs}
 use Rattle.rows.proofs.queue_rows.Statement.{statement}
 use Rattle.rows.proofs.queue_rows.Tie as tie
-use Rattle.rows.proofs.queue_rows.Reads as reads
-use Rattle.rows.proofs.queue_rows.Lts as lts
-use Rattle.line_reader.proofs.next_queue.Reads as next-queue-reads
-use Rattle.rows.proofs.queue_fault.Reads as queue-fault-reads
 
 abbrev Inv-loop : tie.InvT-loop
 Inv-loop s at line n closed queue₀ p₀ l₀ i₀ queue p l i = Rowing (queueRow closed) n (replicate 8 noQueue) s at line queue p l i × (l ≤ line + i)

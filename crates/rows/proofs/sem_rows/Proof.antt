@@ -6,10 +6,6 @@ use Rattle.rows.specs.RowLaws.{Rowing, rows-start, rows-turn, rows-stop,
 use borrow.Author.Needs.{needs}
 use Rattle.rows.proofs.sem_rows.Statement.{statement}
 use Rattle.rows.proofs.sem_rows.Tie as tie
-use Rattle.rows.proofs.sem_rows.Reads as reads
-use Rattle.rows.proofs.sem_rows.Lts as lts
-use Rattle.line_reader.proofs.next_sem.Reads as next-sem-reads
-use Rattle.rows.proofs.sem_fault.Reads as sem-fault-reads
 
 abbrev Inv-loop : tie.InvT-loop
 Inv-loop s at line n sem₀ p₀ l₀ i₀ sem p l i = Rowing semRow n (replicate 8 noSem) s at line sem p l i × (l ≤ line + i)

@@ -6,10 +6,6 @@ use Rattle.rows.specs.RowLaws.{Rowing, rows-start, rows-turn, rows-stop,
 use borrow.Author.Needs.{needs}
 use Rattle.rows.proofs.task_rows.Statement.{statement}
 use Rattle.rows.proofs.task_rows.Tie as tie
-use Rattle.rows.proofs.task_rows.Reads as reads
-use Rattle.rows.proofs.task_rows.Lts as lts
-use Rattle.line_reader.proofs.next_task.Reads as next-task-reads
-use Rattle.rows.proofs.task_fault.Reads as task-fault-reads
 
 abbrev Inv-loop : tie.InvT-loop
 Inv-loop s at line n procs task₀ p₀ l₀ i₀ task p l i = Rowing (taskRow procs) n (replicate 4 noTask) s at line task p l i × (l ≤ line + i)

@@ -3,10 +3,6 @@ use lib.Seq.{length-take-le}
 use borrow.Author.Needs.{needs}
 use Rattle.runs.proofs.last.Statement.{statement}
 use Rattle.runs.proofs.last.Tie as tie
-use Rattle.runs.proofs.last.Reads as reads
-use Rattle.runs.proofs.last.Lts as lts
-use Rattle.parts.proofs.next.Reads as next-reads
-use Rattle.runs.proofs.print.Reads as print-reads
 
 -- src/main.rt:20:13
 next-requires : tie.Need-next-requires

@@ -3,9 +3,6 @@ use lib.ListN.{length}
 use borrow.Author.Needs.{needs}
 use Rattle.runs.proofs.main.Statement.{statement}
 use Rattle.runs.proofs.main.Tie as tie
-use Rattle.runs.proofs.main.Reads as reads
-use Rattle.runs.proofs.main.Lts as lts
-use Rattle.runs.proofs.last.Reads as last-reads
 
 abbrev Inv-loop : tie.InvT-loop
 Inv-loop first₀ second₀ third₀ fourth₀ text₀ left₀ first second third fourth text left = (length first ≡ 512) × (length second ≡ 512) × (length third ≡ 32) × (length fourth ≡ 32) × (length text ≡ 65537)

@@ -4,10 +4,6 @@ use native.Mathlib.Omega.{arith}
 use borrow.Author.Needs.{needs}
 use Rattle.runs.proofs.print.Statement.{statement}
 use Rattle.runs.proofs.print.Tie as tie
-use Rattle.runs.proofs.print.Reads as reads
-use Rattle.runs.proofs.print.Lts as lts
-use Rattle.io.proofs.write_all.Reads as write-all-reads
-use Rattle.run_words.proofs.run_words.Reads as run-words-reads
 
 -- src/main.rt:43:73
 slice-aggregate-run-words : tie.Need-slice-aggregate-run-words

@@ -4,10 +4,6 @@ use lib.Seq.{length-take-le}
 use borrow.Author.Needs.{needs}
 use Rattle.vectors.proofs.main.Statement.{statement}
 use Rattle.vectors.proofs.main.Tie as tie
-use Rattle.vectors.proofs.main.Reads as reads
-use Rattle.vectors.proofs.main.Lts as lts
-use Rattle.parts.proofs.next.Reads as next-reads
-use Rattle.vectors.proofs.answers.Reads as answers-reads
 
 abbrev Inv-loop : tie.InvT-loop
 Inv-loop text₀ left₀ text left = length text ≡ 65537

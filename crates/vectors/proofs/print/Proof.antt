@@ -4,10 +4,6 @@ use native.Mathlib.Omega.{arith}
 use borrow.Author.Needs.{needs}
 use Rattle.vectors.proofs.print.Statement.{statement}
 use Rattle.vectors.proofs.print.Tie as tie
-use Rattle.vectors.proofs.print.Reads as reads
-use Rattle.vectors.proofs.print.Lts as lts
-use Rattle.bufshani.proofs.close_text.Reads as close-text-reads
-use Rattle.io.proofs.write_all.Reads as write-all-reads
 
 -- src/main.rt:64:37
 slice-aggregate-close-text : tie.Need-slice-aggregate-close-text

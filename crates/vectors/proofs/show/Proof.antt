@@ -4,10 +4,6 @@ use native.Mathlib.Omega.{arith}
 use borrow.Author.Needs.{needs}
 use Rattle.vectors.proofs.show.Statement.{statement}
 use Rattle.vectors.proofs.show.Tie as tie
-use Rattle.vectors.proofs.show.Reads as reads
-use Rattle.vectors.proofs.show.Lts as lts
-use Rattle.io.proofs.write_all.Reads as write-all-reads
-use Rattle.put_fields.proofs.put_size.Reads as put-size-reads
 
 -- src/main.rt:12:27
 slice-aggregate-put-size : tie.Need-slice-aggregate-put-size

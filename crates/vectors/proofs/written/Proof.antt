@@ -4,10 +4,6 @@ use native.Mathlib.Omega.{arith}
 use borrow.Author.Needs.{needs}
 use Rattle.vectors.proofs.written.Statement.{statement}
 use Rattle.vectors.proofs.written.Tie as tie
-use Rattle.vectors.proofs.written.Reads as reads
-use Rattle.vectors.proofs.written.Lts as lts
-use Rattle.vectors.proofs.exact.Reads as exact-reads
-use Rattle.vectors.proofs.short.Reads as short-reads
 
 -- src/main.rt:39:9
 returns : tie.Need-returns
