@@ -2,35 +2,18 @@
 use Prim.Native.Nat.{ℕ, zero, suc, _-_, _≤_}
 use mathlib.Core.Path.{_≡_, refl, sym, subst, _∙_, ap}
 use mathlib.Core.List.{List, [], _∷_}
-use mathlib.Core.Option.{Option, none, some}
+use mathlib.Core.Option.{none, some}
 use native.Mathlib.Omega.{arith}
 use lib.ListN.{length, take, replicate}
 use lib.Seq.{take-all}
 use lib.IntN.{ℤ}
-use Rattle.machine.specs.Program.{Request, Word, schedule, values, most, log, further, Words, asks, unread, next, last, saidUpTo, saidValue, saidItems, mostItems, mostNodes, mostBytes, said, wordLine, runText, printedFor, runPrinted}
+use Rattle.machine.specs.Program.{schedule, values, most, log, further, Words, next, saidUpTo, saidValue, saidItems, mostItems, mostNodes, mostBytes, said, wordLine, runText, printedFor, runPrinted}
 use Rattle.put.specs.Put.{Put}
-use Rattle.arguments.specs.ItemLaws.{number-small}
-use Rattle.run_words.specs.Words.{given, fromLog, fromMost, fromValues}
-
-module _ {A : Type 0} (w : Word) (f : List ℕ → Option A) (go : A → List (List ℕ) → Words) (x : List ℕ) (xs : List (List ℕ)) where
-  pub next-missing : (n : ℕ) → n ≡ 0 → next w f (given n (x ∷ xs)) go ≡ unread w
-  next-missing n h = rw h
-
-  pub next-unread : (n : ℕ) → (n ≡ 0 → ⊥) → f x ≡ none → next w f (given n (x ∷ xs)) go ≡ unread w
-  next-unread zero h e = absurd (h refl)
-  next-unread (suc n) h e = rw e
-
-  pub next-said : (n : ℕ) {a : A} → (n ≡ 0 → ⊥) → f x ≡ some a → next w f (given n (x ∷ xs)) go ≡ go a (given (n - 1) xs)
-  next-said zero h e = absurd (h refl)
-  next-said (suc n) h e = let z : suc n - 1 ≡ n = omega arith in rw (z, e)
-
-pub last-asks : (n : ℕ) (q : Request) → n ≡ 1 → last q (given (n - 1) []) ≡ asks q
-last-asks n q h = rw h
-
-pub last-further : (n : ℕ) (q : Request) → (n ≡ 0 → ⊥) → (n ≡ 1 → ⊥) → last q (given (n - 1) []) ≡ unread further
-last-further zero q h g = absurd (h refl)
-last-further (suc zero) q h g = absurd (g refl)
-last-further (suc (suc n)) q h g = let z : suc (suc n) - 1 ≡ suc n = omega arith in rw z
+use Rattle.log_word.specs.declared.Rest.{Rest}
+use Rattle.log_word.specs.declared.Rest.the-variants.{Log, NoLog, Further}
+use Rattle.log_word.specs.Words.{given, fromLog, restWords, RestFits}
+use Rattle.log_word.specs.WordLaws.{next-missing, next-unread, next-said}
+use Rattle.run_words.specs.Words.{fromMost, fromValues}
 
 pub printed-as : {x y : Words} {k at r : ℕ} {b a : List ℕ} (s : List ℕ) → x ≡ y → Put k b at (printedFor y s) a r → Put k b at (printedFor x s) a r
 printed-as {x} {y} {k} {at} {r} {b} {a} s e p = subst (λ (u : Words). Put k b at (printedFor u s) a r) (sym e) p
@@ -56,37 +39,30 @@ count-zeros (suc k) = ap suc (count-zeros k)
 zeros : (b k : ℕ) {l : List ℕ} → l ≡ zs b → k ≤ b → take b (take k l) ≡ zs k
 zeros b k {l} e h = ap (λ (x : List ℕ). take b (take k x)) e ∙ ap (take b) (first-zeros b k h) ∙ take-all b (zs k) (omega (arith, count-zeros k))
 
+-- a length that was found fits the buffer
+pub fits : {w : Rest} {j : ℕ} → RestFits w → w ≡ Log j → j ≤ mostBytes
+fits h e = rw e at h
+
 pub within : (b : ℕ) {k : ℕ} {l : List ℕ} → l ≡ zs b → k ≤ b → k ≤ length l
 within b {k} {l} e h = let c : length l ≡ b = ap length e ∙ count-zeros b in omega arith
 
 -- ---- what is printed, word by word
 
 module _ (s : List ℕ) where
-  module _ (ks : List ℕ) (vs : List ℤ) (m : ℕ) (d : List ℕ) (n : ℕ) where
-    abbrev logWords : Words
-    logWords = fromLog ks vs m (given n (d ∷ []))
+  module _ (ks : List ℕ) (vs : List ℤ) (m : ℕ) (d : List ℕ) (n : ℕ) {w : Rest} (f : (ks : List ℕ) (vs : List ℤ) (m : ℕ) → fromLog ks vs m (given n (d ∷ [])) ≡ restWords ks vs m w) where
+    says : {x : Rest} → w ≡ x → fromLog ks vs m (given n (d ∷ [])) ≡ restWords ks vs m x
+    says e = f ks vs m ∙ ap (restWords ks vs m) e
 
-    abbrev logThen : ℕ → List (List ℕ) → Words
-    logThen j ys = last (record { schedule = ks; values = vs; most = m; log = j }) ys
+    pub log-unread : {k r : ℕ} {b a : List ℕ} → w ≡ NoLog → Put k b 0 (wordLine log) a r → Put k b 0 (printedFor (fromLog ks vs m (given n (d ∷ []))) s) a r
+    log-unread e p = printed-as s (says e) p
 
-    pub log-missing : {k r : ℕ} {b a : List ℕ} → n ≡ 0 → Put k b 0 (wordLine log) a r → Put k b 0 (printedFor logWords s) a r
-    log-missing h p = printed-as s (next-missing log (saidUpTo mostBytes) logThen d [] n h) p
+    pub log-further : {k r : ℕ} {b a : List ℕ} → w ≡ Further → Put k b 0 (wordLine further) a r → Put k b 0 (printedFor (fromLog ks vs m (given n (d ∷ []))) s) a r
+    log-further e p = printed-as s (says e) p
 
-    pub log-unread : {k r : ℕ} {b a : List ℕ} → (n ≡ 0 → ⊥) → saidUpTo mostBytes d ≡ none → Put k b 0 (wordLine log) a r → Put k b 0 (printedFor logWords s) a r
-    log-unread h e p = printed-as s (next-unread log (saidUpTo mostBytes) logThen d [] n h e) p
-
-    pub log-further : {k r : ℕ} {b a : List ℕ} → {j : ℕ} → (n ≡ 0 → ⊥) → (n ≡ 1 → ⊥) → saidUpTo mostBytes d ≡ some j → Put k b 0 (wordLine further) a r → Put k b 0 (printedFor logWords s) a r
-    log-further {j = j} h g e p =
-        printed-as s (next-said log (saidUpTo mostBytes) logThen d [] n h e ∙ last-further n (record { schedule = ks; values = vs; most = m; log = j }) h g) p
-
-    pub log-asks : {k r : ℕ} {b a : List ℕ} → {j : ℕ} → (n ≡ 0 → ⊥) → n ≡ 1 → saidUpTo mostBytes d ≡ some j → Put k b 0 (runText s ks vs m (replicate j 0)) a r → Put k b 0 (printedFor logWords s) a r
-    log-asks {j = j} h g e p =
-        printed-as s (next-said log (saidUpTo mostBytes) logThen d [] n h e ∙ last-asks n (record { schedule = ks; values = vs; most = m; log = j }) g) p
-
-    pub log-run : {k r : ℕ} {b a : List ℕ} → {j : ℕ} {l : List ℕ} → l ≡ zs mostBytes → (n ≡ 0 → ⊥) → n ≡ 1 → saidUpTo mostBytes d ≡ some j
-        → Put k b 0 (runText s ks vs m (take mostBytes (take j l))) a r → Put k b 0 (printedFor logWords s) a r
-    log-run {k} {r} {b} {a} {j} {l} z h g e p =
-        log-asks h g e (subst (λ (y : List ℕ). Put k b 0 (runText s ks vs m y) a r) (zeros mostBytes j z (number-small d e)) p)
+    pub log-run : {k r : ℕ} {b a : List ℕ} → {j : ℕ} {l : List ℕ} → l ≡ zs mostBytes → j ≤ mostBytes → w ≡ Log j
+        → Put k b 0 (runText s ks vs m (take mostBytes (take j l))) a r → Put k b 0 (printedFor (fromLog ks vs m (given n (d ∷ []))) s) a r
+    log-run {k} {r} {b} {a} {j} {l} z h e p =
+        printed-as s (says e) (subst (λ (y : List ℕ). Put k b 0 (runText s ks vs m y) a r) (zeros mostBytes j z h) p)
 
   module _ (ks : List ℕ) (vs : List ℤ) (c d : List ℕ) (n : ℕ) where
     abbrev mostWords : Words

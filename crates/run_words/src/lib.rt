@@ -1,13 +1,15 @@
 // What the program `run` prints for its words and a text.
 
 use arguments::Number;
+use log_word::Rest;
 ghost use mathlib.Core.Path.{_≡_};
 ghost use mathlib.Core.List.{_∷_, [], _++_};
 ghost use Prim.Native.Nat.{_≤_};
 ghost use lib.ListN.{length, replicate};
 ghost use Rattle.machine.specs.Program.{schedule, values, most, log, further, wordLine, printedFor, runPrinted};
 ghost use Rattle.put.specs.Put.{Put};
-ghost use Rattle.run_words.specs.Words.{given, fromLog, fromMost, fromValues};
+ghost use Rattle.log_word.specs.Words.{given, fromLog};
+ghost use Rattle.run_words.specs.Words.{fromMost, fromValues};
 
 // Two texts and an LF.
 fn put_line(out: &mut [u8], a: &[u8], b: &[u8]) -> usize
@@ -101,17 +103,14 @@ fn after_most(
 ) -> usize
     ensures { λ r. ⌜ Put 4400000 (now (out .entry)) 0 (printedFor (fromLog (now (schedule .entry)) (now (values .entry)) most (given n (now (fourth .entry) ∷ []))) (now (s .entry))) (now (out .exit)) r ⌝ }
 {
-    if n == 0 {
-        return log_line(out);
+    match log_word::last_words(n, fourth) {
+        Rest::Log(k) => {
+            let mut log = log_buffer();
+            run_text::run_text(s, schedule, values, most, &mut log[..k], out)
+        }
+        Rest::NoLog => log_line(out),
+        Rest::Further => further_line(out),
     }
-    let Number::Is(k) = arguments::log(fourth) else {
-        return log_line(out);
-    };
-    if n != 1 {
-        return further_line(out);
-    }
-    let mut log = log_buffer();
-    run_text::run_text(s, schedule, values, most, &mut log[..k], out)
 }
 
 // From the word MOST on.
