@@ -305,7 +305,17 @@ struct Sources {
     recvs: u32,
 }
 
-fn sources_of(q: Proc) -> Sources
+// What each node of procedure p does, if it has one target: the fields of its `Pass`, each in an array for all procedures. The answer is
+// the sources.
+fn plan(
+    q: Proc,
+    p: usize,
+    uses: &mut [u32; 256],
+    sets: &mut [u32; 256],
+    tos: &mut [u8; 256],
+) -> Sources
+    requires { ⌜ p < 8 ⌝ }
+    ensures plans { λ r. ⌜ Plans q p (now (uses .entry)) (now (sets .entry)) (now (tos .entry)) (now (uses .exit)) (now (sets .exit)) (now (tos .exit)) 32 ⌝ }
     ensures reads { λ r. ⌜ r .reads ≡ maskOf 32 (readIn q) ⌝ }
     ensures recvs { λ r. ⌜ r .recvs ≡ maskOf 32 (recvIn q) ⌝ }
 {
@@ -313,25 +323,11 @@ fn sources_of(q: Proc) -> Sources
     let mut recvs: u32 = 0;
     let mut n: usize = 0;
     while n < 32 {
-        let s = q.slots[n];
-        let x = s.node;
+        let y = q.slots[n];
+        let x = y.node;
         let k = source(x);
         reads = with(reads, n, k == 1);
         recvs = with(recvs, n, k == 2);
-        n += 1;
-    }
-    Sources { reads, recvs }
-}
-
-// What each node of procedure p does, if it has one target: the fields of its `Pass`, each in an array for all procedures.
-fn plan(q: Proc, p: usize, uses: &mut [u32; 256], sets: &mut [u32; 256], tos: &mut [u8; 256])
-    requires { ⌜ p < 8 ⌝ }
-    ensures { λ r. ⌜ Plans q p (now (uses .entry)) (now (sets .entry)) (now (tos .entry)) (now (uses .exit)) (now (sets .exit)) (now (tos .exit)) 32 ⌝ }
-{
-    let mut n: usize = 0;
-    while n < 32 {
-        let y = q.slots[n];
-        let x = y.node;
         let s = flow::pass_of(x, n);
         let at = p * 32 + n;
         uses[at] = s.uses;
@@ -339,6 +335,7 @@ fn plan(q: Proc, p: usize, uses: &mut [u32; 256], sets: &mut [u32; 256], tos: &m
         tos[at] = s.to as u8;
         n += 1;
     }
+    Sources { reads, recvs }
 }
 
 // What is dirty: the reads are seen at first, and each node after what comes to it has grown.
@@ -354,10 +351,9 @@ pub fn dirty_cells(t: Table) -> [u32; 265]
     let mut p: usize = 0;
     while p < 8 {
         let q = t.proc[p];
-        let s = sources_of(q);
+        let s = plan(q, p, &mut uses, &mut sets, &mut tos);
         recvs[p] = s.recvs;
         todo[p] = s.reads;
-        plan(q, p, &mut uses, &mut sets, &mut tos);
         p += 1;
     }
     let mut cells = [0u32; 265];

@@ -1,8 +1,8 @@
 -- How a list is written, item by item.
-use Prim.Native.Nat.{ℕ, zero, suc, _/_, _%_}
-use mathlib.Core.List.{List, [], _∷_, map}
+use Prim.Native.Nat.{ℕ, zero, suc, _*_, _/_, _%_}
+use mathlib.Core.List.{List, [], _∷_, _++_, map}
 use lib.Dec.{eqb}
-use Rattle.table.specs.Mask.{pick, also, members}
+use Rattle.table.specs.Mask.{also, members}
 use Rattle.text.specs.Number.{digits}
 use Rattle.text.specs.Value.{spellList, commas}
 
@@ -18,6 +18,11 @@ itemsText m = commas (map digits (members m))
 abbrev pub listText : ℕ → List ℕ
 listText m = spellList (map digits (members m))
 
--- what the number k adds at a place of a list that begins at another
-abbrev pub itemText : ℕ → ℕ → ℕ → List ℕ
-itemText from at k = pick (eqb at from) (digits k) (44 ∷ digits k)
+-- numbers, each behind a comma
+unfoldable pub further : List ℕ → List ℕ
+further [] = []
+further (x ∷ xs) = 44 ∷ (digits x ++ further xs)
+
+-- of the ten numbers with t tens those in a mask
+abbrev pub tenOf : ℕ → ℕ → List ℕ
+tenOf t m = above 10 (t * 10) m

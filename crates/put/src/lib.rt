@@ -2,13 +2,13 @@
 // buffer reaches: on an empty buffer they measure. Those named fill ask for room, and check nothing.
 
 ghost use mathlib.Core.List.{_∷_, []};
-ghost use Prim.Native.Nat.{_+_, _≤_, _<_};
+ghost use Prim.Native.Nat.{_+_, _*_, _≤_, _<_};
 ghost use lib.ListN.{length};
 ghost use Rattle.text.specs.Number.{digits};
 ghost use Rattle.text.specs.Value.{spellVariable};
 ghost use Rattle.text.specs.Format.{nameOf};
 ghost use Rattle.put.specs.Put.{Put, ByteAt, DigitsAt};
-ghost use Rattle.put.specs.Lists.{itemsText, listText, itemText};
+ghost use Rattle.put.specs.Lists.{above, further, tenOf, itemsText, listText};
 
 pub fn put_byte(out: &mut [u8], at: usize, b: u8) -> usize
     requires { ⌜ ByteAt at ⌝ }
@@ -82,7 +82,16 @@ pub fn fill_small(out: &mut [u8], at: usize, n: u8) -> usize
     fill_byte(out, b, 48 + n % 10)
 }
 
-// The same, clipped byte by byte: it is short enough to be compiled into the lines that use it.
+fn put_digits(out: &mut [u8], at: usize, n: u8) -> usize
+    requires { ⌜ DigitsAt at ⌝ }
+    ensures { λ r. ⌜ Put 3 (now (out .entry)) at (digits n) (now (out .exit)) r ⌝ }
+{
+    let mut t = [0u8; 3];
+    let k = fill_small(&mut t, 0, n);
+    put_text(out, at, &t[..k])
+}
+
+// As far as the buffer reaches: one digit, which is the most, is compiled into the lines that use it.
 pub fn put_small(out: &mut [u8], at: usize, n: u8) -> usize
     requires { ⌜ DigitsAt at ⌝ }
     ensures { λ r. ⌜ Put 3 (now (out .entry)) at (digits n) (now (out .exit)) r ⌝ }
@@ -90,13 +99,7 @@ pub fn put_small(out: &mut [u8], at: usize, n: u8) -> usize
     if n < 10 {
         return put_byte(out, at, 48 + n);
     }
-    if n < 100 {
-        let a = put_byte(out, at, 48 + n / 10);
-        return put_byte(out, a, 48 + n % 10);
-    }
-    let a = put_byte(out, at, 48 + n / 100);
-    let b = put_byte(out, a, 48 + n / 10 % 10);
-    put_byte(out, b, 48 + n % 10)
+    put_digits(out, at, n)
 }
 
 // A variable, or `-`.
@@ -110,40 +113,66 @@ pub fn fill_variable(out: &mut [u8], at: usize, v: u8) -> usize
     fill_small(out, at, v)
 }
 
-// The number k in a list that begins at from.
-fn fill_item(out: &mut [u8], at: usize, from: usize, k: u8) -> usize
-    requires { ⌜ at + 4 ≤ length (now out) ⌝ }
-    ensures { λ r. ⌜ Put 4 (now (out .entry)) at (itemText from at k) (now (out .exit)) r ⌝ }
+// A comma and the number of t tens and k ones.
+fn fill_item(out: &mut [u8], at: usize, t: u8, k: u8) -> usize
+    requires { ⌜ (at + 3 ≤ length (now out)) × ((t < 10) × (k < 10)) ⌝ }
+    ensures { λ r. ⌜ Put 3 (now (out .entry)) at (44 ∷ digits (t * 10 + k)) (now (out .exit)) r ⌝ }
 {
-    if at == from {
-        return fill_small(out, at, k);
-    }
     let a = fill_byte(out, at, 44);
-    fill_small(out, a, k)
+    if t == 0 {
+        return fill_byte(out, a, 48 + k);
+    }
+    let b = fill_byte(out, a, 48 + t);
+    fill_byte(out, b, 48 + k)
 }
 
-// The numbers in a mask with commas between.
-fn fill_items(out: &mut [u8], at: usize, m: u32) -> usize
-    requires { ⌜ at + 96 ≤ length (now out) ⌝ }
-    ensures { λ r. ⌜ Put 86 (now (out .entry)) at (itemsText m) (now (out .exit)) r ⌝ }
+// The numbers in a mask of ten, each behind a comma, with t tens before.
+fn fill_ten(out: &mut [u8], at: usize, t: u8, m: u32) -> usize
+    requires { ⌜ (at + 3 * length (tenOf t m) ≤ length (now out)) × ((t < 10) × (m < 1024)) ⌝ }
+    ensures { λ r. ⌜ Put (3 * length (tenOf t m)) (now (out .entry)) at (further (tenOf t m)) (now (out .exit)) r ⌝ }
 {
     let mut p = at;
     let mut rest = m;
     while rest != 0 {
         let k = u32::trailing_zeros(rest);
-        p = fill_item(out, p, at, k as u8);
+        p = fill_item(out, p, t, k as u8);
         rest = rest & (rest - 1);
     }
     p
+}
+
+// The numbers in a mask, each behind a comma.
+fn fill_further(out: &mut [u8], at: usize, m: u32) -> usize
+    requires { ⌜ at + 3 * length (above 32 0 m) ≤ length (now out) ⌝ }
+    ensures { λ r. ⌜ Put (3 * length (above 32 0 m)) (now (out .entry)) at (further (above 32 0 m)) (now (out .exit)) r ⌝ }
+{
+    let mut p = at;
+    let mut rest = m;
+    let mut t: u8 = 0;
+    while rest != 0 {
+        p = fill_ten(out, p, t, rest % 1024);
+        rest = rest / 1024;
+        t += 1;
+    }
+    p
+}
+
+// The numbers in a mask that has one, with commas between.
+fn fill_items(out: &mut [u8], at: usize, m: u32) -> usize
+    requires { ⌜ (at + 96 ≤ length (now out)) × (1 ≤ m) ⌝ }
+    ensures { λ r. ⌜ Put 86 (now (out .entry)) at (itemsText m) (now (out .exit)) r ⌝ }
+{
+    let k = u32::trailing_zeros(m);
+    let p = fill_small(out, at, k as u8);
+    fill_further(out, p, m & (m - 1))
 }
 
 pub fn fill_list(out: &mut [u8], at: usize, m: u32) -> usize
     requires { ⌜ at + 96 ≤ length (now out) ⌝ }
     ensures { λ r. ⌜ Put 86 (now (out .entry)) at (listText m) (now (out .exit)) r ⌝ }
 {
-    let p = fill_items(out, at, m);
-    if p == at {
+    if m == 0 {
         return fill_text(out, at, b"none");
     }
-    p
+    fill_items(out, at, m)
 }

@@ -40,6 +40,10 @@ pub record Own (kept : ℕ) (l : List ℕ) : Type 0 where
 unfoldable pub joined : List ℕ → List ℕ → ℕ → List ℕ
 joined ends l i = grown l i (bitOr (cell l (firstOf ends i)) (cell l (secondOf ends i)))
 
+-- node n, noted at its two targets
+unfoldable pub noted : List ℕ → List ℕ → ℕ → List ℕ
+noted ends r n = grown (grown r (firstOf ends n) (2 ^ n)) (secondOf ends n) (2 ^ n)
+
 -- 32 masks of nodes of gone: for each node those that have it as a target, but for those of left
 pub record Sources (ends : List ℕ) (gone left : ℕ) (r : List ℕ) : Type 0 where
   pub masks : Masks 32 32 r

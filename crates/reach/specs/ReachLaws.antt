@@ -17,7 +17,7 @@ use Rattle.table.specs.Mask.{pick, bit}
 use Rattle.masks.specs.Bits.{bit-zero, bit-one, bit-one-out, bit-low, bit-or, bit-minus, bit-and-out, bit-and-in, bit-or-out, bit-or-l, bit-or-r, without, without-less, without-out}
 use Rattle.masks.specs.Cells.{cell, sum, grown, Masks, masks-sum, Flag, grown-masks, Sound, grown-sound, grown-has, grown-adds, cell-zeros}
 use Rattle.masks.specs.Left.{left, less-left}
-use Rattle.reach.specs.Reach.{firstOf, secondOf, IsEnd, Leads, here, via, Reaches, Own, joined, Sources, droppedOf, lastOf}
+use Rattle.reach.specs.Reach.{firstOf, secondOf, IsEnd, Leads, here, via, Reaches, Own, joined, noted, Sources, droppedOf, lastOf}
 
 -- ---- members of a mask
 
@@ -60,9 +60,25 @@ module _ (ends : List ℕ) (gone : ℕ) where
   pub gather-end : {left : ℕ} {r : List ℕ} → Gathers left r → left ≡ 0 → Sources ends gone 0 r
   gather-end {left} {r} s e = subst (λ (x : ℕ). Sources ends gone x r) e (s .sources)
 
-  -- f and g: the two targets of node n
-  module _ {r r1 r2 : List ℕ} {left left′ n f g m : ℕ} (s : Gathers left r) (z : left ≢ 0) (at : n ≡ lastOf left) (e : f ≡ firstOf ends n) (e′ : g ≡ secondOf ends n) (w : m ≡ 2 ^ n) (p : r1 ≡ grown r f m) (p′ : r2 ≡ grown r1 g m)
-      (d : left′ ≡ without left n) where
+  -- node n is added
+  module _ {r r2 : List ℕ} {left left′ n : ℕ} (s : Gathers left r) (z : left ≢ 0) (at : n ≡ lastOf left) (p : r2 ≡ noted ends r n) (d : left′ ≡ without left n) where
+    -- its two targets
+    abbrev f : ℕ
+    f = firstOf ends n
+
+    abbrev g : ℕ
+    g = secondOf ends n
+
+    abbrev m : ℕ
+    m = 2 ^ n
+
+    abbrev r1 : List ℕ
+    r1 = grown r f m
+
+    both : r2 ≡ grown r1 g m
+    unfolding noted
+    both = p
+
     low : n < 32
     low = omega arith
 
@@ -73,33 +89,33 @@ module _ (ends : List ℕ) (gone : ℕ) where
     fewer = without-less left n (s .small) low held
 
     m-small : m < 2 ^ 32
-    m-small = rw w (pow-lt {i = n} {j = 32} low)
+    m-small = pow-lt {i = n} {j = 32} low
 
     m-only : (a : ℕ) → bit a m ≡ true → bit a gone ≡ true
-    m-only a h = let y : a ≡ n = bit-one-out a n (rw w at h) in rw y (s .within n held)
+    m-only a h = let y : a ≡ n = bit-one-out a n h in rw y (s .within n held)
 
     first-masks : Masks 32 32 r1
-    first-masks = rw p (grown-masks f m (s .sources .masks) m-small)
+    first-masks = grown-masks f m (s .sources .masks) m-small
 
     both-masks : Masks 32 32 r2
-    both-masks = rw p′ (grown-masks g m first-masks m-small)
+    both-masks = rw both (grown-masks g m first-masks m-small)
 
     first-only : Sound (λ b a. bit a gone ≡ true) r1
     unfolding Sound
-    first-only = rw p (grown-sound (λ b a. bit a gone ≡ true) r f m (λ b a h. s .sources .only a b h) m-only)
+    first-only = grown-sound (λ b a. bit a gone ≡ true) r f m (λ b a h. s .sources .only a b h) m-only
 
     both-only : Sound (λ b a. bit a gone ≡ true) r2
-    both-only = rw p′ (grown-sound (λ b a. bit a gone ≡ true) r1 g m first-only m-only)
+    both-only = rw both (grown-sound (λ b a. bit a gone ≡ true) r1 g m first-only m-only)
 
     first-has : (a b : ℕ) → bit a (cell r b) ≡ true → bit a (cell r1 b) ≡ true
-    first-has a b h = rw p (grown-has r f m b a h)
+    first-has a b h = grown-has r f m b a h
 
     second-has : (a b : ℕ) → bit a (cell r1 b) ≡ true → bit a (cell r2 b) ≡ true
-    second-has a b h = rw p′ (grown-has r1 g m b a h)
+    second-has a b h = rw both (grown-has r1 g m b a h)
 
     own : (b : ℕ) → IsEnd ends n b → bit n (cell r2 b) ≡ true
-    own b (inl y) = second-has n b (rw (y ∙ sym e, p) (grown-adds r f m n (omega (arith, s .sources .masks .size)) (rw w (bit-one n))))
-    own b (inr y) = rw (y ∙ sym e′, p′) (grown-adds r1 g m n (omega (arith, first-masks .size)) (rw w (bit-one n)))
+    own b (inl y) = second-has n b (rw y (grown-adds r f m n (omega (arith, s .sources .masks .size)) (bit-one n)))
+    own b (inr y) = rw (y, both) (grown-adds r1 g m n (omega (arith, first-masks .size)) (bit-one n))
 
     all-in : (a b : ℕ) → bit a gone ≡ true → bit a (without left n) ≡ false → IsEnd ends a b → bit a (cell r2 b) ≡ true
     all-in a b h k x = go (without-out left n a k)
@@ -123,6 +139,10 @@ module _ (ends : List ℕ) where
   pub joined-is : {l1 : List ℕ} (l : List ℕ) (i f g : ℕ) → f ≡ firstOf ends i → g ≡ secondOf ends i → l1 ≡ grown l i (bitOr (cell l f) (cell l g)) → l1 ≡ joined ends l i
   unfolding joined
   joined-is l i f g u v x = x ∙ ap (λ (a : ℕ). grown l i (bitOr (cell l a) (cell l g))) u ∙ ap (λ (a : ℕ). grown l i (bitOr (cell l (firstOf ends i)) (cell l a))) v
+
+  pub noted-is : {r1 r2 : List ℕ} {f g m : ℕ} (r : List ℕ) (n : ℕ) → f ≡ firstOf ends n → g ≡ secondOf ends n → m ≡ 2 ^ n → r1 ≡ grown r f m → r2 ≡ grown r1 g m → r2 ≡ noted ends r n
+  unfolding noted
+  noted-is r n u v w x y = rw (y, x, u, v, w) refl
 
 module _ (kept : ℕ) (ends : List ℕ) where
   -- what holds of the cells at every step
@@ -233,22 +253,14 @@ module _ (kept : ℕ) (ends : List ℕ) where
   pub search-end : {l : List ℕ} {todo : ℕ} → Search l todo → todo ≡ 0 → Reaches kept ends l
   search-end {l} s e = decided l (s .good) (λ n h b. s .done n h b (rw e (bit-zero n)))
 
-  module _ {l l′ from : List ℕ} {fresh : Bool} {i gone todo todo′ : ℕ} (s : Search l todo) (z : todo ≢ 0) (at : i ≡ lastOf todo) (sr₀ : Sources ends gone 0 from) (e : l′ ≡ joined ends l i) (f : Flag l l′ fresh)
-      (w : gone ≡ droppedOf kept) (d : todo′ ≡ pick fresh (bitOr (without todo i) (cell from i)) (without todo i)) where
-    here-low : i < 32
-    here-low = omega arith
-
-    seen : bit i todo ≡ true
-    seen = rw at (last-bit todo (s .small) z)
-
+  -- from has the sources of each node, but for those of some nodes that are to be seen
+  module _ {l l′ from : List ℕ} {fresh : Bool} {i rest todo todo′ : ℕ} (s : Search l todo) (here-low : i < 32) (seen : bit i todo ≡ true) (sr : Sources ends (droppedOf kept) rest from) (part : (n : ℕ) → bit n rest ≡ true → bit n todo ≡ true)
+      (e : l′ ≡ joined ends l i) (f : Flag l l′ fresh) (d : todo′ ≡ pick fresh (bitOr (without todo i) (cell from i)) (without todo i)) where
     less : without todo i < todo
     less = without-less todo i (s .small) here-low seen
 
     abbrev again : ℕ
     again = cell from i
-
-    sr : Sources ends (droppedOf kept) 0 from
-    sr = subst (λ (x : ℕ). Sources ends x 0 from) w sr₀
 
     next-good : Good l′
     next-good = rw e (step-good l i (s .only i seen) (s .good))
@@ -257,8 +269,12 @@ module _ (kept : ℕ) (ends : List ℕ) where
     own-rests = rw e (joined-own l i here-low (s .good))
 
     -- i is no target of a node that is not seen again
-    apart : (n : ℕ) → n < 32 → bit n kept ≡ false → bit n again ≡ false → IsEnd ends n i → ⊥
-    apart n h b y x = true≢false (sym (sr .all n i (dropped-has n h b) (bit-zero n) x) ∙ y)
+    apart : (n : ℕ) → n < 32 → bit n kept ≡ false → bit n todo ≡ false → bit n again ≡ false → IsEnd ends n i → ⊥
+    apart n h b t y x = go (bit n rest) refl
+      where
+        go : (v : Bool) → bit n rest ≡ v → ⊥
+        go true q = true≢false (sym (part n q) ∙ t)
+        go false q = true≢false (sym (sr .all n i (dropped-has n h b) q x) ∙ y)
 
     next-small : (b : Bool) → pick b (bitOr (without todo i) again) (without todo i) < 2 ^ 32
     next-small true = or-lt 32 _ _ (lt-trans less (s .small)) (sr .masks .below i)
@@ -284,7 +300,7 @@ module _ (kept : ℕ) (ends : List ℕ) where
     next-done true q n h u v = let w = not-in n (without todo i) again v in go (without-out todo i n (w .0))
       where
         go : (bit n todo ≡ false) ⊎ (n ≡ i) → Rests l′ n
-        go (inl y) = rw e (joined-other l i here-low (s .good) n (apart n h u (not-in n (without todo i) again v .1)) (s .done n h u y))
+        go (inl y) = rw e (joined-other l i here-low (s .good) n (apart n h u y (not-in n (without todo i) again v .1)) (s .done n h u y))
         go (inr y) = rw y own-rests
     next-done false q n h u v = go (without-out todo i n v)
       where
@@ -292,12 +308,71 @@ module _ (kept : ℕ) (ends : List ℕ) where
         go (inl y) = rw (f .same q) (s .done n h u y)
         go (inr y) = rw y own-rests
 
-    pub search-next : Search l′ todo′
-    search-next = rw d (record { good = next-good; small = next-small fresh; only = next-only fresh; done = next-done fresh refl })
+    step-next : Search l′ todo′
+    step-next = rw d (record { good = next-good; small = next-small fresh; only = next-only fresh; done = next-done fresh refl })
 
-    pub search-less : left 32 (2 ^ 32) l′ todo′ < left 32 (2 ^ 32) l todo
-    search-less = less-left 32 (2 ^ 32) l l′ todo (without todo i) todo′ (masks-sum (next-good .masks)) (rw d (omega (arith, next-small fresh))) (f .grows .up) (λ y. stays fresh refl d y) less
+    step-less : left 32 (2 ^ 32) l′ todo′ < left 32 (2 ^ 32) l todo
+    step-less = less-left 32 (2 ^ 32) l l′ todo (without todo i) todo′ (masks-sum (next-good .masks)) (rw d (omega (arith, next-small fresh))) (f .grows .up) (λ y. stays fresh refl d y) less
       where
         stays : (b : Bool) → fresh ≡ b → todo′ ≡ pick b (bitOr (without todo i) again) (without todo i) → sum l′ ≡ sum l → todo′ ≡ without todo i
         stays true q x y = absurd (omega (arith, f .more q, y))
         stays false q x y = x
+
+  -- ---- the first visits: the nodes of rest have not been seen
+
+  pub record Visits (l from : List ℕ) (todo rest : ℕ) : Type 0 where
+    pub found : Search l todo
+    pub gathers : Gathers ends (droppedOf kept) rest from
+    pub part : (n : ℕ) → bit n rest ≡ true → bit n todo ≡ true
+
+  pub visits-start : {l : List ℕ} {gone : ℕ} → Own kept l → gone ≡ droppedOf kept → Visits l (replicate 32 0) gone gone
+  visits-start o e = record { found = search-start o e; gathers = rw e (gather-start ends (droppedOf kept) dropped-small); part = λ n h. h }
+
+  module _ {l l′ from from′ : List ℕ} {fresh : Bool} {i todo todo′ rest rest′ : ℕ} (v : Visits l from todo rest) (z : rest ≢ 0) (at : i ≡ lastOf rest) (e : l′ ≡ joined ends l i) (f : Flag l l′ fresh)
+      (d : todo′ ≡ pick fresh (bitOr (without todo i) (cell from i)) (without todo i)) (p : from′ ≡ noted ends from i) (d′ : rest′ ≡ without rest i) where
+    new : bit i rest ≡ true
+    new = rw at (last-bit rest (v .gathers .small) z)
+
+    stays-in : (n : ℕ) → bit n (without rest i) ≡ true → bit n (without todo i) ≡ true
+    stays-in n h = go (bit n (without todo i)) refl
+      where
+        none : (bit n todo ≡ false) ⊎ (n ≡ i) → ⊥
+        none (inl y) = true≢false (sym (v .part n (without-in rest i n h)) ∙ y)
+        none (inr y) = let x : bit i (without rest i) ≡ false = rw (bit-minus, new, bit-one i) refl in true≢false (sym (rw y at h) ∙ x)
+
+        go : (b : Bool) → bit n (without todo i) ≡ b → bit n (without todo i) ≡ true
+        go true q = q
+        go false q = absurd (none (without-out todo i n q))
+
+    next-part : (b : Bool) (n : ℕ) → bit n (without rest i) ≡ true → bit n (pick b (bitOr (without todo i) (cell from i)) (without todo i)) ≡ true
+    next-part true n h = bit-or-l n (without todo i) (cell from i) (stays-in n h)
+    next-part false n h = stays-in n h
+
+    pub visits-next : Visits l′ from′ todo′ rest′
+    visits-next = record {
+      found = step-next (v .found) (omega arith) (v .part i new) (v .gathers .sources) (v .part) e f d;
+      gathers = gather-next ends (droppedOf kept) (v .gathers) z at p d′;
+      part = rw (d, d′) (next-part fresh);
+    }
+
+    pub visits-less : rest′ < rest
+    visits-less = gather-less ends (droppedOf kept) (v .gathers) z at p d′
+
+  -- ---- all nodes have been seen
+
+  module _ {l l′ l₀ from : List ℕ} {fresh : Bool} {i todo todo′ todo₀ rest : ℕ} (s : Search l todo) (z : todo ≢ 0) (at : i ≡ lastOf todo) (v : Visits l₀ from todo₀ rest) (o : rest ≡ 0) (e : l′ ≡ joined ends l i) (f : Flag l l′ fresh)
+      (d : todo′ ≡ pick fresh (bitOr (without todo i) (cell from i)) (without todo i)) where
+    all : Sources ends (droppedOf kept) 0 from
+    all = gather-end ends (droppedOf kept) (v .gathers) o
+
+    none-left : (n : ℕ) → bit n 0 ≡ true → bit n todo ≡ true
+    none-left n h = absurd (false≢true (sym (bit-zero n) ∙ h))
+
+    old : bit i todo ≡ true
+    old = rw at (last-bit todo (s .small) z)
+
+    pub search-next : Search l′ todo′
+    search-next = step-next s (omega arith) old all none-left e f d
+
+    pub search-less : left 32 (2 ^ 32) l′ todo′ < left 32 (2 ^ 32) l todo
+    search-less = step-less s (omega arith) old all none-left e f d

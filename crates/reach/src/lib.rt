@@ -6,7 +6,7 @@ ghost use lib.Bits.{bitOr};
 ghost use Rattle.table.specs.Mask.{pick};
 ghost use Rattle.masks.specs.Bits.{without};
 ghost use Rattle.masks.specs.Cells.{grown, Flag};
-ghost use Rattle.reach.specs.Reach.{joined, Own, Sources, droppedOf, lastOf, Reaches};
+ghost use Rattle.reach.specs.Reach.{joined, noted, Own, droppedOf, lastOf, Reaches};
 
 // The mask m is added to the cell a; the answer says whether something was new.
 fn grow(cells: &mut [u32; 32], a: usize, m: u32) -> bool
@@ -60,23 +60,17 @@ fn own(kept: u32) -> [u32; 32]
     cells
 }
 
-// For each node those of gone that have it as a target.
-fn sources(ends: &[u32; 32], gone: u32) -> [u32; 32]
-    ensures { λ r. ⌜ Sources (now (ends .entry)) gone 0 r ⌝ }
+// Node n is noted at its two targets.
+fn note(ends: &[u32; 32], n: usize, from: &mut [u32; 32])
+    requires { ⌜ (n < 32) × (length (now from) ≡ 32) ⌝ }
+    ensures { λ r. ⌜ now (from .exit) ≡ noted (now (ends .entry)) (now (from .entry)) n ⌝ }
 {
-    let mut r = [0u32; 32];
-    let mut left = gone;
-    while left != 0 {
-        let n = last(left);
-        let e = ends[n];
-        let f = first(e);
-        let s = second(e);
-        let m = 1 << (n as u32);
-        grow(&mut r, f, m);
-        grow(&mut r, s, m);
-        left = masks::minus(left, n);
-    }
-    r
+    let e = ends[n];
+    let f = first(e);
+    let s = second(e);
+    let m = 1 << (n as u32);
+    grow(from, f, m);
+    grow(from, s, m);
 }
 
 // The nodes that are not kept.
@@ -103,14 +97,24 @@ fn next(todo: u32, i: usize, fresh: bool, m: u32) -> u32
 }
 
 // For each node the kept nodes that it leads to through nodes that are not kept. ends has the two targets of each node,
-// 32 times the first plus the second. A node is seen at first, and again after a target of it has got something new; the last first.
+// 32 times the first plus the second. Each node is seen once, and again after a target of it has got something new; the last first.
+// from has for each node those seen that have it as a target.
 pub fn reach(kept: u32, ends: &[u32; 32]) -> [u32; 32]
     ensures { λ r. ⌜ Reaches kept (now (ends .entry)) r ⌝ }
 {
     let mut cells = own(kept);
     let gone = dropped(kept);
-    let from = sources(ends, gone);
+    let mut from = [0u32; 32];
     let mut todo = gone;
+    let mut left = gone;
+    while left != 0 {
+        let n = last(left);
+        let again = step(ends, n, &mut cells);
+        let k = from[n];
+        todo = next(todo, n, again, k);
+        note(ends, n, &mut from);
+        left = masks::minus(left, n);
+    }
     while todo != 0 {
         let i = last(todo);
         let fresh = step(ends, i, &mut cells);

@@ -4,7 +4,7 @@ use mathlib.Core.Path.{_≡_}
 use mathlib.Core.List.{List, _++_}
 use mathlib.Core.Bool.{Bool}
 use lib.ListN.{getD}
-use Rattle.table.specs.Table.{noSlot, outside}
+use Rattle.table.specs.Table.{noSlot, outside, taskAt, semAt, queueAt}
 use Rattle.table.specs.declared.Slot.{Slot}
 use Rattle.table.specs.declared.Task.{Task}
 use Rattle.table.specs.declared.Sem.{Sem}
@@ -15,7 +15,7 @@ use Rattle.text.specs.Number.{bytes}
 use Rattle.text.specs.Reader.{concat}
 use Rattle.text.specs.Writer.{fitted}
 use Rattle.text.specs.declared.Writing.{Writing}
-use Rattle.lines.specs.Lines.{FewArgs, pairText, queueText, procLineText, nodeBytes}
+use Rattle.lines.specs.Lines.{FewArgs, headText, countsText, pairText, queueText, procLineText, nodeBytes}
 
 -- ---- counts
 
@@ -58,6 +58,14 @@ procBytes closed i q = procLineText closed i (q .params) (q .vars) (q .nodes) (q
 
 abbrev pub procsBytes : Bool → List Proc → ℕ → List ℕ
 procsBytes closed procs i = procBytes closed i (getD procs i outside)
+
+-- the lines before the procedures
+unfoldable pub frontBytes : Table → List ℕ
+frontBytes t = headText (t .trap) (t .closed)
+    ++ (countsText (t .tasks) (t .procs) (t .sems) (t .queues)
+    ++ (concat (λ i. taskBytes i (taskAt t i)) (t .tasks) 0
+    ++ (concat (λ i. semBytes i (semAt t i)) (t .sems) 0
+    ++ concat (λ i. queueBytes (t .closed) i (queueAt t i)) (t .queues) 0)))
 
 -- ---- the answer: the text with every byte behind it as before; or 8, and every byte as before, where the buffer is shorter than the text
 pub record WrittenAs (s before after : List ℕ) (r : Writing) : Type 0 where

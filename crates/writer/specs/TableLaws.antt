@@ -1,7 +1,7 @@
 -- Laws of a table's lines, one after another.
 use Prim.Native.Nat.{ℕ, _+_, _*_, _≤_, _<_}
 use mathlib.Core.Path.{_≡_, refl, _∙_, ap}
-use mathlib.Core.List.{List, [], _∷_, _++_}
+use mathlib.Core.List.{List, [], _∷_, _++_, append-assoc}
 use native.Mathlib.Omega.{arith}
 use lib.ListN.{length, drop}
 use lib.Seq.{sets-eq}
@@ -15,10 +15,10 @@ use Rattle.text.specs.Writer.{text, procText, scope, nodeText, queueVals, fitte
 use Rattle.text.specs.Fault.{number}
 use Rattle.put.specs.Put.{Put}
 use Rattle.put.specs.PutLaws.{put-after, put-more}
-use Rattle.put.specs.RowLaws.{concat-same}
+use Rattle.put.specs.RowLaws.{concat-same, PutRows, rows-end}
 use Rattle.lines.specs.Lines.{headText, countsText}
 use Rattle.lines.specs.LineLaws.{head-text, counts-text, task-text, sem-text, queue-text, proc-text, node-scope}
-use Rattle.writer.specs.Table.{taskBytes, semBytes, queueBytes, slotBytes, procsBytes, WrittenAs}
+use Rattle.writer.specs.Table.{taskBytes, semBytes, queueBytes, slotBytes, procsBytes, frontBytes, Counts, WrittenAs}
 
 -- ---- the whole text
 
@@ -27,13 +27,11 @@ proc-bytes t i =
     let q = procAt t i in
     rw (proc-text (t .closed) i q, concat-same (λ j. nodeText (scope t q) j (describe (scope t q) (nodeIn q j))) (slotBytes (q .slots)) (λ j. node-scope (scope t q) j (nodeIn q j)) (q .nodes) 0)
 
-pub table-text : (t : Table) → text t ≡ headText (t .trap) (t .closed)
-    ++ (countsText (t .tasks) (t .procs) (t .sems) (t .queues)
-    ++ (concat (λ i. taskBytes i (taskAt t i)) (t .tasks) 0
-    ++ (concat (λ i. semBytes i (semAt t i)) (t .sems) 0
-    ++ (concat (λ i. queueBytes (t .closed) i (queueAt t i)) (t .queues) 0
-    ++ concat (procsBytes (t .closed) (t .proc)) (t .procs) 0))))
-unfolding text
+regroup : (a b c d e f : List ℕ) → a ++ (b ++ (c ++ (d ++ (e ++ f)))) ≡ (a ++ (b ++ (c ++ (d ++ e)))) ++ f
+regroup a b c d e f = simp append-assoc
+
+table-text : (t : Table) → text t ≡ frontBytes t ++ concat (procsBytes (t .closed) (t .proc)) (t .procs) 0
+unfolding text frontBytes
 table-text t = rw (
   head-text (t .trap) (t .closed),
   counts-text (t .tasks) (t .procs) (t .sems) (t .queues),
@@ -41,18 +39,23 @@ table-text t = rw (
   concat-same (λ i. write (semLine i) (i, (semAt t i .count, tt))) (λ i. semBytes i (semAt t i)) (λ i. sem-text i (semAt t i .count)) (t .sems) 0,
   concat-same (λ i. write (queueLine (t .closed) i) (queueVals (t .closed) i (queueAt t i))) (λ i. queueBytes (t .closed) i (queueAt t i)) (λ i. queue-text (t .closed) i (queueAt t i)) (t .queues) 0,
   concat-same (procText t) (procsBytes (t .closed) (t .proc)) (proc-bytes t) (t .procs) 0,
-)
+) (regroup (headText (t .trap) (t .closed)) (countsText (t .tasks) (t .procs) (t .sems) (t .queues))
+    (concat (λ i. taskBytes i (taskAt t i)) (t .tasks) 0) (concat (λ i. semBytes i (semAt t i)) (t .sems) 0) (concat (λ i. queueBytes (t .closed) i (queueAt t i)) (t .queues) 0)
+    (concat (procsBytes (t .closed) (t .proc)) (t .procs) 0))
 
 -- the parts, one after another, are the text
-module _ {l m n o i j k : List ℕ} {p q r s u v : ℕ} where
-  pub table-put : (t : Table) → t .tasks ≤ 4 → t .sems ≤ 8 → t .queues ≤ 8 → t .procs ≤ 8 → Put 40 l 0 (headText (t .trap) (t .closed)) m p
+module _ {l m n o i j : List ℕ} {p q r s u : ℕ} where
+  pub front-put : (t : Table) → Counts t → Put 40 l 0 (headText (t .trap) (t .closed)) m p
       → Put 40 m p (countsText (t .tasks) (t .procs) (t .sems) (t .queues)) n q
       → Put (40 * t .tasks) n q (concat (λ a. taskBytes a (taskAt t a)) (t .tasks) 0) o r
       → Put (40 * t .sems) o r (concat (λ a. semBytes a (semAt t a)) (t .sems) 0) i s
       → Put (40 * t .queues) i s (concat (λ a. queueBytes (t .closed) a (queueAt t a)) (t .queues) 0) j u
-      → Put (7820 * t .procs) j u (concat (procsBytes (t .closed) (t .proc)) (t .procs) 0) k v
-      → Put 65536 l 0 (text t) k v
-  table-put t e f g h a b c d w x = rw (table-text t) (put-more (omega arith) (put-after a (put-after b (put-after c (put-after d (put-after w x))))))
+      → Put 880 l 0 (frontBytes t) j u
+  unfolding frontBytes
+  front-put t h a b c d w = put-more (omega arith) (put-after a (put-after b (put-after c (put-after d w))))
+
+pub table-put : {l m n : List ℕ} {p r i : ℕ} (t : Table) → Counts t → Put 880 l 0 (frontBytes t) m p → PutRows 7820 (procsBytes (t .closed) (t .proc)) m p n r i → i ≤ t .procs → t .procs ≤ i → Put 65536 l 0 (text t) n r
+table-put t h a b f g = rw (table-text t) (put-more (omega (arith, h .procs .count)) (put-after a (rows-end b f g)))
 
 -- ---- the answer
 

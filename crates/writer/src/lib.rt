@@ -20,7 +20,7 @@ ghost use Rattle.table.specs.Table.{noTask, noSem, noQueue};
 ghost use Rattle.text.specs.Reader.{concat};
 ghost use Rattle.text.specs.Writer.{text};
 ghost use Rattle.put.specs.Put.{Put, LineAt, LinesAt, TableAt};
-ghost use Rattle.writer.specs.Table.{NodesIn, ProcIn, ProcsIn, Counts, taskBytes, semBytes, queueBytes, slotBytes, procBytes, procsBytes, WrittenAs};
+ghost use Rattle.writer.specs.Table.{NodesIn, ProcIn, Counts, taskBytes, semBytes, queueBytes, slotBytes, procBytes, frontBytes, WrittenAs};
 
 // The node lines of a procedure.
 fn put_nodes(out: &mut [u8], at: usize, slots: [Slot; 32], n: u8) -> usize
@@ -47,21 +47,6 @@ fn put_proc(out: &mut [u8], at: usize, closed: bool, i: u8, q: Proc) -> usize
     let a = put_proc_line(out, at, closed, i, q.params, q.vars, q.nodes, q.drop);
     let slots = q.slots;
     put_nodes(out, a, slots, q.nodes)
-}
-
-fn put_procs(out: &mut [u8], at: usize, closed: bool, procs: [Proc; 8], n: u8) -> usize
-    requires { ⌜ (TableAt at) × (ProcsIn procs n) ⌝ }
-    ensures { λ r. ⌜ Put (7820 * n) (now (out .entry)) at (concat (procsBytes closed procs) n 0) (now (out .exit)) r ⌝ }
-{
-    let mut p = at;
-    let mut i: u8 = 0;
-    while i < n {
-        let k = i as usize;
-        let q = procs[k];
-        p = put_proc(out, p, closed, i, q);
-        i += 1;
-    }
-    p
 }
 
 fn put_task(out: &mut [u8], at: usize, i: u8, x: Task) -> usize
@@ -123,10 +108,10 @@ fn put_queues(out: &mut [u8], at: usize, closed: bool, queues: [Queue; 8], n: u8
     p
 }
 
-// A table's text, from the buffer's start.
-pub fn put_table(out: &mut [u8], t: Table) -> usize
+// The lines before the procedures.
+fn put_front(out: &mut [u8], t: Table) -> usize
     requires { ⌜ Counts t ⌝ }
-    ensures { λ r. ⌜ Put 65536 (now (out .entry)) 0 (text t) (now (out .exit)) r ⌝ }
+    ensures { λ r. ⌜ Put 880 (now (out .entry)) 0 (frontBytes t) (now (out .exit)) r ⌝ }
 {
     let a = put_head_line(out, 0, t.trap, t.closed);
     let b = put_counts_line(out, a, t.tasks, t.procs, t.sems, t.queues);
@@ -135,9 +120,23 @@ pub fn put_table(out: &mut [u8], t: Table) -> usize
     let sems = t.sem;
     let d = put_sems(out, c, sems, t.sems);
     let queues = t.queue;
-    let e = put_queues(out, d, t.closed, queues, t.queues);
-    let procs = t.proc;
-    put_procs(out, e, t.closed, procs, t.procs)
+    put_queues(out, d, t.closed, queues, t.queues)
+}
+
+// A table's text, from the buffer's start. The procedures are gone through here, so that the compiler copies one at a time.
+pub fn put_table(out: &mut [u8], t: Table) -> usize
+    requires { ⌜ Counts t ⌝ }
+    ensures { λ r. ⌜ Put 65536 (now (out .entry)) 0 (text t) (now (out .exit)) r ⌝ }
+{
+    let mut p = put_front(out, t);
+    let mut i: u8 = 0;
+    while i < t.procs {
+        let k = i as usize;
+        let q = t.proc[k];
+        p = put_proc(out, p, t.closed, i, q);
+        i += 1;
+    }
+    p
 }
 
 // The text of a table that has no fault, or 8 where the buffer is shorter. No table's text is longer than 65,536 bytes.

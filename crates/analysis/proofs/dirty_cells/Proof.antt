@@ -37,24 +37,20 @@ element-copy-out-q :
     tie.Need-element-copy-out-q Inv-loop μ-loop Inv-loop2 μ-loop2 Inv-loop3 μ-loop3
 element-copy-out-q c = search needs
 
-sources-of-requires :
-    tie.Need-sources-of-requires Inv-loop μ-loop Inv-loop2 μ-loop2 Inv-loop3 μ-loop3
-sources-of-requires c κs = search needs
+plan-requires : tie.Need-plan-requires Inv-loop μ-loop Inv-loop2 μ-loop2 Inv-loop3 μ-loop3
+plan-requires c κs = c .before .before .before .before .loop-test .taken
 
 mul-recvs : tie.Need-mul-recvs Inv-loop μ-loop Inv-loop2 μ-loop2 Inv-loop3 μ-loop3
 mul-recvs c = search needs
 
 array-write-recvs : tie.Need-array-write-recvs Inv-loop μ-loop Inv-loop2 μ-loop2 Inv-loop3 μ-loop3
-array-write-recvs c = omega (arith, c .before .before .before .loop .inv .recvs-size)
+array-write-recvs c = omega (arith, c .before .before .before .before .before .before .loop .inv .recvs-size)
 
 mul-todo : tie.Need-mul-todo Inv-loop μ-loop Inv-loop2 μ-loop2 Inv-loop3 μ-loop3
 mul-todo c = search needs
 
 array-write-todo : tie.Need-array-write-todo Inv-loop μ-loop Inv-loop2 μ-loop2 Inv-loop3 μ-loop3
-array-write-todo c = omega (arith, c .before .before .before .loop .inv .reads-size)
-
-plan-requires : tie.Need-plan-requires Inv-loop μ-loop Inv-loop2 μ-loop2 Inv-loop3 μ-loop3
-plan-requires c κs = c .before .before .before .before .before .loop-test .taken
+array-write-todo c = omega (arith, c .before .before .before .before .before .before .loop .inv .reads-size)
 
 add-p : tie.Need-add-p Inv-loop μ-loop Inv-loop2 μ-loop2 Inv-loop3 μ-loop3
 add-p c = search needs
@@ -63,7 +59,7 @@ loop-less : tie.Need-loop-less Inv-loop μ-loop Inv-loop2 μ-loop2 Inv-loop3 μ-
 loop-less c = search needs
 
 loop-again : tie.Need-loop-again Inv-loop μ-loop Inv-loop2 μ-loop2 Inv-loop3 μ-loop3
-loop-again c = scanned-next (c .before .before .before .before .before .before .before .loop .p) (c .before .before .before .before .before .before .loop-test .taken) (c .before .before .before .before .sources-of .ensures .1) (c .before .before .before .before .sources-of .ensures .0) (c .plan .ensures) (c .before .before .before .before .before .before .before .loop .inv)
+loop-again c = scanned-next (c .before .before .before .before .before .before .loop .p) (c .before .before .before .before .before .loop-test .taken) (c .plan .ensures .1 .1) (c .plan .ensures .1 .0) (c .plan .ensures .0) (c .before .before .before .before .before .before .loop .inv)
 
 cast-tasks : tie.Need-cast-tasks Inv-loop μ-loop Inv-loop2 μ-loop2 Inv-loop3 μ-loop3
 cast-tasks c = search needs
@@ -143,12 +139,11 @@ dirty-cells-spec =
     loop-holds
     mul-q
     element-copy-out-q
-    sources-of-requires
+    plan-requires
     mul-recvs
     array-write-recvs
     mul-todo
     array-write-todo
-    plan-requires
     add-p
     loop-less
     loop-again

@@ -1,4 +1,9 @@
-use Prim.Native.Nat.{_-_}
+use Prim.Native.Nat.{ℕ, _-_}
+use mathlib.Core.Path.{_≡_, refl, ap}
+use lib.Dec.{eqb}
+use Rattle.table.specs.Mask.{maskOf}
+use Rattle.masks.specs.Bits.{mask-next}
+use Rattle.analysis.specs.Sources.{readIn, recvIn}
 use Rattle.analysis.specs.Plans.{Plans, pass-small, plans-start, plans-next, plans-end}
 use borrow.Author.Needs.{needs}
 use native.Mathlib.Omega.{arith}
@@ -6,19 +11,29 @@ use Rattle.analysis.proofs.plan.Statement.{statement}
 use Rattle.analysis.proofs.plan.Tie as tie
 
 abbrev Inv-loop : tie.InvT-loop
-Inv-loop p uses₀ sets₀ tos₀ q n₀ uses sets tos n = Plans q p uses₀ sets₀ tos₀ uses sets tos n
+Inv-loop p uses₀ sets₀ tos₀ q reads₀ recvs₀ n₀ uses sets tos reads recvs n = Plans q p uses₀ sets₀ tos₀ uses sets tos n × ((reads ≡ maskOf n (readIn q)) × (recvs ≡ maskOf n (recvIn q)))
 
 abbrev μ-loop : tie.MeasureT-loop
-μ-loop p uses₀ sets₀ tos₀ q n₀ uses sets tos n = 32 - n
+μ-loop p uses₀ sets₀ tos₀ q reads₀ recvs₀ n₀ uses sets tos reads recvs n = 32 - n
 
 loop-holds : tie.Need-loop-holds Inv-loop μ-loop
-loop-holds c = plans-start _ _ _ _ _
+unfolding maskOf
+loop-holds c = (plans-start _ _ _ _ _, (refl, refl))
 
 mul-y : tie.Need-mul-y Inv-loop μ-loop
 mul-y c = search needs
 
 element-copy-out-y : tie.Need-element-copy-out-y Inv-loop μ-loop
 element-copy-out-y c = search needs
+
+source-requires : tie.Need-source-requires Inv-loop μ-loop
+source-requires c κs = search needs
+
+with-requires : tie.Need-with-requires Inv-loop μ-loop
+with-requires c κs = search needs
+
+with-requires-2 : tie.Need-with-requires-2 Inv-loop μ-loop
+with-requires-2 c κs = search needs
 
 pass-of-requires : tie.Need-pass-of-requires Inv-loop μ-loop
 pass-of-requires c κs = search needs
@@ -42,7 +57,7 @@ element-write-sets : tie.Need-element-write-sets Inv-loop μ-loop
 element-write-sets c = search needs
 
 cast-tos : tie.Need-cast-tos Inv-loop μ-loop
-cast-tos c = omega (arith, pass-small _ _ (c .before .pass-of .ensures) (c .before .before .before .before .loop .inv .low))
+cast-tos c = omega (arith, pass-small _ _ (c .before .pass-of .ensures) (c .before .before .before .before .before .before .before .loop .inv .0 .low))
 
 element-write-tos : tie.Need-element-write-tos Inv-loop μ-loop
 element-write-tos c = search needs
@@ -54,10 +69,10 @@ loop-less : tie.Need-loop-less Inv-loop μ-loop
 loop-less c = search needs
 
 loop-again : tie.Need-loop-again Inv-loop μ-loop
-loop-again c = plans-next _ (c .before .before .before .before .loop .n) (c .before .before .before .before .before .pre) (c .before .before .before .loop-test .taken) (c .before .pass-of .ensures) (c .before .before .before .before .loop .inv)
+loop-again c = let h = c .before .before .before .before .before .before .before .loop in (plans-next _ (h .n) (c .before .before .before .before .before .before .before .before .pre) (c .before .before .before .before .before .before .loop-test .taken) (c .before .pass-of .ensures) (h .inv .0), (mask-next _ (h .n) (h .reads) _ (h .inv .1 .0) (ap (λ (k : ℕ). eqb k 1) (c .before .before .before .before .source .ensures)) (c .before .before .before .with .ensures), mask-next _ (h .n) (h .recvs) _ (h .inv .1 .1) (ap (λ (k : ℕ). eqb k 2) (c .before .before .before .before .source .ensures)) (c .before .before .with2 .ensures)))
 
 returns : tie.Need-returns Inv-loop μ-loop
-returns c = plans-end (omega (arith, c .loop-test .left)) (c .before .loop .inv)
+returns c = let h = c .before .loop in let z : h .n ≡ 32 = omega (arith, h .inv .0 .low, c .loop-test .left) in (plans-end (omega (arith, c .loop-test .left)) (h .inv .0), (rw z at (h .inv .1 .0), rw z at (h .inv .1 .1)))
 
 pub plan-spec : {M : Type 1} → statement M
 plan-spec =
@@ -68,6 +83,9 @@ plan-spec =
     loop-holds
     mul-y
     element-copy-out-y
+    source-requires
+    with-requires
+    with-requires-2
     pass-of-requires
     mul-at
     add-at

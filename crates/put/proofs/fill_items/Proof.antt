@@ -1,51 +1,34 @@
--- The loop's invariant: the numbers taken out of the mask stand at their place.
-use Rattle.put.specs.ListLaws.{Listing, listing-start, listing-below, listing-place, listing-same, listing-turn, listing-end, listing-less}
-use borrow.Author.Needs.{needs}
+use Rattle.put.specs.ListLaws.{first-below, further-few, items-put}
 use native.Mathlib.Omega.{arith}
+use borrow.Author.Needs.{needs}
 use Rattle.put.proofs.fill_items.Statement.{statement}
 use Rattle.put.proofs.fill_items.Tie as tie
 
-abbrev Inv-loop : tie.InvT-loop
-Inv-loop out₀ at m p₀ rest₀ out p rest = Listing out₀ at m out p rest
+cast-fill-small : tie.Need-cast-fill-small
+cast-fill-small c = omega (arith, first-below (c .before .before .args .m) (omega arith) (c .before .before .pre .1))
 
-abbrev μ-loop : tie.MeasureT-loop
-μ-loop out₀ at m p₀ rest₀ out p rest = rest
+fill-small-requires : tie.Need-fill-small-requires
+fill-small-requires c κs = search needs
 
-loop-holds : tie.Need-loop-holds Inv-loop μ-loop
-loop-holds c = listing-start _ (omega arith)
+sub-fill-further : tie.Need-sub-fill-further
+sub-fill-further c = search needs
 
-cast-fill-item : tie.Need-cast-fill-item Inv-loop μ-loop
-cast-fill-item c = omega (arith, listing-below (c .before .before .loop .inv) (omega arith))
+fill-further-requires : tie.Need-fill-further-requires
+fill-further-requires c κs = omega (arith, further-few (c .before .before .before .before .before .before .args .m) (omega arith) (c .before .before .before .before .before .before .pre .1))
 
-fill-item-requires : tie.Need-fill-item-requires Inv-loop μ-loop
-fill-item-requires c κs = listing-place (c .before .before .loop .inv) (c .before .before .before .before .pre)
+same-length : tie.Need-same-length
+same-length c = search needs
 
-sub-rest : tie.Need-sub-rest Inv-loop μ-loop
-sub-rest c = search needs
-
-loop-less : tie.Need-loop-less Inv-loop μ-loop
-loop-less c = listing-less _ (omega arith)
-
-loop-again : tie.Need-loop-again Inv-loop μ-loop
-loop-again c = listing-turn (c .before .before .before .before .before .loop .inv) (omega arith) (c .before .before .fill-item .ensures)
-
-same-length : tie.Need-same-length Inv-loop μ-loop
-same-length c = search (needs, listing-same)
-
-returns : tie.Need-returns Inv-loop μ-loop
-returns c = listing-end (c .before .loop .inv) (omega arith)
+returns : tie.Need-returns
+returns c = items-put _ (omega arith) (c .before .before .before .before .before .before .before .before .before .pre .1) (c .before .before .before .before .before .before .fill-small .ensures) (c .before .before .fill-further .ensures)
 
 pub fill-items-spec : {M : Type 1} → statement M
 fill-items-spec =
     tie.close
     (tie.spec
-    Inv-loop
-    μ-loop
-    loop-holds
-    cast-fill-item
-    fill-item-requires
-    sub-rest
-    loop-less
-    loop-again
+    cast-fill-small
+    fill-small-requires
+    sub-fill-further
+    fill-further-requires
     same-length
     returns)

@@ -1,4 +1,4 @@
-use Rattle.put.specs.PutLaws.{put-digit, put-two, put-three}
+use Rattle.put.specs.PutLaws.{put-digit}
 use borrow.Author.Needs.{needs}
 use Rattle.put.proofs.put_small.Statement.{statement}
 use Rattle.put.proofs.put_small.Tie as tie
@@ -15,47 +15,14 @@ same-length c = search needs
 returns : tie.Need-returns
 returns c = search (needs, put-digit)
 
-add-put-byte-2 : tie.Need-add-put-byte-2
-add-put-byte-2 c = search needs
-
-put-byte-requires-2 : tie.Need-put-byte-requires-2
-put-byte-requires-2 c κs = search needs
-
-add-put-byte-3 : tie.Need-add-put-byte-3
-add-put-byte-3 c = search needs
-
-put-byte-requires-3 : tie.Need-put-byte-requires-3
-put-byte-requires-3 c κs = search needs
+put-digits-requires : tie.Need-put-digits-requires
+put-digits-requires c κs = search needs
 
 same-length-2 : tie.Need-same-length-2
 same-length-2 c = search needs
 
 returns-2 : tie.Need-returns-2
-returns-2 c = search (needs, put-two)
-
-add-put-byte-4 : tie.Need-add-put-byte-4
-add-put-byte-4 c = search needs
-
-put-byte-requires-4 : tie.Need-put-byte-requires-4
-put-byte-requires-4 c κs = search needs
-
-add-put-byte-5 : tie.Need-add-put-byte-5
-add-put-byte-5 c = search needs
-
-put-byte-requires-5 : tie.Need-put-byte-requires-5
-put-byte-requires-5 c κs = search needs
-
-add-put-byte-6 : tie.Need-add-put-byte-6
-add-put-byte-6 c = search needs
-
-put-byte-requires-6 : tie.Need-put-byte-requires-6
-put-byte-requires-6 c κs = search needs
-
-same-length-3 : tie.Need-same-length-3
-same-length-3 c = search needs
-
-returns-3 : tie.Need-returns-3
-returns-3 c = search (needs, put-three)
+returns-2 c = search needs
 
 pub put-small-spec : {M : Type 1} → statement M
 put-small-spec =
@@ -65,17 +32,6 @@ put-small-spec =
     put-byte-requires
     same-length
     returns
-    add-put-byte-2
-    put-byte-requires-2
-    add-put-byte-3
-    put-byte-requires-3
+    put-digits-requires
     same-length-2
-    returns-2
-    add-put-byte-4
-    put-byte-requires-4
-    add-put-byte-5
-    put-byte-requires-5
-    add-put-byte-6
-    put-byte-requires-6
-    same-length-3
-    returns-3)
+    returns-2)
