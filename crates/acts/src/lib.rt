@@ -1,10 +1,9 @@
 // A node executed, one arm a kind.
 ghost use mathlib.Core.Path.{_≡_};
-ghost use Prim.Native.Nat.{_<_, _≤_, _+_};
+ghost use Prim.Native.Nat.{_≤_};
 ghost use lib.ListN.{length};
 ghost use Rattle.table.specs.Table.{arcTo};
-ghost use Rattle.machine.specs.Step.{valueOf};
-ghost use Rattle.steps.specs.Cut.{Within, triedOf, triedHere, passOf, backOf, directTo, directShows, RowsOf, Straight};
+ghost use Rattle.steps.specs.Cut.{Within, triedOf, passOf, backOf};
 use table::Node;
 
 // A node executed within its frame, or blocked; of a return, `back` is the arc of the call that it goes back to. The queues are their lengths,
@@ -203,139 +202,5 @@ pub fn closes(x: Node) -> u8
         Node::Assert { var: _, to: _ } => 0,
         Node::Out { var: _, to: _ } => 0,
         Node::Return => 1,
-    }
-}
-
-// The length of a queue that was not full, after an item more.
-fn longer(len: u8, cap: u8) -> u8
-    requires { ⌜ len < cap ⌝ }
-    ensures { λ r. ⌜ r ≡ len + 1 ⌝ }
-{
-    len + 1
-}
-
-fn leads(node: u8) -> steps::Direct
-    ensures { λ r. ⌜ r ≡ directTo node ⌝ }
-{
-    steps::Direct {
-        node,
-        flag: 0,
-        bits: 0,
-    }
-}
-
-fn leads_showing(vars: &[i32; 16], v: u8, node: u8) -> steps::Direct
-    requires { ⌜ length (now vars) ≡ 16 ⌝ }
-    ensures { λ r. ⌜ r ≡ directShows node (valueOf (now (vars .entry)) v) ⌝ }
-{
-    if v == 255 {
-        return leads(node);
-    }
-    steps::Direct {
-        node,
-        flag: 1,
-        bits: values::bits_of(steps::var_at(vars, v)),
-    }
-}
-
-// A node executed in place, if it isn't blocked and its arc leads straight to a kept node; else nothing is changed. A call, a return
-// and a read are left to the other functions.
-pub fn direct_step<'a>(
-    x: Node,
-    keep: u32,
-    vars: &'a mut [i32; 16],
-    sems: &'a mut [u8; 8],
-    lens: &'a mut [u8; 8],
-    caps: &'a [u8; 8],
-    items: &'a mut [[i32; 8]; 8],
-) -> steps::Direct
-    requires { ⌜ Within x × ((length (now vars) ≡ 16) × RowsOf (now items)) ⌝ }
-    ensures { λ r. ⌜ Straight keep (triedHere x (now (vars .entry)) (now (sems .entry)) (now (lens .entry)) (now (caps .entry)) (now (items .entry))) (now (vars .entry)) (now (sems .entry)) (now (lens .entry)) (now (items .entry)) r (now (vars .exit)) (now (sems .exit)) (now (lens .exit)) (now (items .exit)) ⌝ }
-{
-    match x {
-        Node::Absent => leads(32),
-        Node::Start { to } => leads(steps::direct_target(to, keep)),
-        Node::Set { var, op, a, b, to } => {
-            let j = steps::direct_target(to, keep);
-            if j == 32 {
-                return leads(32);
-            }
-            let p = steps::operand(vars, a);
-            let q = steps::operand(vars, b);
-            steps::set_var(vars, var, values::apply(op, p, q));
-            leads(j)
-        }
-        Node::Test { op, a, b, yes, no } => {
-            let p = steps::operand(vars, a);
-            let q = steps::operand(vars, b);
-            leads(steps::direct_target(steps::branch(values::apply(op, p, q), yes, no), keep))
-        }
-        Node::Read { var: _, to: _ } => leads(32),
-        Node::Call {
-            callee: _,
-            args: _,
-            to: _,
-        } => leads(32),
-        Node::Wait { sem, to } => {
-            let j = steps::direct_target(to, keep);
-            if j == 32 {
-                return leads(32);
-            }
-            let i = sem as usize;
-            let c = sems[i];
-            if c == 0 {
-                return leads(32);
-            }
-            sems[i] = c - 1;
-            leads(j)
-        }
-        Node::Signal { sem, to } => {
-            let j = steps::direct_target(to, keep);
-            if j == 32 {
-                return leads(32);
-            }
-            let i = sem as usize;
-            let c = sems[i];
-            if 255 <= c {
-                return leads(32);
-            }
-            sems[i] = c + 1;
-            leads(j)
-        }
-        Node::Send { queue, var, to } => {
-            let j = steps::direct_target(to, keep);
-            if j == 32 {
-                return leads(32);
-            }
-            let i = queue as usize;
-            let k = lens[i];
-            let cap = caps[i];
-            if cap <= k {
-                return leads(32);
-            }
-            let v = steps::var_at(vars, var);
-            steps::push(&mut items[i], k, v);
-            lens[i] = longer(k, cap);
-            leads(j)
-        }
-        Node::Recv { queue, var, to } => {
-            let j = steps::direct_target(to, keep);
-            if j == 32 {
-                return leads(32);
-            }
-            let i = queue as usize;
-            let k = lens[i];
-            if k == 0 {
-                return leads(32);
-            }
-            let v = items[i][0];
-            steps::set_var(vars, var, v);
-            steps::pop(&mut items[i]);
-            lens[i] = k - 1;
-            leads(j)
-        }
-        Node::Assert { var, to } => leads_showing(vars, var, steps::direct_target(to, keep)),
-        Node::Out { var, to } => leads_showing(vars, var, steps::direct_target(to, keep)),
-        Node::Return => leads(32),
     }
 }

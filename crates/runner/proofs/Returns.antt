@@ -1,184 +1,209 @@
--- A turn whose node is a return, and whose call leads straight to a kept node.
+-- The turn of a call, and of a return whose call leads straight to a kept node.
 use mathlib.Core.Path.{_≡_, refl, sym, _∙_, ap, subst}
-use mathlib.Core.Bool.{Bool, true, false}
+use mathlib.Core.Bool.{Bool, false}
 use mathlib.Core.List.{List, [], _∷_}
-use Prim.Native.Nat.{ℕ, _+_, _-_, _*_, _<_, _≤_}
+use Prim.Native.Nat.{ℕ, _+_, _-_, _*_, _/_, _<_, _≤_}
 use native.Mathlib.Omega.{arith}
 use lib.ListN.{length, getD, set, take, drop, length-set}
 use lib.Seq.{sets, set-out, set-getD, getD-set-other}
-use lib.Dec.{eqb, leb}
 use lib.IntN.{ℤ, pos}
-use borrow.Author.Tests.{leb-false, ne-eqb}
-use Rattle.table.specs.Mask.{pick, members}
+use borrow.Author.Tests.{lt-leb, lt-ltb}
+use Rattle.table.specs.Mask.{members}
 use Rattle.table.specs.Table.{nodeAt, arcTo}
+use Rattle.table.specs.declared.Args.{Args}
 use Rattle.table.specs.declared.Node.{Node}
-use Rattle.table.specs.declared.Node.the-variants.{Absent, Start, Set, Test, Read, Call, Wait, Signal, Send, Recv, Assert, Out, Return}
+use Rattle.table.specs.declared.Node.the-variants.{Call, Return}
+use Rattle.table.specs.declared.Slot.{Slot}
 use Rattle.table.specs.declared.Table.{Table}
 use Rattle.machine.specs.declared.Frame.{Frame}
 use Rattle.machine.specs.declared.State.{State}
 use Rattle.machine.specs.State.{noVars, noFrame}
-use Rattle.machine.specs.Step.{Memory, keptIn, shown}
+use Rattle.machine.specs.Step.{Memory, keptIn, shown, entering}
 use Rattle.machine.specs.Run.{word, flagged, runFrom}
-use Rattle.steps.specs.Cut.{meeting, directOf, goesTo, stuckOf, actOf, backOf, underOf}
+use Rattle.tosses.specs.Tosses.{meeting, directOf}
+use Rattle.steps.specs.Cut.{goesTo, stuckOf, actOf, backOf, underOf}
 use Rattle.starts.specs.Ready.{Ready}
-use Rattle.starts.specs.Begins.{frameIn, Good}
-use Rattle.columns.specs.Columns.{framesOf, queuesOf, stateOf, Shape}
+use Rattle.starts.specs.Begins.{Row, frameIn, Good}
+use Rattle.columns.specs.Columns.{framesOf, queuesOf}
 use Rattle.columns.specs.ColumnLaws.{frame-set}
+use Rattle.straight.specs.declared.Tried.{Tried}
+use Rattle.straight.specs.Turns.{Columns, doneAs, openedBy, closedTo, placeBelow, Arcs, Targets}
 use Rattle.runner.proofs.Walks.{met, metOf, heading, withVars}
 use Rattle.runner.proofs.Runs.{opens, storedAs}
-use Rattle.runner.proofs.Turns.{under-less, ends-over, Standing, turn-walks, stored-good}
-use Rattle.runner.proofs.Stores.{proc-in, node-in, vars-in}
-use Rattle.runner.proofs.Directs.{OneKept, one-kept, one-arrives}
+use Rattle.runner.proofs.Turns.{ends-over, Standing, turn-walks, stored-good, turn-calls, opened-good, call-free, call-shows}
+use Rattle.runner.proofs.Stores.{proc-in, node-in, vars-in, shape-set}
+use Rattle.runner.proofs.Directs.{stateIn, Shaped, Goes, goes-as, OneKept, one-kept, one-arrives}
 
-returning : (x : Node) → (backOf x ≡ 0 → ⊥) → x ≡ Return
-unfolding backOf
-returning Absent h = absurd (h refl)
-returning (Start to) h = absurd (h refl)
-returning (Set v o a b to) h = absurd (h refl)
-returning (Test o a b y n) h = absurd (h refl)
-returning (Read v to) h = absurd (h refl)
-returning (Call q xs to) h = absurd (h refl)
-returning (Wait i to) h = absurd (h refl)
-returning (Signal i to) h = absurd (h refl)
-returning (Send q v to) h = absurd (h refl)
-returning (Recv q v to) h = absurd (h refl)
-returning (Assert v to) h = absurd (h refl)
-returning (Out v to) h = absurd (h refl)
-returning Return h = refl
-
-module _ (t : Table) (keep : List ℕ) (ready : Ready t keep) (most : ℕ) (vs : List ℤ) (ks : List ℕ) (n : ℕ)
-    (ds : List ℕ) (lost : List Bool) (ps ns : List ℕ) (rows : List (List ℤ)) (ss ls : List ℕ) (is : List (List ℤ)) (used : ℕ) (log : List ℕ)
+module _ (t : Table) (keep : List ℕ) (ready : Ready t keep) (most : ℕ) (vs : List ℤ) (ks : List ℕ) (n : ℕ) (lost : List Bool) (m : Columns) (used : ℕ) (log : List ℕ)
     (f : ℕ) (x : Node) (cs : List ℕ)
-    (st : Standing t keep ready most vs ks n (stateOf ds lost ps ns rows ss ls is) used log f x ls is cs)
-    (shape : Shape ps ns rows ls is) (w : used ≤ length vs)
-    (back : ℕ) (back-is : back ≡ backOf x) (closes : back ≡ 0 → ⊥)
-    (g : ℕ) (at-next : g ≡ underOf f back (getD ds (getD ks 0 0) 0)) (arc : ℕ)
-    (arc-is : arc ≡ arcTo (nodeAt t (frameIn (framesOf ps ns rows) g .proc) (frameIn (framesOf ps ns rows) g .node)))
-    (j : ℕ) (j-is : j ≡ pick (leb (getD ds (getD ks 0 0) 0) 1) 32 (directOf arc (getD keep (getD ps g 0) 0))) (yes : j < 32)
-    (u : List ℤ) (blank : u ≡ pick (eqb back 0) (getD rows f []) noVars)
-    (log′ : List ℕ) (puts : log′ ≡ sets log (8 * n) (getD ks 0 0 ∷ getD ps f 0 ∷ getD ns f 0 ∷ 0 ∷ word 0)) where
+    (st : Standing t keep ready most vs ks n (stateIn lost m) used log f x (m .lens) (m .items) cs)
+    (shape : Shaped m) (e : Tried) (m′ : Columns) (answer : e ≡ doneAs (goesTo 255 (pos 0) 0 0)) (log′ : List ℕ)
+    (puts : log′ ≡ sets log (8 * n) (getD ks 0 0 ∷ getD (m .procs) f 0 ∷ getD (m .nodes) f 0 ∷ e .flag ∷ word (e .bits))) where
   abbrev s : State
-  s = stateOf ds lost ps ns rows ss ls is
+  s = stateIn lost m
 
   abbrev i : ℕ
   i = getD ks 0 0
 
   abbrev d : ℕ
-  d = getD ds i 0
+  d = getD (m .depth) i 0
 
-  abbrev kp : ℕ
-  kp = getD keep (getD ps g 0) 0
+  puts-is : log′ ≡ sets log (8 * n) (i ∷ frameIn (s .frames) f .proc ∷ frameIn (s .frames) f .node ∷ 0 ∷ word 0)
+  puts-is = puts ∙ (λ k. sets log (8 * n) (i ∷ proc-in shape f k ∷ node-in shape f k ∷ answer k .flag ∷ word (answer k .bits)))
 
-  is-return : x ≡ Return
-  is-return = returning x (λ z. closes (back-is ∙ z))
+  -- ---- a call
 
-  back-one : backOf x ≡ 1
-  unfolding backOf
-  back-one = rw is-return refl
+  module _ (q : ℕ) (xs : Args) (to : ℕ) (is-call : x ≡ Call q xs to) (room : d < 8) (after : m′ ≡ openedBy q xs i f d m) where
+    abbrev opened : Columns
+    opened = openedBy q xs i f d m
 
-  deep : (leb d 1 ≡ false) × (j ≡ directOf arc kp)
-  deep = go (leb d 1) refl
-    where
-      go : (b : Bool) → leb d 1 ≡ b → (leb d 1 ≡ false) × (j ≡ directOf arc kp)
-      go true e = absurd (let z : j ≡ 32 = j-is ∙ ap (λ (b : Bool). pick b 32 (directOf arc kp)) e in omega (arith, yes, z))
-      go false e = (e, j-is ∙ ap (λ (b : Bool). pick b 32 (directOf arc kp)) e)
+    abbrev fr : Frame
+    fr = record { proc = q; node = 0; vars = entering (getD (m .vars) f []) q xs .vars }
 
-  free : stuckOf x d ss ls cs ≡ false
-  unfolding stuckOf
-  free = rw is-return (deep .0)
+    free-call : stuckOf x d (m .sems) (m .lens) cs ≡ false
+    free-call = call-free t keep ready most vs ks n s used log f x (m .lens) (m .items) cs st q xs to is-call room
 
-  stays : opens x ≡ false
-  unfolding opens
-  stays = rw is-return refl
+    shows-call : flagged (shown (frameIn (s .frames) f .vars) x) ≡ 0 ∷ word 0
+    shows-call = call-shows t keep ready most vs ks n s used log f x (m .lens) (m .items) cs st q xs to is-call
 
-  shows : (l : List ℤ) → flagged (shown l x) ≡ 0 ∷ word 0
-  unfolding shown
-  shows l = rw is-return refl
+    enters : fr ≡ entering (frameIn (s .frames) f .vars) q xs
+    enters = ap (λ (l : List ℤ). entering l q xs) (vars-in shape f)
 
-  acts : (a : ℕ) (l : List ℤ) → goesTo 255 (pos 0) used a ≡ actOf x a l ss ls is vs used
-  unfolding actOf
-  acts a l = rw is-return refl
+    frames-open : set (framesOf (m .procs) (m .nodes) (m .vars)) (f + 1) fr ≡ framesOf (opened .procs) (opened .nodes) (opened .vars)
+    frames-open = sym (frame-set (m .procs) (m .nodes) (m .vars) (f + 1) q 0 (fr .vars))
 
-  next-is : g ≡ underOf f (backOf x) d
-  next-is = at-next ∙ ap (λ (b : ℕ). underOf f b d) back-is
+    state-open : _≡_ {A = State} (record { depth = set (m .depth) i (d + 1); lost = lost; frames = set (framesOf (m .procs) (m .nodes) (m .vars)) (f + 1) fr; sems = m .sems; queues = queuesOf (m .lens) (m .items) }) (stateIn lost opened)
+    state-open = λ k. record { depth = opened .depth; lost = lost; frames = frames-open k; sems = m .sems; queues = queuesOf (m .lens) (m .items) }
 
-  below : g + 1 ≡ f
-  below =
-      let h = leb-false d 1 (deep .0) in
-      let e : back ≡ 1 = back-is ∙ back-one in
-      omega (arith, at-next, e, st .at, under-less f back d (omega (arith, e, h)) (omega (arith, st .at)))
+    pub goes-call : Goes t most vs ks n s used log lost m′ log′
+    goes-call =
+        goes-as after
+        (record {
+          ran = turn-calls t keep ready most vs ks n s used log f x (m .lens) (m .items) cs st free-call log′ (0 ∷ word 0) shows-call puts-is q xs to is-call fr enters ∙
+              ap (λ (u : State). runFrom t (keptIn t) most vs (take (length ks - 1) (drop 1 ks)) (n + 1) u (drop used vs) log′) state-open;
+          good = subst (λ (u : State). Good t u) state-open (opened-good t keep ready most vs ks n s used log f x (m .lens) (m .items) cs st free-call log′ (0 ∷ word 0) shows-call puts-is q xs to is-call fr enters);
+          shape = shape-set shape (f + 1) q 0 (fr .vars);
+        })
 
-  low : f < 32
-  low = omega (arith, st .at, st .task, ready .tasks, st .good .bounded i (st .task), st .good .opened i (st .task))
+  -- ---- a return
 
-  abbrev on : Frame
-  on = frameIn (framesOf ps ns rows) g
+  module _ (w : used ≤ length vs) (row : List Slot) (rowed : Row t row) (arcs ts : List ℕ) (arced : Arcs row arcs) (targeted : Targets arcs keep ts)
+      (is-return : x ≡ Return) (deep : 1 < d) (there : getD ts (placeBelow f m) 0 ≡ 32 → ⊥) (after : m′ ≡ closedTo (getD ts (placeBelow f m) 0) i f d m) where
+    abbrev g : ℕ
+    g = f - 1
 
-  on-long : length (on .vars) ≡ 16
-  on-long = st .good .vars g (omega (arith, below, low))
+    abbrev a : ℕ
+    a = placeBelow f m
 
-  on-inside : getD ps g 0 < 8
-  on-inside = rw (proc-in shape g) (st .good .procs g)
+    abbrev j : ℕ
+    j = getD ts a 0
 
-  abbrev call-arc : ℕ
-  call-arc = arcTo (nodeAt t (on .proc) (on .node))
+    abbrev kp : ℕ
+    kp = getD keep (getD (m .procs) g 0) 0
 
-  target : OneKept call-arc kp j
-  target =
-      let e : j ≡ directOf call-arc kp = deep .1 ∙ ap (λ (a : ℕ). directOf a kp) arc-is in
-      rw e (one-kept call-arc kp (members call-arc) refl (λ z. omega (arith, yes, e, z)))
+    below : g + 1 ≡ f
+    below = omega (arith, st .at, deep)
 
-  ends : (mm : Memory) → met (heading t vs (on .proc) most (withVars mm (on .vars)) call-arc used) ≡ metOf vs (withVars mm (on .vars)) (meeting kp j used)
-  ends mm =
-      ap (λ (p : ℕ). met (heading t vs p most (withVars mm (on .vars)) call-arc used)) (sym (proc-in shape g)) ∙
-      ends-over t keep ready most vs (getD ps g 0) most on-inside (on .vars) on-long call-arc used (meeting kp j used) (one-arrives call-arc kp vs used w j target) (meeting kp j used) (target .kept) refl .is mm
+    low : f < 32
+    low = omega (arith, st .at, st .task, ready .tasks, st .good .bounded i (st .task), st .good .opened i (st .task))
 
-  puts-is : log′ ≡ sets log (8 * n) (i ∷ frameIn (framesOf ps ns rows) f .proc ∷ frameIn (framesOf ps ns rows) f .node ∷ 0 ∷ word 0)
-  puts-is = puts ∙ (λ m. sets log (8 * n) (i ∷ proc-in shape f m ∷ node-in shape f m ∷ 0 ∷ word 0))
+    free : stuckOf x d (m .sems) (m .lens) cs ≡ false
+    unfolding stuckOf
+    free = rw is-return (lt-leb d 1 deep)
 
-  abbrev returned : State
-  returned = stateOf (set ds i (d - back)) lost (set ps f 0) (set (set ns f 0) g j) (set rows f u) ss ls is
+    stays : opens x ≡ false
+    unfolding opens
+    stays = rw is-return refl
 
-  u-none : u ≡ noVars
-  u-none = blank ∙ ap (λ (b : Bool). pick b (getD rows f []) noVars) (ne-eqb back 0 closes)
+    back-one : backOf x ≡ 1
+    unfolding backOf
+    back-one = rw is-return refl
 
-  apart : g ≡ f → ⊥
-  apart e = omega (arith, e, below)
+    shows : (l : List ℤ) → flagged (shown l x) ≡ 0 ∷ word 0
+    unfolding shown
+    shows l = rw is-return refl
 
-  frames-is : set (set (framesOf ps ns rows) f noFrame) g (record { proc = on .proc; node = j; vars = on .vars }) ≡ framesOf (set ps f 0) (set (set ns f 0) g j) (set rows f u)
-  frames-is =
-      let a : noFrame ≡ record { proc = 0; node = 0; vars = u } = (λ m. record { proc = 0; node = 0; vars = sym u-none m }) in
-      let p : on .proc ≡ getD (set ps f 0) g 0 = sym (getD-set-other ps f g 0 0 apart ∙ proc-in shape g) in
-      let v : on .vars ≡ getD (set rows f u) g [] = sym (getD-set-other rows f g u [] apart ∙ vars-in shape g) in
-      (λ m. set (set (framesOf ps ns rows) f (a m)) g (record { proc = p m; node = j; vars = v m })) ∙
-      ap (λ (l : List Frame). set l g (record { proc = getD (set ps f 0) g 0; node = j; vars = getD (set rows f u) g [] })) (sym (frame-set ps ns rows f 0 0 u)) ∙
-      sym (frame-set (set ps f 0) (set ns f 0) (set rows f u) g (getD (set ps f 0) g 0) j (getD (set rows f u) g [])) ∙
-      (λ m. framesOf (set-getD (set ps f 0) g 0 m) (set (set ns f 0) g j) (set-getD (set rows f u) g [] m))
+    acts : (b : ℕ) (l : List ℤ) → goesTo 255 (pos 0) used b ≡ actOf x b l (m .sems) (m .lens) (m .items) vs used
+    unfolding actOf
+    acts b l = rw is-return refl
 
-  stored : storedAs s i f g (d - backOf x) noFrame (record { proc = on .proc; node = j; vars = on .vars }) false ss (queuesOf ls is) ≡ returned
-  stored =
-      let b = ap (set lost i) (sym (st .here)) ∙ set-getD lost i false in
-      λ m. record { depth = set ds i (d - sym back-is m); lost = b m; frames = frames-is m; sems = ss; queues = queuesOf ls is }
+    next-is : g ≡ underOf f (backOf x) d
+    next-is = rw (back-one, lt-ltb 1 d deep) refl
 
-  set-none : on .vars ≡ set (on .vars) 255 (pos 0)
-  set-none = sym (set-out (on .vars) 255 (pos 0) (omega (arith, on-long)))
+    abbrev on : Frame
+    on = frameIn (framesOf (m .procs) (m .nodes) (m .vars)) g
 
-  pub turn-returns : runFrom t (keptIn t) most vs ks n s (drop used vs) log ≡ runFrom t (keptIn t) most vs (take (length ks - 1) (drop 1 ks)) (n + 1) returned (drop used vs) log′
-  turn-returns =
-      turn-walks t keep ready most vs ks n s used log f x ls is cs st free log′ (0 ∷ word 0) (shows (frameIn (framesOf ps ns rows) f .vars)) puts-is stays g next-is (goesTo 255 (pos 0) used call-arc) (acts call-arc (on .vars)) refl (on .vars) set-none (meeting kp j used) (on .vars) ends noFrame (λ _. refl) refl refl ∙
-      ap (λ (r : State). runFrom t (keptIn t) most vs (take (length ks - 1) (drop 1 ks)) (n + 1) r (drop used vs) log′) stored
+    on-long : length (on .vars) ≡ 16
+    on-long = st .good .vars g (omega (arith, below, low))
 
-  pub good-returns : Good t returned
-  good-returns =
-      subst (λ (r : State). Good t r) stored
-      (stored-good t keep ready most vs ks n s used log f x ls is cs st free log′ (0 ∷ word 0) (shows (frameIn (framesOf ps ns rows) f .vars)) puts-is stays g next-is (goesTo 255 (pos 0) used call-arc) (acts call-arc (on .vars)) refl (on .vars) set-none (meeting kp j used) (on .vars) ends noFrame (record { proc = omega arith; node = omega arith; vars = refl }) on-long yes)
+    inside : getD (m .procs) g 0 < 8
+    inside = rw (proc-in shape g) (st .good .procs g)
 
-  pub shape-returns : Shape (set ps f 0) (set (set ns f 0) g j) (set rows f u) ls is
-  shape-returns = record {
-    procs = length-set ps f 0 ∙ shape .procs;
-    nodes = length-set (set ns f 0) g j ∙ length-set ns f 0 ∙ shape .nodes;
-    vars = length-set rows f u ∙ shape .vars;
-    lens = shape .lens;
-    items = shape .items;
-    rows = shape .rows;
-  }
+    inside-node : getD (m .nodes) g 0 < 32
+    inside-node = rw (node-in shape g) (st .good .nodes g)
+
+    abbrev call-arc : ℕ
+    call-arc = arcTo (nodeAt t (on .proc) (on .node))
+
+    arc-is : getD arcs a 0 ≡ call-arc
+    arc-is =
+        arced .arcs a (omega (arith, inside, inside-node)) ∙ ap arcTo (rowed .nodes (getD (m .procs) g 0) (getD (m .nodes) g 0) inside inside-node) ∙
+        (λ k. arcTo (nodeAt t (proc-in shape g k) (node-in shape g k)))
+
+    place-of : a / 32 ≡ getD (m .procs) g 0
+    place-of = omega (arith, inside-node)
+
+    leads : j ≡ directOf call-arc kp
+    leads = targeted .targets a (omega (arith, inside, inside-node)) ∙ (λ k. directOf (arc-is k) (getD keep (place-of k) 0))
+
+    target : OneKept call-arc kp j
+    target = rw leads (one-kept call-arc kp (members call-arc) refl (λ z. there (leads ∙ z)))
+
+    ends : (mm : Memory) → met (heading t vs (on .proc) most (withVars mm (on .vars)) call-arc used) ≡ metOf vs (withVars mm (on .vars)) (meeting kp j used)
+    ends mm =
+        ap (λ (p : ℕ). met (heading t vs p most (withVars mm (on .vars)) call-arc used)) (sym (proc-in shape g)) ∙
+        ends-over t keep ready most vs (getD (m .procs) g 0) most inside (on .vars) on-long call-arc used (meeting kp j used) (one-arrives call-arc kp vs used w j target) (meeting kp j used) (target .kept) refl .is mm
+
+    abbrev gone : Columns
+    gone = closedTo j i f d m
+
+    apart : g ≡ f → ⊥
+    apart z = omega (arith, z, below)
+
+    frames-is : set (set (framesOf (m .procs) (m .nodes) (m .vars)) f noFrame) g (record { proc = on .proc; node = j; vars = on .vars }) ≡ framesOf (gone .procs) (gone .nodes) (gone .vars)
+    frames-is =
+        let p : on .proc ≡ getD (gone .procs) g 0 = sym (getD-set-other (m .procs) f g 0 0 apart ∙ proc-in shape g) in
+        let v : on .vars ≡ getD (gone .vars) g [] = sym (getD-set-other (m .vars) f g noVars [] apart ∙ vars-in shape g) in
+        (λ k. set (set (framesOf (m .procs) (m .nodes) (m .vars)) f noFrame) g (record { proc = p k; node = j; vars = v k })) ∙
+        ap (λ (l : List Frame). set l g (record { proc = getD (gone .procs) g 0; node = j; vars = getD (gone .vars) g [] })) (sym (frame-set (m .procs) (m .nodes) (m .vars) f 0 0 noVars)) ∙
+        sym (frame-set (gone .procs) (set (m .nodes) f 0) (gone .vars) g (getD (gone .procs) g 0) j (getD (gone .vars) g [])) ∙
+        (λ k. framesOf (set-getD (gone .procs) g 0 k) (gone .nodes) (set-getD (gone .vars) g [] k))
+
+    stored : storedAs s i f g (d - backOf x) noFrame (record { proc = on .proc; node = j; vars = on .vars }) false (m .sems) (queuesOf (m .lens) (m .items)) ≡ stateIn lost gone
+    stored =
+        let b = ap (set lost i) (sym (st .here)) ∙ set-getD lost i false in
+        λ k. record { depth = set (m .depth) i (d - back-one k); lost = b k; frames = frames-is k; sems = m .sems; queues = queuesOf (m .lens) (m .items) }
+
+    set-none : on .vars ≡ set (on .vars) 255 (pos 0)
+    set-none = sym (set-out (on .vars) 255 (pos 0) (omega (arith, on-long)))
+
+    abbrev top-shows : flagged (shown (frameIn (s .frames) f .vars) x) ≡ 0 ∷ word 0
+    top-shows = shows (frameIn (s .frames) f .vars)
+
+    pub goes-return : Goes t most vs ks n s used log lost m′ log′
+    goes-return =
+        goes-as after
+        (record {
+          ran = turn-walks t keep ready most vs ks n s used log f x (m .lens) (m .items) cs st free log′ (0 ∷ word 0) top-shows puts-is stays g next-is (goesTo 255 (pos 0) used call-arc) (acts call-arc (on .vars)) refl (on .vars) set-none (meeting kp j used) (on .vars) ends noFrame (λ _. refl) refl refl ∙
+              ap (λ (r : State). runFrom t (keptIn t) most vs (take (length ks - 1) (drop 1 ks)) (n + 1) r (drop used vs) log′) stored;
+          good = subst (λ (r : State). Good t r) stored
+              (stored-good t keep ready most vs ks n s used log f x (m .lens) (m .items) cs st free log′ (0 ∷ word 0) top-shows puts-is stays g next-is (goesTo 255 (pos 0) used call-arc) (acts call-arc (on .vars)) refl (on .vars) set-none (meeting kp j used) (on .vars) ends noFrame (record { proc = omega arith; node = omega arith; vars = refl }) on-long (target .low));
+          shape = record {
+            procs = length-set (m .procs) f 0 ∙ shape .procs;
+            nodes = length-set (set (m .nodes) f 0) g j ∙ length-set (m .nodes) f 0 ∙ shape .nodes;
+            vars = length-set (m .vars) f noVars ∙ shape .vars;
+            lens = shape .lens;
+            items = shape .items;
+            rows = shape .rows;
+          };
+        })

@@ -24,7 +24,8 @@ use Rattle.machine.specs.State.{noFrame, openFrames, isLost, place, frameAt, to
 use Rattle.machine.specs.State as First
 use Rattle.machine.specs.Step.{noTask, logFull, taskLost, taskBlocked, stopNumber, Memory, valueOf, assign, appended, oldest, shortened, Did, stops, goes, exec, keptIn, Walk, halts, arrives, onward, walk, flow, Entry, shown, Step, stopped, stepped, landed, settled, entering, called, closed, memory, flowed, entryOf, stepOf, before, step}
 use Rattle.machine.specs.Run.{word, flagged, entryBytes, Ran, ended, turn, afterStep, runFrom, runBegun}
-use Rattle.steps.specs.Cut.{stopOf, Within, goesTo, haltsAt, showsTo, stuckOf, actOf, backOf, semsAfter, lensAfter, itemsAfter, flagOf, bitsOf}
+use Rattle.tosses.specs.Tosses.{stopOf}
+use Rattle.steps.specs.Cut.{Within, goesTo, haltsAt, showsTo, stuckOf, actOf, backOf, semsAfter, lensAfter, itemsAfter, flagOf, bitsOf}
 use Rattle.steps.specs.declared.Acted.{Acted}
 use Rattle.columns.specs.Columns.{queuesOf}
 use Rattle.columns.specs.ColumnLaws.{queue-at, queue-set}

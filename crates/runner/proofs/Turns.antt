@@ -27,9 +27,10 @@ use Rattle.machine.specs.declared.State.{State}
 use Rattle.machine.specs.State.{noFrame, openFrames, isLost, place, topmost, standsBefore, withFrames, blockedAt, blocked}
 use Rattle.machine.specs.Step.{noTask, logFull, taskLost, taskBlocked, stopNumber, Memory, valueOf, shown, Choice, Did, keptIn, Walk, along, onward, walk, Step, stopped, settled, called, entering, memory, entryOf}
 use Rattle.machine.specs.Run.{word, flagged, entryBytes, Ran, runFrom}
-use Rattle.steps.specs.Cut.{Named, Sound, Arrived, halting, Within, goesTo, haltsAt, showsTo, stuckOf, actOf, triedOf, passOf, backOf, flagOf, bitsOf, underOf}
+use Rattle.tosses.specs.Tosses.{Named, Sound, Arrived, halting}
+use Rattle.steps.specs.Cut.{Within, goesTo, haltsAt, showsTo, stuckOf, actOf, triedOf, passOf, backOf, flagOf, bitsOf, underOf}
 use Rattle.steps.specs.declared.Acted.{Acted}
-use Rattle.steps.specs.declared.Chosen.{Chosen}
+use Rattle.tosses.specs.declared.Chosen.{Chosen}
 use Rattle.columns.specs.Columns.{queuesOf}
 use Rattle.starts.specs.Ready.{Placed, Ready}
 use Rattle.starts.specs.Begins.{Row, frameIn, Good}

@@ -1,32 +1,23 @@
 -- What the proofs of the small functions lean on.
-use mathlib.Core.Path.{_≡_, refl, _∙_, ap}
-use mathlib.Core.Bool.{Bool, true, false}
+use mathlib.Core.Path.{_≡_, refl, _∙_}
+use mathlib.Core.Bool.{true, false}
 use mathlib.Core.List.{List, [], _∷_}
-use Prim.Native.Nat.{ℕ, zero, suc, _+_, _-_, _/_, _%_, _^_, _<_, _≤_}
+use Prim.Native.Nat.{ℕ, zero, suc, _-_, _<_, _≤_}
 use native.Mathlib.Omega.{arith}
-use native.Mathlib.Numerals.{add-one}
 use lib.ListN.{length, getD, set}
-use lib.Seq.{sets}
 use lib.Dec.{ltb}
 use lib.IntN.{ℤ, pos, negsuc}
 use mir.Syntax.{w32}
 use mir.Val.{SFits, toZ, ofZ}
-use mir.Facts.{toZ-ofZ}
-use borrow.Author.Tests.{le-leb, lt-leb, le-ltb, eq-eqb, ne-eqb}
-use Rattle.table.specs.Mask.{pick, bit, also, membersFrom, members}
+use borrow.Author.Tests.{le-ltb, lt-ltb}
+use Rattle.table.specs.Mask.{pick}
 use Rattle.table.specs.Values.{holds}
 use Rattle.table.specs.declared.Args.{Args}
 use Rattle.text.specs.Reader.{concat}
 use Rattle.machine.specs.State.{varAt}
 use Rattle.machine.specs.Step.{entering}
-use Rattle.steps.specs.Cut.{halting, meeting, targetAt, tossed, shiftedOf}
-
--- a value that went through its bits
-pub again : (x : ℤ) → SFits w32 x → toZ w32 (ofZ w32 x) ≡ x
-again x p = toZ-ofZ p
-
-pub twice : (g : ℤ → ℤ → ℤ) (x y : ℤ) {a b : ℤ} → SFits w32 x → SFits w32 y → x ≡ a → y ≡ b → g (toZ w32 (ofZ w32 x)) (toZ w32 (ofZ w32 y)) ≡ g a b
-twice g x y {a} p q e h = ap (λ (z : ℤ). g z (toZ w32 (ofZ w32 y))) (toZ-ofZ p ∙ e) ∙ ap (g a) (toZ-ofZ q ∙ h)
+use Rattle.values.proofs.Again.{again}
+use Rattle.steps.specs.Cut.{shiftedOf}
 
 pub holds-no : (z : ℤ) → SFits w32 z → ofZ w32 z ≡ 0 → holds z ≡ false
 holds-no (pos zero) f h = refl
@@ -37,44 +28,6 @@ pub holds-yes : (z : ℤ) → (ofZ w32 z ≡ 0 → ⊥) → holds z ≡ true
 holds-yes (pos zero) h = absurd (h refl)
 holds-yes (pos (suc n)) h = refl
 holds-yes (negsuc n) h = refl
-
--- ---- the numbers in a mask from j on: j is one, or not
-from-at : (d j m : ℕ) → m / 2 ^ j % 2 ≡ 1 → membersFrom (suc d) j m ≡ j ∷ membersFrom d (suc j) m
-unfolding membersFrom bit
-from-at d j m h = ap (λ (b : Bool). also b j (membersFrom d (suc j) m)) (eq-eqb (m / 2 ^ j % 2) 1 h)
-
-from-off : (d j m : ℕ) → (m / 2 ^ j % 2 ≡ 1 → ⊥) → membersFrom (suc d) j m ≡ membersFrom d (suc j) m
-unfolding membersFrom bit
-from-off d j m h = ap (λ (b : Bool). also b j (membersFrom d (suc j) m)) (ne-eqb (m / 2 ^ j % 2) 1 h)
-
-left-of : (j : ℕ) → j < 32 → (d : ℕ) × (32 - j ≡ suc d) × (32 - (j + 1) ≡ d)
-left-of j h = (31 - j, omega arith, omega arith)
-
-pub bit-here : (m j : ℕ) → j < 32 → m / 2 ^ j % 2 ≡ 1 → getD (membersFrom (32 - j) j m) 0 32 ≡ j
-bit-here m j h e = let d = left-of j h in rw (d .1, from-at (d .0) j m e) refl
-
-pub bit-past : (m j i : ℕ) → j < 32 → m / 2 ^ j % 2 ≡ 1 → getD (membersFrom (32 - j) j m) (suc i) 32 ≡ getD (membersFrom (32 - (j + 1)) (j + 1) m) i 32
-bit-past m j i h e = let d = left-of j h in rw (d .1, d .2, from-at (d .0) j m e, add-one) refl
-
-pub bit-off : (m j i : ℕ) → j < 32 → (m / 2 ^ j % 2 ≡ 1 → ⊥) → getD (membersFrom (32 - j) j m) i 32 ≡ getD (membersFrom (32 - (j + 1)) (j + 1) m) i 32
-bit-off m j i h e = let d = left-of j h in rw (d .1, d .2, from-off (d .0) j m e, add-one) refl
-
-pub bit-none : (m j i : ℕ) → 32 ≤ j → getD (membersFrom (32 - j) j m) i 32 ≡ 32
-unfolding membersFrom
-bit-none m j i h = let e : 32 - j ≡ 0 = omega arith in rw e refl
-
--- ---- a toss
-abbrev nthOf : ℕ → List ℤ → ℕ → ℕ
-nthOf arc vs used = targetAt (members arc) (getD vs used (pos 0))
-
-pub toss-spent : (arc keep : ℕ) (vs : List ℤ) (used : ℕ) → length vs ≤ used → halting 15 used ≡ tossed arc keep vs used
-toss-spent arc keep vs used h = rw (le-leb (length vs) used h) refl
-
-pub toss-none : (arc keep : ℕ) (vs : List ℤ) (used j : ℕ) → used < length vs → j ≡ nthOf arc vs used → j ≡ 32 → halting 16 used ≡ tossed arc keep vs used
-toss-none arc keep vs used j h e z = rw (lt-leb (length vs) used h, ← e, z) refl
-
-pub toss-goes : (arc keep : ℕ) (vs : List ℤ) (used j : ℕ) → used < length vs → j ≡ nthOf arc vs used → (j ≡ 32 → ⊥) → meeting keep j (used + 1) ≡ tossed arc keep vs used
-toss-goes arc keep vs used j h e z = rw (lt-leb (length vs) used h, ← e, ne-eqb j 32 z) refl
 
 -- ---- the frame that a call opens: four parameters and no more
 abbrev four : ℤ → ℤ → ℤ → ℤ → List ℤ
@@ -91,6 +44,13 @@ entering-is l q xs h e f g k =
     (λ i. four (e i) (f i) (g i) (k i)) ∙
     rw (le-ltb 4 (xs .len) (omega arith), le-ltb 5 (xs .len) (omega arith), le-ltb 6 (xs .len) (omega arith), le-ltb 7 (xs .len) (omega arith), le-ltb 8 (xs .len) (omega arith), le-ltb 9 (xs .len) (omega arith), le-ltb 10 (xs .len) (omega arith), le-ltb 11 (xs .len) (omega arith), le-ltb 12 (xs .len) (omega arith), le-ltb 13 (xs .len) (omega arith), le-ltb 14 (xs .len) (omega arith), le-ltb 15 (xs .len) (omega arith)) refl
 
+-- a parameter is passed, or beyond the arguments
+pub passed : (l : List ℤ) (len i v : ℕ) (a : ℤ) → SFits w32 a → i < len → a ≡ varAt l v → toZ w32 (ofZ w32 a) ≡ passing l len i v
+passed l len i v a p h e = rw (lt-ltb i len h) (again a p ∙ e)
+
+pub beyond : (l : List ℤ) (len i v : ℕ) → len ≤ i → pos 0 ≡ passing l len i v
+beyond l len i v h = rw (le-ltb i len h) refl
+
 -- ---- queues
 
 pub popped-is : (l : List ℤ) {a b c d e f g : ℤ} → length l ≡ 8
@@ -106,17 +66,3 @@ popped-is (x ∷ y ∷ z ∷ u ∷ v ∷ []) k ea eb ec ed ee ef eg = absurd (om
 popped-is (x ∷ y ∷ z ∷ u ∷ v ∷ w ∷ []) k ea eb ec ed ee ef eg = absurd (omega arith)
 popped-is (x ∷ y ∷ z ∷ u ∷ v ∷ w ∷ s ∷ []) k ea eb ec ed ee ef eg = absurd (omega arith)
 popped-is (x ∷ y ∷ z ∷ u ∷ v ∷ w ∷ s ∷ t ∷ r ∷ l) k ea eb ec ed ee ef eg = absurd (omega arith)
-
--- ---- eight bytes of the log
-pub put-is : (l : List ℕ) (at a b c d e f g h : ℕ)
-    → set (set (set (set (set (set (set (set l at a) (at + 1) b) (at + 2) c) (at + 3) d) (at + 4) e) (at + 5) f) (at + 6) g) (at + 7) h
-    ≡ sets l at (a ∷ b ∷ c ∷ d ∷ e ∷ f ∷ g ∷ h ∷ [])
-put-is l at a b c d e f g h =
-    let e1 : at + 1 ≡ suc at = omega arith in
-    let e2 : at + 2 ≡ suc (suc at) = omega arith in
-    let e3 : at + 3 ≡ suc (suc (suc at)) = omega arith in
-    let e4 : at + 4 ≡ suc (suc (suc (suc at))) = omega arith in
-    let e5 : at + 5 ≡ suc (suc (suc (suc (suc at)))) = omega arith in
-    let e6 : at + 6 ≡ suc (suc (suc (suc (suc (suc at))))) = omega arith in
-    let e7 : at + 7 ≡ suc (suc (suc (suc (suc (suc (suc at)))))) = omega arith in
-    rw (e1, e2, e3, e4, e5, e6, e7) refl

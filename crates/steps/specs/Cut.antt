@@ -1,78 +1,25 @@
 -- How the runner's code cuts a step: small records answer, and each is read as a value of document 01's step.
-use Prim.Native.Nat.{ℕ, _+_, _-_, _<_, _≤_}
+use Prim.Native.Nat.{ℕ, _+_, _-_, _<_}
 use mathlib.Core.Path.{_≡_}
-use mathlib.Core.Bool.{Bool, true, false}
+use mathlib.Core.Bool.{Bool, false}
 use mathlib.Core.List.{List, [], _∷_, _++_}
 use mathlib.Core.Option.{Option, none, some}
 use lib.ListN.{length, getD, set, drop}
 use lib.Dec.{eqb, leb, ltb}
-use lib.IntN.{ℤ, pos, negsuc}
+use lib.IntN.{ℤ, pos}
 use mir.Syntax.{w32}
 use mir.Val.{ofZ}
-use Rattle.table.specs.Mask.{pick, bit, members}
+use Rattle.table.specs.Mask.{pick}
 use Rattle.table.specs.Values.{apply, holds}
 use Rattle.table.specs.declared.Node.{Node}
 use Rattle.table.specs.declared.Node.the-variants.{Absent, Start, Set, Test, Read, Call, Wait, Signal, Send, Recv, Assert, Out, Return}
 use Rattle.machine.specs.State.{varAt}
-use Rattle.machine.specs.Step.{Stop, tooMany, spent, badToss, stopNumber, operandIn, valueOf, Choice, nowhere, node, bad, choose}
-use Rattle.steps.specs.declared.Chosen.{Chosen}
+use Rattle.machine.specs.Step.{operandIn, valueOf}
 use Rattle.steps.specs.declared.Acted.{Acted}
-use Rattle.steps.specs.declared.Direct.{Direct}
 
--- ---- the stop that a number stands for, of those that come within a step
-abbrev pub stopOf : ℕ → Stop
-stopOf n = pick (eqb n 14) tooMany (pick (eqb n 15) spent badToss)
-
--- n is 0 or such a number
-abbrev pub Named : ℕ → Type 0
-Named n = pick (eqb n 0) 0 (stopNumber (stopOf n)) ≡ n
-
--- ---- an arc taken
-
-abbrev pub choiceOf : List ℤ → Chosen → Choice
-choiceOf vs r = pick (eqb (r .stop) 0) (pick (r .lost) (nowhere (drop (r .used) vs)) (node (r .node) (drop (r .used) vs))) (bad (stopOf (r .stop)))
-
--- the walk over dropped nodes is over: it stops, goes nowhere, or meets a kept node
-abbrev pub overIn : ℕ → Chosen → Bool
-overIn keep r = pick (eqb (r .stop) 0) (pick (r .lost) true (bit (r .node) keep)) true
-
-abbrev pub meeting : ℕ → ℕ → ℕ → Chosen
-meeting keep j used = record { over = bit j keep; stop = 0; lost = false; node = j; used = used }
-
-abbrev pub halting : ℕ → ℕ → Chosen
-halting stop used = record { over = true; stop = stop; lost = false; node = 0; used = used }
-
--- the target that a value chooses, 32 if there is none
-abbrev pub targetAt : List ℕ → ℤ → ℕ
-targetAt ms (pos i) = getD ms i 32
-targetAt ms (negsuc i) = 32
-
--- a toss among the targets of an arc that has two or more
-abbrev pub tossed : ℕ → ℕ → List ℤ → ℕ → Chosen
-tossed arc keep vs used =
-    pick (leb (length vs) used) (halting 15 used)
-    (let j = targetAt (members arc) (getD vs used (pos 0)) in pick (eqb j 32) (halting 16 used) (meeting keep j (used + 1)))
-
--- what holds of every answer: a lost task stands before node 0
-pub record Sound (keep : ℕ) (vs : List ℤ) (r : Chosen) : Type 0 where
-  pub over : r .over ≡ overIn keep r
-  pub named : Named (r .stop)
-  pub within : r .used ≤ length vs
-  pub place : r .node < 32
-  pub gone : pick (r .lost) (r .node) 0 ≡ 0
-
-pub record Arrived (arc keep : ℕ) (vs : List ℤ) (used : ℕ) (r : Chosen) : Type 0 where
-  pub choice : choose arc (drop used vs) ≡ choiceOf vs r
-  pub sound : Sound keep vs r
-
--- the one target of an arc, if it has exactly one and that is kept; else 32
-abbrev pub oneKept : ℕ → List ℕ → ℕ
-oneKept keep [] = 32
-oneKept keep (j ∷ []) = pick (bit j keep) j 32
-oneKept keep (j ∷ k ∷ l) = 32
-
-abbrev pub directOf : ℕ → ℕ → ℕ
-directOf arc keep = oneKept keep (members arc)
+-- ---- before a step: no such task, fewer than 8 log bytes left, task lost; 0 if there is no stop
+abbrev pub stopBefore : ℕ → ℕ → ℕ → List Bool → ℕ
+stopBefore k tasks room lost = pick (leb tasks k) 10 (pick (leb 8 room) (pick (getD lost k false) 12 0) 11)
 
 -- ---- blocked, by the frames open, the semaphores' counts, the queues' lengths and capacities
 unfoldable pub stuckOf : Node → ℕ → List ℕ → List ℕ → List ℕ → Bool
@@ -209,33 +156,6 @@ bitsOf how x = pick (eqb how 4) (ofZ w32 x) 0
 abbrev pub underOf : ℕ → ℕ → ℕ → ℕ
 underOf f back d = pick (ltb back d) (f - back) f
 
--- ---- a node executed in place, if its arc leads straight to a kept node
-
--- tried with no frame to return to and no value to read
-abbrev pub triedHere : Node → List ℤ → List ℕ → List ℕ → List ℕ → List (List ℤ) → Acted
-triedHere x l ss ls cs is = triedOf x 0 l 0 ss ls cs is [] 0
-
--- the kept node that it leads straight to, else 32
-abbrev pub straightTo : ℕ → Acted → ℕ
-straightTo keep o = pick (eqb (o .stop) 0) (directOf (o .arc) keep) 32
-
-abbrev pub directTo : ℕ → Direct
-directTo j = record { node = j; flag = 0; bits = 0 }
-
-abbrev pub directShows : ℕ → Option ℤ → Direct
-directShows j none = directTo j
-directShows j (some x) = record { node = j; flag = 1; bits = ofZ w32 x }
-
 -- each of eight queues has eight places
 abbrev pub RowsOf : List (List ℤ) → Type 0
 RowsOf is = (q : ℕ) → q < 8 → length (getD is q []) ≡ 8
-
--- the answer, and variables, semaphores and queues after it; without such a node they are as before
-pub record Straight (keep : ℕ) (o : Acted) (l : List ℤ) (ss ls : List ℕ) (is : List (List ℤ)) (r : Direct) (l′ : List ℤ) (ss′ ls′ : List ℕ) (is′ : List (List ℤ)) : Type 0 where
-  pub node : r .node ≡ straightTo keep o
-  pub flag : r .flag ≡ flagOf (o .how)
-  pub bits : r .bits ≡ bitsOf (o .how) (o .value)
-  pub vars : l′ ≡ pick (eqb (straightTo keep o) 32) l (set l (o .var) (o .value))
-  pub sems : ss′ ≡ pick (eqb (straightTo keep o) 32) ss (semsAfter ss (o .how) (o .at) (o .count))
-  pub lens : ls′ ≡ pick (eqb (straightTo keep o) 32) ls (lensAfter ls (o .how) (o .at) (o .count))
-  pub items : is′ ≡ pick (eqb (straightTo keep o) 32) is (itemsAfter is ls (o .how) (o .at) (o .value))

@@ -1,28 +1,15 @@
 // One step, cut into functions on a node, a frame's variables and small numbers.
 ghost use mathlib.Core.Path.{_≡_};
-ghost use mathlib.Core.List.{_∷_, []};
+ghost use mathlib.Core.List.{[]};
 ghost use Prim.Native.Nat.{_<_, _≤_, _+_, _-_, _*_};
 ghost use lib.ListN.{length, getD, set};
-ghost use lib.Seq.{sets};
 ghost use lib.Dec.{eqb, leb};
 ghost use lib.IntN.{pos};
-ghost use Rattle.table.specs.Mask.{members, pick};
-ghost use Rattle.table.specs.Table.{arcTo};
-ghost use Rattle.machine.specs.State.{varAt, noFrame, noVars};
+ghost use Rattle.table.specs.Mask.{pick};
+ghost use Rattle.machine.specs.State.{varAt, noFrame};
 ghost use Rattle.machine.specs.Step.{operandIn, valueOf, entering};
-ghost use Rattle.machine.specs.Run.{word};
-ghost use Rattle.steps.specs.Cut.{Arrived, meeting, halting, tossed, directOf, goesTo, doesTo, haltsAt, showsTo, unless, readAt, Within, triedOf, triedHere, passOf, backOf, semsAfter, lensAfter, itemsAfter, shiftedOf, flagOf, bitsOf, underOf, directTo, directShows, RowsOf, Straight};
+ghost use Rattle.steps.specs.Cut.{stopBefore, goesTo, doesTo, haltsAt, showsTo, unless, readAt, semsAfter, lensAfter, itemsAfter, shiftedOf, underOf};
 ghost use Rattle.table.specs.Values.{holds};
-use table::Node;
-
-// An arc taken: the node met, or lost, or the stop's number; and whether the walk over dropped nodes is over.
-pub struct Chosen {
-    pub over: bool,
-    pub stop: u8,
-    pub lost: bool,
-    pub node: u8,
-    pub used: usize,
-}
 
 // A node executed: a stop's number; the variable set, 255 for none, and its value; the values used; its arc; what else it does (1 sends the
 // value, 2 receives it, 3 changes a semaphore, 4 shows the value), at which queue or semaphore, and the length or count there after it.
@@ -37,11 +24,21 @@ pub struct Acted {
     pub count: u8,
 }
 
-// A node executed in place: the kept node that its arc leads straight to, 32 if it does not; the log's flag and bits.
-pub struct Direct {
-    pub node: u8,
-    pub flag: u8,
-    pub bits: u32,
+// ---- before a step
+
+// The number that stops the run before a step of task k, 0 if there is none: no such task, fewer than 8 log bytes left, task lost.
+pub fn before(k: u8, tasks: u8, room: usize, lost: &[bool; 4]) -> u8
+    requires { ⌜ tasks ≤ 4 ⌝ }
+    ensures { λ r. ⌜ r ≡ stopBefore k tasks room (now (lost .entry)) ⌝ }
+{
+    if tasks <= k {
+        return 10;
+    }
+    if room < 8 {
+        return 11;
+    }
+    let i = k as usize;
+    if lost[i] { 12 } else { 0 }
 }
 
 // ---- variables
@@ -73,116 +70,6 @@ pub fn operand(vars: &[i32; 16], o: table::Operand) -> i32
         table::Operand::Var(v) => var_at(vars, v),
         table::Operand::Const(c) => c,
     }
-}
-
-// ---- arcs
-
-// The i-th number in a mask, 32 if there is none.
-fn nth(m: u32, i: u32) -> u8
-    ensures { λ r. ⌜ r ≡ getD (members m) i 32 ⌝ }
-{
-    let mut left = i;
-    let mut j: u32 = 0;
-    while j < 32 {
-        if (m >> j) % 2 == 1 {
-            if left == 0 {
-                return j as u8;
-            }
-            left = left - 1;
-        }
-        j = j + 1;
-    }
-    32
-}
-
-fn meets(j: u8, keep: u32, used: usize) -> Chosen
-    requires { ⌜ j < 32 ⌝ }
-    ensures { λ r. ⌜ r ≡ meeting keep j used ⌝ }
-{
-    Chosen {
-        over: (keep >> j) % 2 == 1,
-        stop: 0,
-        lost: false,
-        node: j,
-        used,
-    }
-}
-
-// The walk ends with a stop.
-pub fn halted(stop: u8, used: usize) -> Chosen
-    ensures { λ r. ⌜ r ≡ halting stop used ⌝ }
-{
-    Chosen {
-        over: true,
-        stop,
-        lost: false,
-        node: 0,
-        used,
-    }
-}
-
-// Two or more targets: the next value chooses.
-fn toss(arc: u32, keep: u32, values: &[i32], used: usize) -> Chosen
-    requires { ⌜ used ≤ length (now values) ⌝ }
-    ensures { λ r. ⌜ r ≡ tossed arc keep (now (values .entry)) used ⌝ }
-{
-    if values.len() <= used {
-        return halted(15, used);
-    }
-    let x = values[used];
-    let j = nth(arc, values::bits_of(x));
-    if j == 32 {
-        return halted(16, used);
-    }
-    meets(j, keep, used + 1)
-}
-
-pub fn arrive(arc: u32, keep: u32, values: &[i32], used: usize) -> Chosen
-    requires { ⌜ used ≤ length (now values) ⌝ }
-    ensures { λ r. ⌜ Arrived arc keep (now (values .entry)) used r ⌝ }
-{
-    if arc == 0 {
-        return Chosen {
-            over: true,
-            stop: 0,
-            lost: true,
-            node: 0,
-            used,
-        };
-    }
-    let j = u32::trailing_zeros(arc);
-    if arc >> j == 1 {
-        return meets(j as u8, keep, used);
-    }
-    toss(arc, keep, values, used)
-}
-
-// The one target of an arc, if it has exactly one and that is kept; else 32.
-pub fn direct_target(arc: u32, keep: u32) -> u8
-    ensures { λ r. ⌜ r ≡ directOf arc keep ⌝ }
-{
-    if arc == 0 {
-        return 32;
-    }
-    let low = u32::trailing_zeros(arc);
-    if arc >> low != 1 {
-        return 32;
-    }
-    if (keep >> low) % 2 == 1 {
-        low as u8
-    } else {
-        32
-    }
-}
-
-// The same for a return, whose arc is its call's; 32 where there is no frame to go back to.
-pub fn return_target(arc: u32, keep: u32, depth: u8) -> u8
-    ensures { λ r. ⌜ r ≡ pick (leb depth 1) 32 (directOf arc keep) ⌝ }
-{
-    if depth < 2 {
-        return 32;
-    }
-    direct_target(arc, keep)
 }
 
 // ---- nodes
@@ -371,19 +258,6 @@ pub fn affect<'a>(
     }
 }
 
-// The log's flag, and the bits of the value.
-pub fn flag(how: u8) -> u8
-    ensures { λ r. ⌜ r ≡ flagOf how ⌝ }
-{
-    if how == 4 { 1 } else { 0 }
-}
-
-pub fn bits(how: u8, value: i32) -> u32
-    ensures { λ r. ⌜ r ≡ bitsOf how value ⌝ }
-{
-    if how == 4 { values::bits_of(value) } else { 0 }
-}
-
 // ---- variables beside
 
 // Variables kept if `far`, else those of a frame with one set.
@@ -399,7 +273,7 @@ pub fn ahead<'a>(w: &'a mut [i32; 16], far: bool, vars: &'a [i32; 16], v: u8, x:
 }
 
 // Variables replaced by w if `far`, else one of them set.
-pub fn settle<'a>(vars: &'a mut [i32; 16], far: bool, w: &'a [i32; 16], v: u8, x: i32)
+pub fn settle(vars: &mut [i32; 16], far: bool, w: &[i32; 16], v: u8, x: i32)
     requires { ⌜ length (now vars) ≡ 16 ⌝ }
     ensures { λ _. ⌜ now (vars .exit) ≡ pick far (now (w .entry)) (set (now (vars .entry)) v x) ⌝ }
 {
@@ -408,16 +282,6 @@ pub fn settle<'a>(vars: &'a mut [i32; 16], far: bool, w: &'a [i32; 16], v: u8, x
         return;
     }
     set_var(vars, v, x);
-}
-
-// The variables of a frame that is closed become 0.
-pub fn clear(vars: &mut [i32; 16], back: u8)
-    ensures { λ _. ⌜ now (vars .exit) ≡ pick (eqb back 0) (now (vars .entry)) noVars ⌝ }
-{
-    if back != 0 {
-        *vars = [0, 0, 0, 0, 0, 0, 0, 0, 0, 0, 0, 0, 0, 0, 0, 0];
-        return;
-    }
 }
 
 // ---- values
@@ -429,22 +293,6 @@ pub fn at_most(used: usize, n: usize) -> usize
     ensures { λ r. ⌜ r ≡ used ⌝ }
 {
     if used < n { used } else { n }
-}
-
-// ---- the log
-
-pub fn put(log: &mut [u8], at: usize, task: u8, proc: u8, node: u8, flag: u8, bits: u32)
-    requires { ⌜ at + 8 ≤ length (now log) ⌝ }
-    ensures { λ _. ⌜ now (log .exit) ≡ sets (now (log .entry)) at (task ∷ proc ∷ node ∷ flag ∷ word bits) ⌝ }
-{
-    log[at] = task;
-    log[at + 1] = proc;
-    log[at + 2] = node;
-    log[at + 3] = flag;
-    log[at + 4] = (bits % 256) as u8;
-    log[at + 5] = (bits / 256 % 256) as u8;
-    log[at + 6] = (bits / 65536 % 256) as u8;
-    log[at + 7] = (bits / 16777216 % 256) as u8;
 }
 
 // ---- frames
@@ -459,24 +307,29 @@ pub fn no_frame() -> machine::Frame
     }
 }
 
-// A parameter: the variable passed, or 0 beyond the arguments.
-fn passed(vars: &[i32; 16], on: bool, v: u8) -> i32
-    requires { ⌜ length (now vars) ≡ 16 ⌝ }
-    ensures { λ r. ⌜ r ≡ pick on (varAt (now (vars .entry)) v) (pos 0) ⌝ }
+// The variables of the frame that a call with `len` arguments opens.
+pub fn enter(vars: &[i32; 16], len: u8, a0: u8, a1: u8, a2: u8, a3: u8) -> [i32; 16]
+    requires { ⌜ (length (now vars) ≡ 16) × (len ≤ 4) ⌝ }
+    ensures { λ r. ⌜ r ≡ entering (now (vars .entry)) 0 (record { len = len; a0 = a0; a1 = a1; a2 = a2; a3 = a3 }) .vars ⌝ }
 {
-    if on { var_at(vars, v) } else { 0 }
-}
-
-// The variables of the frame that a call opens.
-pub fn enter(vars: &[i32; 16], callee: u8, xs: table::Args) -> [i32; 16]
-    requires { ⌜ (length (now vars) ≡ 16) × (xs .len ≤ 4) ⌝ }
-    ensures { λ r. ⌜ r ≡ entering (now (vars .entry)) callee xs .vars ⌝ }
-{
-    let a = passed(vars, 0 < xs.len, xs.a0);
-    let b = passed(vars, 1 < xs.len, xs.a1);
-    let c = passed(vars, 2 < xs.len, xs.a2);
-    let d = passed(vars, 3 < xs.len, xs.a3);
-    [a, b, c, d, 0, 0, 0, 0, 0, 0, 0, 0, 0, 0, 0, 0]
+    let mut r = [0, 0, 0, 0, 0, 0, 0, 0, 0, 0, 0, 0, 0, 0, 0, 0];
+    if len == 0 {
+        return r;
+    }
+    r[0] = var_at(vars, a0);
+    if len == 1 {
+        return r;
+    }
+    r[1] = var_at(vars, a1);
+    if len == 2 {
+        return r;
+    }
+    r[2] = var_at(vars, a2);
+    if len == 3 {
+        return r;
+    }
+    r[3] = var_at(vars, a3);
+    r
 }
 
 // ---- places

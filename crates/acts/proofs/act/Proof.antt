@@ -8,7 +8,7 @@ use lib.IntN.{ℤ, pos}
 use Rattle.table.specs.Mask.{pick}
 use Rattle.table.specs.Values.{apply, holds}
 use Rattle.steps.specs.Cut.{goesTo, doesTo, unless, Within, actOf, stuckOf}
-use Rattle.steps.proofs.Leaves.{again, twice}
+use Rattle.values.proofs.Again.{again, twice}
 use Rattle.acts.proofs.act.Statement.{statement}
 use Rattle.acts.proofs.act.Tie as tie
 

@@ -5,7 +5,7 @@ use lib.IntN.{ℤ, pos}
 use Rattle.table.specs.Mask.{pick}
 use Rattle.table.specs.Values.{apply, holds}
 use Rattle.steps.specs.Cut.{goesTo, passOf}
-use Rattle.steps.proofs.Leaves.{again, twice}
+use Rattle.values.proofs.Again.{again, twice}
 use Rattle.acts.proofs.pass.Statement.{statement}
 use Rattle.acts.proofs.pass.Tie as tie
 

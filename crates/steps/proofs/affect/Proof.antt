@@ -5,7 +5,7 @@ use mathlib.Core.List.{List, []}
 use lib.ListN.{getD, set}
 use lib.IntN.{ℤ}
 use borrow.Author.Tests.{eq-eqb, ne-eqb}
-use Rattle.steps.proofs.Leaves.{again}
+use Rattle.values.proofs.Again.{again}
 use Rattle.steps.proofs.affect.Statement.{statement}
 use Rattle.steps.proofs.affect.Tie as tie
 

@@ -1,5 +1,6 @@
 use borrow.Author.Needs.{needs}
-use Rattle.steps.proofs.Leaves.{again, popped-is}
+use Rattle.values.proofs.Again.{again}
+use Rattle.steps.proofs.Leaves.{popped-is}
 use Rattle.steps.proofs.pop.Statement.{statement}
 use Rattle.steps.proofs.pop.Tie as tie
 

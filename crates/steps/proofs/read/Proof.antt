@@ -5,7 +5,7 @@ use lib.ListN.{length, getD}
 use lib.IntN.{ℤ, pos}
 use borrow.Author.Tests.{le-leb, lt-leb}
 use Rattle.steps.specs.Cut.{goesTo}
-use Rattle.steps.proofs.Leaves.{again}
+use Rattle.values.proofs.Again.{again}
 use Rattle.steps.proofs.read.Statement.{statement}
 use Rattle.steps.proofs.read.Tie as tie
 

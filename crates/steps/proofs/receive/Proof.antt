@@ -4,7 +4,7 @@ use Prim.Native.Nat.{_-_}
 use lib.IntN.{ℤ}
 use borrow.Author.Tests.{eq-eqb, ne-eqb}
 use Rattle.steps.specs.Cut.{doesTo}
-use Rattle.steps.proofs.Leaves.{again}
+use Rattle.values.proofs.Again.{again}
 use Rattle.steps.proofs.receive.Statement.{statement}
 use Rattle.steps.proofs.receive.Tie as tie
 

@@ -5,7 +5,7 @@ use Prim.Native.Nat.{_+_}
 use lib.IntN.{ℤ}
 use borrow.Author.Tests.{le-leb, lt-leb}
 use Rattle.steps.specs.Cut.{doesTo}
-use Rattle.steps.proofs.Leaves.{again}
+use Rattle.values.proofs.Again.{again}
 use Rattle.steps.proofs.send.Statement.{statement}
 use Rattle.steps.proofs.send.Tie as tie
 

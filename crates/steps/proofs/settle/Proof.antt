@@ -1,7 +1,7 @@
 use borrow.Author.Needs.{needs}
 use mathlib.Core.Path.{refl, ap, _∙_}
 use lib.ListN.{set}
-use Rattle.steps.proofs.Leaves.{again}
+use Rattle.values.proofs.Again.{again}
 use Rattle.steps.proofs.settle.Statement.{statement}
 use Rattle.steps.proofs.settle.Tie as tie
 

@@ -1,0 +1,211 @@
+-- The targets of an arc: the lowest by its trailing zeros, and whether there are more.
+use mathlib.Core.Path.{_≡_, refl, sym, _∙_, ap, subst}
+use mathlib.Core.Bool.{Bool, true, false}
+use mathlib.Core.List.{List, [], _∷_}
+use mathlib.Core.Option.{Option, none, some}
+use Prim.Native.Nat.{ℕ, zero, suc, _+_, _-_, _/_, _%_, _^_, _<_, _≤_}
+use native.Mathlib.Omega.{arith}
+use native.Mathlib.Nat.{pow-suc, div-lt-iff-lt-mul, div-div-eq-div-mul, div-one}
+use lib.Count.{trailingZeros, under}
+use lib.Pow.{pow-pos, shr-lt}
+use lib.ListN.{length, getD, getElem?, drop, drop-of-length-le, List·getD-eq-default}
+use lib.Seq.{drop-cons}
+use lib.Dec.{eqb, leb}
+use lib.IntN.{ℤ, pos, negsuc}
+use mir.Syntax.{w32}
+use mir.Val.{SFits, ofZ}
+use borrow.Author.Tests.{leb-true, leb-false, eqb-true, eqb-false, eq-eqb, ne-eqb}
+use Rattle.table.specs.Mask.{pick, bit, also, membersFrom, members}
+use Rattle.table.specs.MaskLaws.{bit-above}
+use Rattle.machine.specs.Step.{stopNumber, spent, badToss, node, bad, tossed as tossedTo, toss, chooseFrom, choose}
+use Rattle.tosses.specs.Tosses.{halting, meeting, targetAt, tossed, Arrived, oneKept, directOf}
+use Rattle.tosses.specs.declared.Chosen.{Chosen}
+
+half : (m k : ℕ) → m / 2 ^ suc k ≡ m / 2 ^ k / 2
+half m k = ap (λ (x : ℕ). m / x) (pow-suc 2 k) ∙ sym (div-div-eq-div-mul m (2 ^ k) 2)
+
+-- the lowest of the n numbers from k on that are in m, and what is listed after it
+pub lowest : (n k m : ℕ) → let z = trailingZeros n (m / 2 ^ k) in z < n
+    → (membersFrom n k m ≡ (k + z) ∷ membersFrom (n - suc z) (suc (k + z)) m) × (m / 2 ^ (k + z) % 2 ≡ 1)
+unfolding trailingZeros membersFrom bit
+lowest zero k m h = absurd (omega arith)
+lowest (suc n) k m h = go (m / 2 ^ k % 2) (trailingZeros n (m / 2 ^ k / 2)) (trailingZeros n (m / 2 ^ suc k)) refl (ap (trailingZeros n) (half m k)) h (λ j. lowest n (suc k) m j)
+  where
+    go : (b z y : ℕ) → m / 2 ^ k % 2 ≡ b → y ≡ z → under b z < suc n
+        → (y < n → (membersFrom n (suc k) m ≡ (suc k + y) ∷ membersFrom (n - suc y) (suc (suc k + y)) m) × (m / 2 ^ (suc k + y) % 2 ≡ 1))
+        → (also (eqb (m / 2 ^ k % 2) 1) k (membersFrom n (suc k) m) ≡ (k + under b z) ∷ membersFrom (suc n - suc (under b z)) (suc (k + under b z)) m) × (m / 2 ^ (k + under b z) % 2 ≡ 1)
+    go zero z y e ez l f =
+        let r = f (omega arith) in
+        let a : suc k + y ≡ k + suc z = omega arith in
+        let b : n - suc y ≡ suc n - suc (suc z) = omega arith in
+        (ap (λ (x : ℕ). also (eqb x 1) k (membersFrom n (suc k) m)) e ∙ r .0 ∙ (λ i. a i ∷ membersFrom (b i) (suc (a i)) m), rw a at (r .1))
+    go (suc b) z y e ez l f =
+        let o : m / 2 ^ k % 2 ≡ 1 = omega arith in
+        let a : k + 0 ≡ k = omega arith in
+        let d : suc n - 1 ≡ n = omega arith in
+        (rw (a, d) (ap (λ (x : Bool). also x k (membersFrom n (suc k) m)) (eq-eqb (m / 2 ^ k % 2) 1 o)), rw a o)
+
+-- a number that is not 0 has a lowest digit
+pub trailing-lt : (n q : ℕ) → q < 2 ^ n → (q ≡ 0 → ⊥) → trailingZeros n q < n
+unfolding trailingZeros
+trailing-lt zero q l h = absurd (h (omega arith))
+trailing-lt (suc n) q l h = go (q % 2) refl (λ a b. trailing-lt n (q / 2) a b)
+  where
+    go : (b : ℕ) → q % 2 ≡ b → (q / 2 < 2 ^ n → (q / 2 ≡ 0 → ⊥) → trailingZeros n (q / 2) < n) → under b (trailingZeros n (q / 2)) < suc n
+    go zero e f = omega (arith, f (omega (arith, pow-suc 2 n)) (λ z. h (omega arith)))
+    go (suc b) e f = omega arith
+
+-- none from k on where all is below
+none-above : (n k m : ℕ) → m < 2 ^ k → membersFrom n k m ≡ []
+unfolding membersFrom
+none-above zero k m h = refl
+none-above (suc n) k m h = rw (bit-above k m h) (none-above n (suc k) m (omega (arith, pow-suc 2 k)))
+
+module _ (m : ℕ) (fits : m < 4294967296) (some-in : m ≡ 0 → ⊥) where
+  abbrev low : ℕ
+  low = trailingZeros 32 m
+
+  at-start : trailingZeros 32 (m / 2 ^ 0) ≡ low
+  at-start = ap (trailingZeros 32) (div-one m)
+
+  pub low-lt : low < 32
+  low-lt = trailing-lt 32 m fits some-in
+
+  low-is : (members m ≡ low ∷ membersFrom (32 - suc low) (suc low) m) × (m / 2 ^ low % 2 ≡ 1)
+  low-is =
+      let r = lowest 32 0 m (omega (arith, at-start, low-lt)) in
+      let a : 0 + trailingZeros 32 (m / 2 ^ 0) ≡ low = omega (arith, at-start) in
+      (r .0 ∙ (λ i. a i ∷ membersFrom (32 - suc (at-start i)) (suc (a i)) m), rw a at (r .1))
+
+  pub one-target : m / 2 ^ low ≡ 1 → members m ≡ low ∷ []
+  one-target h =
+      let l : m < 2 ^ suc low = subst (λ (x : ℕ). m < x) (ap (λ (x : ℕ). x) (omega (arith, pow-suc 2 low))) (div-lt-iff-lt-mul {k = 2 ^ low} {x = m} {y = 2} (pow-pos low) .0 (omega arith)) in
+      low-is .0 ∙ ap (λ (l : List ℕ). low ∷ l) (none-above (32 - suc low) (suc low) m l)
+
+  pub more-targets : (m / 2 ^ low ≡ 1 → ⊥) → (a b : ℕ) × (l : List ℕ) × (members m ≡ a ∷ b ∷ l)
+  more-targets h =
+      let q = m / 2 ^ suc low in
+      let n = 32 - suc low in
+      let e : q ≡ m / 2 ^ low / 2 = half m low in
+      let nz : q ≡ 0 → ⊥ = λ z. omega (arith, e, low-is .1, h (omega (arith, e, low-is .1))) in
+      let u : n + suc low ≡ 32 = omega (arith, low-lt) in
+      let b : q < 2 ^ n = shr-lt n (suc low) (rw u fits) in
+      let r = lowest n (suc low) m (trailing-lt n q b nz) .0 in
+      (low, suc low + trailingZeros n q, membersFrom (n - suc (trailingZeros n q)) (suc (suc low + trailingZeros n q)) m, low-is .0 ∙ ap (λ (l : List ℕ). low ∷ l) r)
+
+-- ---- the i-th target
+
+nth-le : (n k m i d : ℕ) → k + n ≤ d → getD (membersFrom n k m) i d ≤ d
+unfolding membersFrom
+nth-le zero k m i d h = omega arith
+nth-le (suc n) k m i d h = go (bit k m) i (λ i. nth-le n (suc k) m i d (omega arith))
+  where
+    go : (b : Bool) (i : ℕ) → ((i : ℕ) → getD (membersFrom n (suc k) m) i d ≤ d) → getD (also b k (membersFrom n (suc k) m)) i d ≤ d
+    go true zero f = omega arith
+    go true (suc i) f = f i
+    go false i f = f i
+
+pub nth-lt : (m i : ℕ) → (getD (members m) i 32 ≡ 32 → ⊥) → getD (members m) i 32 < 32
+nth-lt m i h = omega (arith, nth-le 32 0 m i 32 (omega arith), h)
+
+elem-some : (l : List ℕ) (i d : ℕ) → (getD l i d ≡ d → ⊥) → getElem? l i ≡ some (getD l i d)
+elem-some [] i d h = absurd (h refl)
+elem-some (x ∷ l) zero d h = refl
+elem-some (x ∷ l) (suc i) d h = elem-some l i d h
+
+elem-none : (n k m i d : ℕ) → k + n ≤ d → getD (membersFrom n k m) i d ≡ d → getElem? (membersFrom n k m) i ≡ none
+unfolding membersFrom
+elem-none zero k m i d h e = refl
+elem-none (suc n) k m i d h e = go (bit k m) i e (λ i. elem-none n (suc k) m i d (omega arith))
+  where
+    go : (b : Bool) (i : ℕ) → getD (also b k (membersFrom n (suc k) m)) i d ≡ d
+        → ((i : ℕ) → getD (membersFrom n (suc k) m) i d ≡ d → getElem? (membersFrom n (suc k) m) i ≡ none) → getElem? (also b k (membersFrom n (suc k) m)) i ≡ none
+    go true zero e f = absurd (omega arith)
+    go true (suc i) e f = f i e
+    go false i e f = f i e
+
+few : (n k m : ℕ) → length (membersFrom n k m) ≤ n
+unfolding membersFrom
+few zero k m = omega arith
+few (suc n) k m = go (bit k m) (few n (suc k) m)
+  where
+    go : (b : Bool) → length (membersFrom n (suc k) m) ≤ n → length (also b k (membersFrom n (suc k) m)) ≤ suc n
+    go true h = omega arith
+    go false h = omega arith
+
+-- a negative value is past every target when its bits are taken
+pub target-is : (m : ℕ) (x : ℤ) → SFits w32 x → getD (members m) (ofZ w32 x) 32 ≡ targetAt (members m) x
+target-is m (pos i) f = refl
+target-is m (negsuc i) f = List·getD-eq-default (members m) 32 (omega (arith, few 32 0 m, f .sfits))
+
+-- ---- what an arc's answers say
+
+module _ (arc keep : ℕ) (vs : List ℤ) (used : ℕ) (w : used ≤ length vs) where
+  pub nowhere-arrived : arc ≡ 0 → Arrived arc keep vs used (record { over = true; stop = 0; lost = true; node = 0; used = used })
+  unfolding choose membersFrom bit
+  nowhere-arrived e = record { choice = rw e refl; sound = record { over = refl; named = refl; within = w; place = omega arith; gone = refl } }
+
+  pub one-arrived : (j : ℕ) → members arc ≡ j ∷ [] → j < 32 → Arrived arc keep vs used (meeting keep j used)
+  unfolding choose
+  one-arrived j e l = record { choice = ap (λ (ms : List ℕ). chooseFrom ms (drop used vs)) e; sound = record { over = refl; named = refl; within = w; place = l; gone = refl } }
+
+  abbrev here : ℤ
+  here = getD vs used (pos 0)
+
+  tossed-by : (ms : List ℕ) (x : ℤ) → members arc ≡ ms → (targetAt (members arc) x ≡ 32 → ⊥) → toss ms x (drop (suc used) vs) ≡ node (targetAt (members arc) x) (drop (suc used) vs)
+  tossed-by ms (pos i) e h = rw (← e) (ap (λ (o : Option ℕ). tossedTo o (drop (suc used) vs)) (elem-some (members arc) i 32 h))
+  tossed-by ms (negsuc i) e h = absurd (h refl)
+
+  tossed-bad : (ms : List ℕ) (x : ℤ) → members arc ≡ ms → targetAt (members arc) x ≡ 32 → toss ms x (drop (suc used) vs) ≡ bad badToss
+  tossed-bad ms (pos i) e h = rw (← e) (ap (λ (o : Option ℕ). tossedTo o (drop (suc used) vs)) (elem-none 32 0 arc i 32 (omega arith) h))
+  tossed-bad ms (negsuc i) e h = refl
+
+  target-lt : (x : ℤ) → (targetAt (members arc) x ≡ 32 → ⊥) → targetAt (members arc) x < 32
+  target-lt (pos i) h = nth-lt arc i h
+  target-lt (negsuc i) h = absurd (h refl)
+
+  abbrev Tossing : Chosen → Type 0
+  Tossing r = Arrived arc keep vs used r
+
+  module _ (a b : ℕ) (l : List ℕ) (two : members arc ≡ a ∷ b ∷ l) where
+    spent-is : length vs ≤ used → choose arc (drop used vs) ≡ bad spent
+    unfolding choose
+    spent-is h = rw (two, drop-of-length-le vs h) refl
+
+    next-is : used < length vs → choose arc (drop used vs) ≡ toss (a ∷ b ∷ l) here (drop (suc used) vs)
+    unfolding choose
+    next-is h = rw (two, drop-cons vs used (pos 0) h) refl
+
+    by-target : used < length vs → (t : Bool) → eqb (targetAt (members arc) here) 32 ≡ t → Tossing (pick t (halting 16 used) (meeting keep (targetAt (members arc) here) (used + 1)))
+    unfolding stopNumber
+    by-target h true e = record { choice = next-is h ∙ tossed-bad (a ∷ b ∷ l) here two (eqb-true (targetAt (members arc) here) 32 e); sound = record { over = refl; named = refl; within = w; place = omega arith; gone = refl } }
+    by-target h false e =
+        let n = eqb-false (targetAt (members arc) here) 32 e in
+        let s : suc used ≡ used + 1 = omega arith in
+        record { choice = next-is h ∙ tossed-by (a ∷ b ∷ l) here two n ∙ ap (λ (u : ℕ). node (targetAt (members arc) here) (drop u vs)) s; sound = record { over = refl; named = refl; within = omega arith; place = target-lt here n; gone = refl } }
+
+    by-room : (t : Bool) → leb (length vs) used ≡ t → Tossing (pick t (halting 15 used) (pick (eqb (targetAt (members arc) here) 32) (halting 16 used) (meeting keep (targetAt (members arc) here) (used + 1))))
+    unfolding stopNumber
+    by-room true e = record { choice = spent-is (leb-true (length vs) used e); sound = record { over = refl; named = refl; within = w; place = omega arith; gone = refl } }
+    by-room false e = by-target (leb-false (length vs) used e) (eqb (targetAt (members arc) here) 32) refl
+
+    pub toss-arrived : Tossing (tossed arc keep vs used)
+    toss-arrived = by-room (leb (length vs) used) refl
+
+-- ---- the one target of an arc, where it is kept
+
+module _ (arc keep : ℕ) where
+  pub direct-none : arc ≡ 0 → 32 ≡ directOf arc keep
+  direct-none z = sym (ap (oneKept keep) (ap members z ∙ none-above 32 0 0 (omega arith)))
+
+  pub direct-more : (a b : ℕ) (l : List ℕ) → members arc ≡ a ∷ b ∷ l → 32 ≡ directOf arc keep
+  direct-more a b l e = sym (ap (oneKept keep) e)
+
+  module _ (j : ℕ) (one : members arc ≡ j ∷ []) where
+    pub direct-kept : keep / 2 ^ j % 2 ≡ 1 → j ≡ directOf arc keep
+    unfolding bit
+    direct-kept h = sym (ap (oneKept keep) one ∙ ap (λ (b : Bool). pick b j 32) (eq-eqb (keep / 2 ^ j % 2) 1 h))
+
+    pub direct-dropped : (keep / 2 ^ j % 2 ≡ 1 → ⊥) → 32 ≡ directOf arc keep
+    unfolding bit
+    direct-dropped h = sym (ap (oneKept keep) one ∙ ap (λ (b : Bool). pick b j 32) (ne-eqb (keep / 2 ^ j % 2) 1 h))

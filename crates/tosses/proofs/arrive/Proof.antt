@@ -1,0 +1,31 @@
+use borrow.Author.Needs.{needs}
+use native.Mathlib.Omega.{arith}
+use Rattle.tosses.proofs.Arcs.{low-lt, one-target, more-targets, nowhere-arrived, one-arrived, toss-arrived}
+use Rattle.tosses.proofs.arrive.Statement.{statement}
+use Rattle.tosses.proofs.arrive.Tie as tie
+
+returns : tie.Need-returns
+returns c = nowhere-arrived (c .before .args .arc) (c .before .args .keep) (c .before .args .values .now) (c .before .args .used) (c .before .pre) (c .if1 .taken)
+
+shr-if2 : tie.Need-shr-if2
+shr-if2 c = low-lt (c .before .args .arc) (omega (arith, c .before .fits .arc .fits)) (c .if1 .left)
+
+cast-meets : tie.Need-cast-meets
+cast-meets c = record { fits = omega (arith, low-lt (c .before .before .args .arc) (omega (arith, c .before .before .fits .arc .fits)) (c .before .if1 .left)) }
+
+meets-requires : tie.Need-meets-requires
+meets-requires c κs = low-lt (c .before .before .args .arc) (omega (arith, c .before .before .fits .arc .fits)) (c .before .if1 .left)
+
+returns-2 : tie.Need-returns-2
+returns-2 c = rw (c .meets .ensures) (one-arrived (c .before .before .before .args .arc) (c .before .before .before .args .keep) (c .before .before .before .args .values .now) (c .before .before .before .args .used) (c .before .before .before .pre) _ (one-target (c .before .before .before .args .arc) (omega (arith, c .before .before .before .fits .arc .fits)) (c .before .before .if1 .left) (c .before .if2 .taken)) (low-lt (c .before .before .before .args .arc) (omega (arith, c .before .before .before .fits .arc .fits)) (c .before .before .if1 .left)))
+
+toss-requires : tie.Need-toss-requires
+toss-requires c κs = search needs
+
+returns-3 : tie.Need-returns-3
+returns-3 c = let m = more-targets (c .before .before .before .args .arc) (omega (arith, c .before .before .before .fits .arc .fits)) (c .before .before .if1 .left) (c .before .if2 .left) in rw (c .toss .ensures) (toss-arrived (c .before .before .before .args .arc) (c .before .before .before .args .keep) (c .before .before .before .args .values .now) (c .before .before .before .args .used) (c .before .before .before .pre) (m .0) (m .1) (m .2) (m .3))
+
+pub arrive-spec : {M : Type 1} → statement M
+arrive-spec =
+    tie.close
+    (tie.spec returns shr-if2 cast-meets meets-requires returns-2 toss-requires returns-3)

@@ -1,0 +1,30 @@
+use native.Mathlib.Omega.{arith}
+use Rattle.tosses.proofs.Arcs.{low-lt, one-target, more-targets, direct-none, direct-more, direct-kept, direct-dropped}
+use Rattle.tosses.proofs.direct_target.Statement.{statement}
+use Rattle.tosses.proofs.direct_target.Tie as tie
+
+returns : tie.Need-returns
+returns c = direct-none ((c .before .args) .arc) ((c .before .args) .keep) ((c .if1) .taken)
+
+shr-if2 : tie.Need-shr-if2
+shr-if2 c = low-lt ((c .before .args) .arc) (omega (arith, (c .before .fits) .arc .fits)) ((c .if1) .left)
+
+returns-2 : tie.Need-returns-2
+returns-2 c = let m = more-targets ((c .before .before .args) .arc) (omega (arith, (c .before .before .fits) .arc .fits)) ((c .before .if1) .left) ((c .if2) .taken) in direct-more ((c .before .before .args) .arc) ((c .before .before .args) .keep) (m .0) (m .1) (m .2) (m .3)
+
+shr-if3 : tie.Need-shr-if3
+shr-if3 c = low-lt ((c .before .before .args) .arc) (omega (arith, (c .before .before .fits) .arc .fits)) ((c .before .if1) .left)
+
+cast-result : tie.Need-cast-result
+cast-result c = record { fits = omega (arith, low-lt ((c .before .before .before .args) .arc) (omega (arith, (c .before .before .before .fits) .arc .fits)) ((c .before .before .if1) .left)) }
+
+returns-3 : tie.Need-returns-3
+returns-3 c = direct-kept ((c .before .before .before .args) .arc) ((c .before .before .before .args) .keep) _ (one-target ((c .before .before .before .args) .arc) (omega (arith, (c .before .before .before .fits) .arc .fits)) ((c .before .before .if1) .left) ((c .before .if2) .left)) ((c .if3) .taken)
+
+returns-4 : tie.Need-returns-4
+returns-4 c = direct-dropped ((c .before .before .before .args) .arc) ((c .before .before .before .args) .keep) _ (one-target ((c .before .before .before .args) .arc) (omega (arith, (c .before .before .before .fits) .arc .fits)) ((c .before .before .if1) .left) ((c .before .if2) .left)) ((c .if3) .left)
+
+pub direct-target-spec : {M : Type 1} → statement M
+direct-target-spec =
+    tie.close
+    (tie.spec returns shr-if2 returns-2 shr-if3 cast-result returns-3 returns-4)

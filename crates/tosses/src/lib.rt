@@ -1,0 +1,113 @@
+// An arc taken, by a toss where it has two or more targets.
+ghost use mathlib.Core.Path.{_≡_};
+ghost use Prim.Native.Nat.{_<_, _≤_};
+ghost use lib.ListN.{length, getD};
+ghost use Rattle.table.specs.Mask.{members};
+ghost use Rattle.tosses.specs.Tosses.{Arrived, meeting, halting, tossed, directOf};
+
+// An arc taken: the node met, or lost, or the stop's number; and whether the walk over dropped nodes is over.
+pub struct Chosen {
+    pub over: bool,
+    pub stop: u8,
+    pub lost: bool,
+    pub node: u8,
+    pub used: usize,
+}
+
+// The i-th number in a mask, 32 if there is none.
+fn nth(m: u32, i: u32) -> u8
+    ensures { λ r. ⌜ r ≡ getD (members m) i 32 ⌝ }
+{
+    let mut left = i;
+    let mut j: u32 = 0;
+    while j < 32 {
+        if (m >> j) % 2 == 1 {
+            if left == 0 {
+                return j as u8;
+            }
+            left = left - 1;
+        }
+        j = j + 1;
+    }
+    32
+}
+
+fn meets(j: u8, keep: u32, used: usize) -> Chosen
+    requires { ⌜ j < 32 ⌝ }
+    ensures { λ r. ⌜ r ≡ meeting keep j used ⌝ }
+{
+    Chosen {
+        over: (keep >> j) % 2 == 1,
+        stop: 0,
+        lost: false,
+        node: j,
+        used,
+    }
+}
+
+// The walk ends with a stop.
+pub fn halted(stop: u8, used: usize) -> Chosen
+    ensures { λ r. ⌜ r ≡ halting stop used ⌝ }
+{
+    Chosen {
+        over: true,
+        stop,
+        lost: false,
+        node: 0,
+        used,
+    }
+}
+
+// Two or more targets: the next value chooses.
+fn toss(arc: u32, keep: u32, values: &[i32], used: usize) -> Chosen
+    requires { ⌜ used ≤ length (now values) ⌝ }
+    ensures { λ r. ⌜ r ≡ tossed arc keep (now (values .entry)) used ⌝ }
+{
+    if values.len() <= used {
+        return halted(15, used);
+    }
+    let x = values[used];
+    let j = nth(arc, values::bits_of(x));
+    if j == 32 {
+        return halted(16, used);
+    }
+    meets(j, keep, used + 1)
+}
+
+pub fn arrive(arc: u32, keep: u32, values: &[i32], used: usize) -> Chosen
+    requires { ⌜ used ≤ length (now values) ⌝ }
+    ensures { λ r. ⌜ Arrived arc keep (now (values .entry)) used r ⌝ }
+{
+    if arc == 0 {
+        return Chosen {
+            over: true,
+            stop: 0,
+            lost: true,
+            node: 0,
+            used,
+        };
+    }
+    let j = u32::trailing_zeros(arc);
+    if arc >> j == 1 {
+        return meets(j as u8, keep, used);
+    }
+    toss(arc, keep, values, used)
+}
+
+// The one target of an arc, if it has exactly one and that is kept; else 32.
+pub fn direct_target(arc: u32, keep: u32) -> u8
+    ensures { λ r. ⌜ r ≡ directOf arc keep ⌝ }
+{
+    if arc == 0 {
+        return 32;
+    }
+    let low = u32::trailing_zeros(arc);
+    if arc >> low != 1 {
+        return 32;
+    }
+    if (keep >> low) % 2 == 1 {
+        low as u8
+    } else {
+        32
+    }
+}
