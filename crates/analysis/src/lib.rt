@@ -34,14 +34,6 @@ fn grow(cells: &mut [u32; 265], a: usize, m: u32) -> bool
     new != old
 }
 
-// m, with n added if yes.
-fn with(m: u32, n: usize, yes: bool) -> u32
-    requires { ⌜ n < 32 ⌝ }
-    ensures { λ r. ⌜ r ≡ pick yes (bitOr m (1 * 2 ^ n)) m ⌝ }
-{
-    if yes { m | (1 << (n as u32)) } else { m }
-}
-
 // The mask m is added to the cell of node n of procedure p. If something was new, which is the answer, the node is to be seen.
 fn reach(cells: &mut [u32; 265], todo: &mut [u32; 8], p: usize, n: usize, m: u32) -> bool
     requires { ⌜ (p < 8) × ((n < 32) × Sized (now cells) (now todo)) ⌝ }
@@ -53,7 +45,7 @@ fn reach(cells: &mut [u32; 265], todo: &mut [u32; 8], p: usize, n: usize, m: u32
     let yes = grow(cells, at, m);
     if yes {
         let w = todo[p];
-        todo[p] = with(w, n, yes);
+        todo[p] = masks::with(w, n, yes);
         return yes;
     }
     yes
@@ -326,8 +318,8 @@ fn plan(
         let y = q.slots[n];
         let x = y.node;
         let k = source(x);
-        reads = with(reads, n, k == 1);
-        recvs = with(recvs, n, k == 2);
+        reads = masks::with(reads, n, k == 1);
+        recvs = masks::with(recvs, n, k == 2);
         let s = flow::pass_of(x, n);
         let at = p * 32 + n;
         uses[at] = s.uses;
@@ -377,7 +369,7 @@ pub fn dirty_cells(t: Table) -> [u32; 265]
 }
 
 // The kept nodes of a procedure, from what is dirty.
-pub fn kept_mask(q: Proc, base: usize, cells: &[u32; 265]) -> u32
+fn kept_mask(q: Proc, base: usize, cells: &[u32; 265]) -> u32
     requires { ⌜ base ≤ 224 ⌝ }
     ensures { λ r. ⌜ r ≡ maskOf 32 (keptIn q base (now (cells .entry))) ⌝ }
 {
@@ -389,7 +381,7 @@ pub fn kept_mask(q: Proc, base: usize, cells: &[u32; 265]) -> u32
         let at = base + n;
         let i = cells[at];
         let yes = flow::kept_node(x, i);
-        m = with(m, n, yes);
+        m = masks::with(m, n, yes);
         n += 1;
     }
     m

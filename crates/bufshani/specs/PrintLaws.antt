@@ -2,31 +2,19 @@
 use Prim.Native.Nat.{ℕ, zero, suc}
 use mathlib.Core.Path.{_≡_, refl, sym, _∙_, ap}
 use mathlib.Core.List.{List}
-use mathlib.Core.Bool.{Bool, true, false}
-use native.Mathlib.Omega.{arith}
-use Rattle.table.specs.declared.Table.{Table}
+use mathlib.Core.Bool.{true, false}
 use Rattle.text.specs.declared.Reading.{Reading}
 use Rattle.text.specs.Reader.{read}
 use Rattle.text.specs.Writer.{text, fault}
 use Rattle.text.specs.RoundTrip.{read-good, read-fault}
 use Rattle.closing.specs.declared.Closing.{Closing}
-use Rattle.closing.specs.Close.{closeTable, close}
-use Rattle.closing.specs.ClosedValid.{closed-fault}
+use Rattle.closing.specs.Close.{closeTable, refusal, close}
 use Rattle.closing.specs.Program.{refusedLine, afterClosing, afterReading, printed}
 use Rattle.bufshani.specs.CloseLaws.{close-closed, close-open}
 
 -- a table that was read has no fault
 pub sound-read : (s : List ℕ) (r : Reading) → r ≡ read s → r .number ≡ 0 → 0 ≡ fault (r .table)
 sound-read s r e h = let g : read s .number ≡ 0 = rw e at h in rw e (sym (read-fault s (read s .table) (read-good s g)))
-
--- nor has the closed table of one without a fault
-pub sound-closed : (t : Table) (c : Closing) → 0 ≡ fault t → c ≡ close t → c .number ≡ 0 → fault (c .table) ≡ 0
-sound-closed t c e q h = go (t .closed) refl
-  where
-    go : (b : Bool) → t .closed ≡ b → fault (c .table) ≡ 0
-    go true d = let g : _≡_ {A = ℕ} 0 9 = sym h ∙ ap (λ (x : Closing). x .number) (q ∙ sym (close-closed t 0 e refl d)) in absurd (omega arith)
-    go false d = let g : c ≡ record { number = 0; line = 0; table = closeTable t } = q ∙ sym (close-open t (closeTable t) 0 e refl d refl) in
-        rw g (closed-fault t (sym e) d)
 
 module _ (s : List ℕ) (r : Reading) (e : r ≡ read s) where
   from-reading : afterReading (r .number) r ≡ printed s
@@ -40,16 +28,12 @@ module _ (s : List ℕ) (r : Reading) (e : r ≡ read s) where
       go zero k = absurd (k refl)
       go (suc n) k = refl
 
-  module _ (h : r .number ≡ 0) (c : Closing) (q : c ≡ close (r .table)) where
-    from-closing : afterClosing (c .number) c ≡ printed s
-    from-closing = ap (λ (x : Closing). afterClosing (x .number) x) q ∙ (rw h at from-reading)
+  module _ (h : r .number ≡ 0) where
+    from-closing : (c : Closing) → c ≡ close (r .table) → afterClosing (c .number) c ≡ printed s
+    from-closing c q = ap (λ (x : Closing). afterClosing (x .number) x) q ∙ (rw h at from-reading)
 
-    pub printed-unclosed : (c .number ≡ 0 → ⊥) → refusedLine (c .number) (c .line) ≡ printed s
-    printed-unclosed k = go (c .number) k ∙ from-closing
-      where
-        go : (n : ℕ) → (n ≡ 0 → ⊥) → refusedLine n (c .line) ≡ afterClosing n c
-        go zero k = absurd (k refl)
-        go (suc n) k = refl
+    pub printed-unclosed : r .table .closed ≡ true → refusedLine 9 0 ≡ printed s
+    printed-unclosed d = from-closing (refusal 9) (close-closed (r .table) 0 (sound-read s r e h) refl d)
 
-    pub printed-closed : c .number ≡ 0 → text (c .table) ≡ printed s
-    printed-closed k = rw k at from-closing
+    pub printed-closed : r .table .closed ≡ false → text (closeTable (r .table)) ≡ printed s
+    printed-closed d = from-closing (record { number = 0; line = 0; table = closeTable (r .table) }) (close-open (r .table) (closeTable (r .table)) 0 (sound-read s r e h) refl d refl)

@@ -157,10 +157,8 @@ pub fn close_text(s: &[u8], out: &mut [u8]) -> usize
         return refusals::put_refused(out, r.number, r.line);
     }
     let t = r.table;
-    let c = close_checked(t, 0);
-    if c.number != 0 {
-        return refusals::put_refused(out, c.number, c.line);
+    if t.closed {
+        return refusals::put_refused(out, 9, 0);
     }
-    let u = c.table;
-    writer::put_table(out, u)
+    closed_text::put_closed(out, t)
 }

@@ -1,12 +1,12 @@
 -- The parts of a closed table, as the code computes them from the masks of what is dirty and of where each node leads.
-use Prim.Native.Nat.{ℕ, _+_, _*_, _%_, _<_}
+use Prim.Native.Nat.{ℕ, _+_, _*_, _%_, _<_, _≤_}
 use mathlib.Core.Path.{_≡_}
 use mathlib.Core.Bool.{_&&_}
 use mathlib.Core.List.{List}
 use lib.ListN.{length, getD}
 use lib.Dec.{ltb}
 use Rattle.table.specs.Mask.{pick, bit, maskOf}
-use Rattle.table.specs.Table.{removed, nodeIn, noSlot}
+use Rattle.table.specs.Table.{removed, nodeIn, noSlot, noQueue}
 use Rattle.table.specs.declared.Args.{Args}
 use Rattle.table.specs.declared.Node.{Node}
 use Rattle.table.specs.declared.Node.the-variants.{Absent, Start, Set, Test, Read, Call, Wait, Signal, Send, Recv, Assert, Out, Return}
@@ -63,6 +63,17 @@ slotWith q base kept l arcs n = record { node = pick (bit (n % 32) kept) (nodeWi
 
 abbrev pub queueWith : ℕ → ℕ → Queue → Queue
 queueWith b i q = record { cap = q .cap; blank = bit (i % 32) b }
+
+-- the closed queues r of the open ones, from the blank queues b
+abbrev pub ClosedQueues : ℕ → List Queue → List Queue → Type 0
+ClosedQueues b queues r = (length r ≡ 8) × ((i : ℕ) → i < 8 → getD r i noQueue ≡ queueWith b i (getD queues i noQueue))
+
+-- the procedure r on the way to being closed: the first k nodes of q are, the others stand as they were
+pub record Upto (q : Proc) (base kept : ℕ) (l arcs : List ℕ) (k : ℕ) (r : Proc) : Type 0 where
+  pub head : r ≡ record { params = q .params; vars = q .vars; nodes = q .nodes; drop = q .drop; slots = r .slots }
+  pub size : length (r .slots) ≡ 32
+  pub done : (n : ℕ) → n < k → getD (r .slots) n noSlot ≡ slotWith q base kept l arcs n
+  pub rest : (n : ℕ) → k ≤ n → getD (r .slots) n noSlot ≡ getD (q .slots) n noSlot
 
 -- the closed procedure r of the open one q, from the cells l
 pub record ClosedProc (q : Proc) (p : ℕ) (l : List ℕ) (r : Proc) : Type 0 where

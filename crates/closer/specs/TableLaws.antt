@@ -31,7 +31,7 @@ use Rattle.analysis.specs.Steps.{keptIn}
 use Rattle.analysis.specs.NodeLaws.{var-mod}
 use Rattle.analysis.specs.Decide.{dropped-low}
 use Rattle.analysis.specs.KeptLaws.{read-use, read-drop, read-blank, kept-bit}
-use Rattle.closer.specs.Parts.{argsWith, nodeWith, dropIn, arcIn, slotWith, queueWith, ClosedProc}
+use Rattle.closer.specs.Parts.{argsWith, nodeWith, dropIn, arcIn, slotWith, ClosedQueues, ClosedProc}
 use Rattle.closer.specs.ListLaws.{mapped}
 use Rattle.closer.specs.ArcLaws.{arc-right}
 
@@ -124,15 +124,15 @@ module _ (t : Table) (o : Ready t) (l : List ℕ) (d : Decides t l) where
   procs-are r e h = mapped (closedProc t (dirty t)) outside outside (t .proc) r (e ∙ sym (o .procs-size))
       (λ p b. let hp : p < 8 = omega (arith, o .procs-size) in proc-is p hp (getD r p outside) (h p hp))
 
-  queues-are : (r : List Queue) → length r ≡ 8 → ((i : ℕ) → i < 8 → getD r i noQueue ≡ queueWith (cell l 264) i (getD (t .queue) i noQueue)) → r ≡ mapFrom (closedQueue t (dirty t)) 0 (t .queue)
-  queues-are r e h = mapped (closedQueue t (dirty t)) noQueue noQueue (t .queue) r (e ∙ sym (o .queues-size))
+  pub queues-are : (r : List Queue) → ClosedQueues (cell l 264) (t .queue) r → r ≡ mapFrom (closedQueue t (dirty t)) 0 (t .queue)
+  queues-are r h = mapped (closedQueue t (dirty t)) noQueue noQueue (t .queue) r (h .0 ∙ sym (o .queues-size))
       (λ i b. let hi : i < 8 = omega (arith, o .queues-size) in
       let j : i % 32 ≡ i = mod-eq-of-lt (omega arith) in
-      h i hi ∙ rw (j, read-blank t o l d i))
+      h .1 i hi ∙ rw (j, read-blank t o l d i))
 
   pub table-is : (queues : List Queue) (procs : List Proc)
       → (length procs ≡ 8) × ((p : ℕ) → p < 8 → ClosedProc (procAt t p) p l (getD procs p outside))
-      → (length queues ≡ 8) × ((i : ℕ) → i < 8 → getD queues i noQueue ≡ queueWith (cell l 264) i (getD (t .queue) i noQueue))
+      → ClosedQueues (cell l 264) (t .queue) queues
       → _≡_ {A = Table} (record { trap = t .trap; closed = true; tasks = t .tasks; procs = t .procs; sems = t .sems; queues = t .queues; task = t .task; sem = t .sem; queue = queues; proc = procs }) (closeTable t)
   unfolding closeTable closedWith
-  table-is queues procs c q = rw (procs-are procs (c .0) (c .1), queues-are queues (q .0) (q .1))
+  table-is queues procs c q = rw (procs-are procs (c .0) (c .1), queues-are queues q)

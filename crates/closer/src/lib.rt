@@ -14,7 +14,7 @@ ghost use Rattle.masks.specs.Cells.{cell, Filled};
 ghost use Rattle.flow.specs.Flow.{low};
 ghost use Rattle.closing.specs.Close.{closeTable};
 ghost use Rattle.analysis.specs.Ready.{Ready};
-ghost use Rattle.closer.specs.Parts.{twoEnds, endOf, argWith, argsWith, dropIn, arcIn, nodeWith, slotWith, queueWith, ClosedProc};
+ghost use Rattle.closer.specs.Parts.{twoEnds, endOf, argWith, argsWith, dropIn, arcIn, nodeWith, slotWith, ClosedQueues, ClosedProc};
 
 // The target of an arc, twice.
 fn one_end(to: u32) -> u32
@@ -84,21 +84,6 @@ fn end_of(x: Node, n: usize) -> u32
         Node::Out { var: _, to } => one_end(to),
         Node::Return => no_end(n),
     }
-}
-
-// The targets of a procedure's nodes.
-fn ends(q: Proc) -> [u32; 32]
-    ensures { λ r. ⌜ (length r ≡ 32) × Filled (λ n. endOf (nodeIn q n) n) 32 r ⌝ }
-{
-    let mut r = [0u32; 32];
-    let mut n: usize = 0;
-    while n < 32 {
-        let s = q.slots[n];
-        let x = s.node;
-        r[n] = end_of(x, n);
-        n += 1;
-    }
-    r
 }
 
 // The variable v, or `-` if k is in m.
@@ -250,43 +235,38 @@ fn closed_slot(x: Node, kept: bool, i: u32, cells: &[u32; 265], arcs: &[u32; 32]
     Node::Absent
 }
 
-// The nodes of a procedure, closed.
-fn closed_slots(q: Proc, base: usize, kept: u32, cells: &[u32; 265], arcs: &[u32; 32]) -> [Slot; 32]
-    requires { ⌜ base ≤ 224 ⌝ }
-    ensures { λ r. ⌜ (length r ≡ 32) × ((n : ℕ) → n < 32 → getD r n noSlot ≡ slotWith q base kept (now (cells .entry)) (now (arcs .entry)) n) ⌝ }
-{
-    let mut r = [Slot { node: Node::Absent }; 32];
-    let mut n: usize = 0;
-    while n < 32 {
-        let s = q.slots[n];
-        let x = s.node;
-        let i = cells[base + n];
-        let k = flow::has(kept, n as u8);
-        let y = closed_slot(x, k, i, cells, arcs);
-        r[n] = Slot { node: y };
-        n += 1;
-    }
-    r
-}
-
-// One procedure, closed.
-fn closed_proc(q: Proc, p: usize, cells: &[u32; 265]) -> Proc
+// One procedure, closed: which nodes are kept and where each leads, then each node in its place.
+pub fn closed_proc(q: Proc, p: usize, cells: &[u32; 265]) -> Proc
     requires { ⌜ p < 8 ⌝ }
     ensures { λ r. ⌜ ClosedProc q p (now (cells .entry)) r ⌝ }
 {
     let base = p * 32;
-    let kept = analysis::kept_mask(q, base, cells);
-    let es = ends(q);
-    let arcs = reach::reach(kept, &es);
-    let drop = (cells[256 + p] % 256) as u8;
-    let slots = closed_slots(q, base, kept, cells, &arcs);
-    Proc {
-        params: q.params,
-        vars: q.vars,
-        nodes: q.nodes,
-        drop,
-        slots,
+    let mut c = q;
+    let mut kept: u32 = 0;
+    let mut ends = [0u32; 32];
+    let mut n: usize = 0;
+    while n < 32 {
+        let s = c.slots[n];
+        let x = s.node;
+        let i = cells[base + n];
+        let yes = flow::kept_node(x, i);
+        kept = masks::with(kept, n, yes);
+        ends[n] = end_of(x, n);
+        n += 1;
     }
+    let arcs = reach::reach(kept, &ends);
+    let mut k: usize = 0;
+    while k < 32 {
+        let s = c.slots[k];
+        let x = s.node;
+        let i = cells[base + k];
+        let yes = flow::has(kept, k as u8);
+        let y = closed_slot(x, yes, i, cells, &arcs);
+        c.slots[k] = Slot { node: y };
+        k += 1;
+    }
+    c.drop = (cells[256 + p] % 256) as u8;
+    c
 }
 
 fn closed_procs(t: Table, cells: &[u32; 265]) -> [Proc; 8]
@@ -311,8 +291,8 @@ fn closed_procs(t: Table, cells: &[u32; 265]) -> [Proc; 8]
 }
 
 // b: the blank queues.
-fn closed_queues(t: Table, b: u32) -> [Queue; 8]
-    ensures { λ r. ⌜ (length r ≡ 8) × ((i : ℕ) → i < 8 → getD r i noQueue ≡ queueWith b i (getD (t .queue) i noQueue)) ⌝ }
+pub fn closed_queues(queue: [Queue; 8], b: u32) -> [Queue; 8]
+    ensures { λ r. ⌜ ClosedQueues b queue r ⌝ }
 {
     let mut r = [Queue {
         cap: 0,
@@ -320,7 +300,7 @@ fn closed_queues(t: Table, b: u32) -> [Queue; 8]
     }; 8];
     let mut i: usize = 0;
     while i < 8 {
-        let q = t.queue[i];
+        let q = queue[i];
         let blank = flow::has(b, i as u8);
         r[i] = Queue { cap: q.cap, blank };
         i += 1;
@@ -336,7 +316,8 @@ pub fn closed_table(t: Table) -> Table
     let cells = analysis::dirty_cells(t);
     let proc = closed_procs(t, &cells);
     let b = cells[264];
-    let queue = closed_queues(t, b);
+    let queues = t.queue;
+    let queue = closed_queues(queues, b);
     let task = t.task;
     let sem = t.sem;
     Table {

@@ -54,7 +54,7 @@ graph-put t keep d x y z = put-more (omega (arith, d .procs .count)) (put-after 
 
 -- a table without a fault can be drawn
 pub drawable : (t : Table) → fault t ≡ 0 → Drawable t
-drawable t e = record { tasks = counts t e .tasks; procs = counts t e .procs }
+drawable t e = record { tasks = counts t e .front .tasks; procs = counts t e .procs }
 
 -- an accepted text's table has no fault
 pub read-sound : (s : List ℕ) {r : Reading} → r ≡ read s → r .number ≡ 0 → fault (r .table) ≡ 0

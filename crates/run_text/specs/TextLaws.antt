@@ -32,9 +32,9 @@ reportable t ks vs m l z h e d =
     let c = counts t (sym z) in
     let o = sound t ks vs m l in
     rw (e, d) (record {
-      tasks = c .tasks;
-      sems = c .sems;
-      queues = c .queues;
+      tasks = c .front .tasks;
+      sems = c .front .sems;
+      queues = c .front .queues;
       steps = omega (arith, o .steps);
       logged = omega (arith, o .steps, o .size);
       depth = record { few = λ k i. o .few .few k };

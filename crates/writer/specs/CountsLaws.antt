@@ -37,9 +37,7 @@ module _ (t : Table) (z : fault t ≡ 0) where
 
   pub counts : Counts t
   counts = record {
-    tasks = v .lines .tasks;
-    sems = v .lines .sems;
-    queues = v .lines .queues;
+    front = record { tasks = v .lines .tasks; sems = v .lines .sems; queues = v .lines .queues };
     procs = record {
       count = v .lines .procs;
       each = λ p l. record {

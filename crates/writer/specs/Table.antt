@@ -4,7 +4,7 @@ use mathlib.Core.Path.{_≡_}
 use mathlib.Core.List.{List, _++_}
 use mathlib.Core.Bool.{Bool}
 use lib.ListN.{getD}
-use Rattle.table.specs.Table.{noSlot, outside, taskAt, semAt, queueAt}
+use Rattle.table.specs.Table.{noSlot, noTask, noSem, noQueue, outside}
 use Rattle.table.specs.declared.Slot.{Slot}
 use Rattle.table.specs.declared.Task.{Task}
 use Rattle.table.specs.declared.Sem.{Sem}
@@ -15,6 +15,7 @@ use Rattle.text.specs.Number.{bytes}
 use Rattle.text.specs.Reader.{concat}
 use Rattle.text.specs.Writer.{fitted}
 use Rattle.text.specs.declared.Writing.{Writing}
+use Rattle.writer.specs.declared.Front.{Front}
 use Rattle.lines.specs.Lines.{FewArgs, headText, countsText, pairText, queueText, procLineText, nodeBytes}
 
 -- ---- counts
@@ -32,11 +33,19 @@ pub record ProcsIn (procs : List Proc) (n : ℕ) : Type 0 where
   pub count : n ≤ 8
   pub each : (i : ℕ) → i < n → ProcIn (getD procs i outside)
 
+-- no count before the procedures passes its array
+pub record FrontIn (f : Front) : Type 0 where
+  pub tasks : f .tasks ≤ 4
+  pub sems : f .sems ≤ 8
+  pub queues : f .queues ≤ 8
+
+-- what a table says before its procedures
+abbrev pub frontOf : Table → Front
+frontOf t = record { trap = t .trap; closed = t .closed; tasks = t .tasks; procs = t .procs; sems = t .sems; queues = t .queues; task = t .task; sem = t .sem; queue = t .queue }
+
 -- no count passes its array, and no call in use has more than four arguments
 pub record Counts (t : Table) : Type 0 where
-  pub tasks : t .tasks ≤ 4
-  pub sems : t .sems ≤ 8
-  pub queues : t .queues ≤ 8
+  pub front : FrontIn (frontOf t)
   pub procs : ProcsIn (t .proc) (t .procs)
 
 -- ---- lines
@@ -60,12 +69,12 @@ abbrev pub procsBytes : Bool → List Proc → ℕ → List ℕ
 procsBytes closed procs i = procBytes closed i (getD procs i outside)
 
 -- the lines before the procedures
-unfoldable pub frontBytes : Table → List ℕ
-frontBytes t = headText (t .trap) (t .closed)
-    ++ (countsText (t .tasks) (t .procs) (t .sems) (t .queues)
-    ++ (concat (λ i. taskBytes i (taskAt t i)) (t .tasks) 0
-    ++ (concat (λ i. semBytes i (semAt t i)) (t .sems) 0
-    ++ concat (λ i. queueBytes (t .closed) i (queueAt t i)) (t .queues) 0)))
+unfoldable pub frontBytes : Front → List ℕ
+frontBytes f = headText (f .trap) (f .closed)
+    ++ (countsText (f .tasks) (f .procs) (f .sems) (f .queues)
+    ++ (concat (λ i. taskBytes i (getD (f .task) i noTask)) (f .tasks) 0
+    ++ (concat (λ i. semBytes i (getD (f .sem) i noSem)) (f .sems) 0
+    ++ concat (λ i. queueBytes (f .closed) i (getD (f .queue) i noQueue)) (f .queues) 0)))
 
 -- ---- the answer: the text with every byte behind it as before; or 8, and every byte as before, where the buffer is shorter than the text
 pub record WrittenAs (s before after : List ℕ) (r : Writing) : Type 0 where

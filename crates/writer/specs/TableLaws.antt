@@ -3,10 +3,10 @@ use Prim.Native.Nat.{ℕ, _+_, _*_, _≤_, _<_}
 use mathlib.Core.Path.{_≡_, refl, _∙_, ap}
 use mathlib.Core.List.{List, [], _∷_, _++_, append-assoc}
 use native.Mathlib.Omega.{arith}
-use lib.ListN.{length, drop}
+use lib.ListN.{length, getD, drop}
 use lib.Seq.{sets-eq}
 use borrow.Author.Tests.{lt-ltb, le-ltb}
-use Rattle.table.specs.Table.{taskAt, semAt, queueAt, procAt, nodeIn}
+use Rattle.table.specs.Table.{noTask, noSem, noQueue, taskAt, semAt, queueAt, procAt, nodeIn}
 use Rattle.table.specs.declared.Table.{Table}
 use Rattle.text.specs.Line.{write}
 use Rattle.text.specs.Format.{taskLine, semLine, queueLine, describe}
@@ -18,7 +18,8 @@ use Rattle.put.specs.PutLaws.{put-after, put-more}
 use Rattle.put.specs.RowLaws.{concat-same, PutRows, rows-end}
 use Rattle.lines.specs.Lines.{headText, countsText}
 use Rattle.lines.specs.LineLaws.{head-text, counts-text, task-text, sem-text, queue-text, proc-text, node-scope}
-use Rattle.writer.specs.Table.{taskBytes, semBytes, queueBytes, slotBytes, procsBytes, frontBytes, Counts, WrittenAs}
+use Rattle.writer.specs.declared.Front.{Front}
+use Rattle.writer.specs.Table.{taskBytes, semBytes, queueBytes, slotBytes, procsBytes, FrontIn, frontOf, frontBytes, Counts, WrittenAs}
 
 -- ---- the whole text
 
@@ -30,7 +31,7 @@ proc-bytes t i =
 regroup : (a b c d e f : List ℕ) → a ++ (b ++ (c ++ (d ++ (e ++ f)))) ≡ (a ++ (b ++ (c ++ (d ++ e)))) ++ f
 regroup a b c d e f = simp append-assoc
 
-table-text : (t : Table) → text t ≡ frontBytes t ++ concat (procsBytes (t .closed) (t .proc)) (t .procs) 0
+table-text : (t : Table) → text t ≡ frontBytes (frontOf t) ++ concat (procsBytes (t .closed) (t .proc)) (t .procs) 0
 unfolding text frontBytes
 table-text t = rw (
   head-text (t .trap) (t .closed),
@@ -45,16 +46,16 @@ table-text t = rw (
 
 -- the parts, one after another, are the text
 module _ {l m n o i j : List ℕ} {p q r s u : ℕ} where
-  pub front-put : (t : Table) → Counts t → Put 40 l 0 (headText (t .trap) (t .closed)) m p
-      → Put 40 m p (countsText (t .tasks) (t .procs) (t .sems) (t .queues)) n q
-      → Put (40 * t .tasks) n q (concat (λ a. taskBytes a (taskAt t a)) (t .tasks) 0) o r
-      → Put (40 * t .sems) o r (concat (λ a. semBytes a (semAt t a)) (t .sems) 0) i s
-      → Put (40 * t .queues) i s (concat (λ a. queueBytes (t .closed) a (queueAt t a)) (t .queues) 0) j u
-      → Put 880 l 0 (frontBytes t) j u
+  pub front-put : (f : Front) → FrontIn f → Put 40 l 0 (headText (f .trap) (f .closed)) m p
+      → Put 40 m p (countsText (f .tasks) (f .procs) (f .sems) (f .queues)) n q
+      → Put (40 * f .tasks) n q (concat (λ a. taskBytes a (getD (f .task) a noTask)) (f .tasks) 0) o r
+      → Put (40 * f .sems) o r (concat (λ a. semBytes a (getD (f .sem) a noSem)) (f .sems) 0) i s
+      → Put (40 * f .queues) i s (concat (λ a. queueBytes (f .closed) a (getD (f .queue) a noQueue)) (f .queues) 0) j u
+      → Put 880 l 0 (frontBytes f) j u
   unfolding frontBytes
-  front-put t h a b c d w = put-more (omega arith) (put-after a (put-after b (put-after c (put-after d w))))
+  front-put f h a b c d w = put-more (omega (arith, h .tasks, h .sems, h .queues)) (put-after a (put-after b (put-after c (put-after d w))))
 
-pub table-put : {l m n : List ℕ} {p r i : ℕ} (t : Table) → Counts t → Put 880 l 0 (frontBytes t) m p → PutRows 7820 (procsBytes (t .closed) (t .proc)) m p n r i → i ≤ t .procs → t .procs ≤ i → Put 65536 l 0 (text t) n r
+pub table-put : {l m n : List ℕ} {p r i : ℕ} (t : Table) → Counts t → Put 880 l 0 (frontBytes (frontOf t)) m p → PutRows 7820 (procsBytes (t .closed) (t .proc)) m p n r i → i ≤ t .procs → t .procs ≤ i → Put 65536 l 0 (text t) n r
 table-put t h a b f g = rw (table-text t) (put-more (omega (arith, h .procs .count)) (put-after a (rows-end b f g)))
 
 -- ---- the answer

@@ -20,7 +20,7 @@ ghost use Rattle.table.specs.Table.{noTask, noSem, noQueue};
 ghost use Rattle.text.specs.Reader.{concat};
 ghost use Rattle.text.specs.Writer.{text};
 ghost use Rattle.put.specs.Put.{Put, LineAt, LinesAt, TableAt};
-ghost use Rattle.writer.specs.Table.{NodesIn, ProcIn, Counts, taskBytes, semBytes, queueBytes, slotBytes, procBytes, frontBytes, WrittenAs};
+ghost use Rattle.writer.specs.Table.{NodesIn, ProcIn, FrontIn, Counts, taskBytes, semBytes, queueBytes, slotBytes, procBytes, frontBytes, WrittenAs};
 
 // The node lines of a procedure.
 fn put_nodes(out: &mut [u8], at: usize, slots: [Slot; 32], n: u8) -> usize
@@ -40,7 +40,7 @@ fn put_nodes(out: &mut [u8], at: usize, slots: [Slot; 32], n: u8) -> usize
 }
 
 // A procedure's line and its node lines.
-fn put_proc(out: &mut [u8], at: usize, closed: bool, i: u8, q: Proc) -> usize
+pub fn put_proc(out: &mut [u8], at: usize, closed: bool, i: u8, q: Proc) -> usize
     requires { ⌜ (at ≤ 800000000) × (ProcIn q) ⌝ }
     ensures { λ r. ⌜ Put 7820 (now (out .entry)) at (procBytes closed i q) (now (out .exit)) r ⌝ }
 {
@@ -108,19 +108,32 @@ fn put_queues(out: &mut [u8], at: usize, closed: bool, queues: [Queue; 8], n: u8
     p
 }
 
+// What the lines before the procedures say.
+pub struct Front {
+    pub trap: u8,
+    pub closed: bool,
+    pub tasks: u8,
+    pub procs: u8,
+    pub sems: u8,
+    pub queues: u8,
+    pub task: [Task; 4],
+    pub sem: [Sem; 8],
+    pub queue: [Queue; 8],
+}
+
 // The lines before the procedures.
-fn put_front(out: &mut [u8], t: Table) -> usize
-    requires { ⌜ Counts t ⌝ }
-    ensures { λ r. ⌜ Put 880 (now (out .entry)) 0 (frontBytes t) (now (out .exit)) r ⌝ }
+pub fn put_front(out: &mut [u8], f: Front) -> usize
+    requires { ⌜ FrontIn f ⌝ }
+    ensures { λ r. ⌜ Put 880 (now (out .entry)) 0 (frontBytes f) (now (out .exit)) r ⌝ }
 {
-    let a = put_head_line(out, 0, t.trap, t.closed);
-    let b = put_counts_line(out, a, t.tasks, t.procs, t.sems, t.queues);
-    let tasks = t.task;
-    let c = put_tasks(out, b, tasks, t.tasks);
-    let sems = t.sem;
-    let d = put_sems(out, c, sems, t.sems);
-    let queues = t.queue;
-    put_queues(out, d, t.closed, queues, t.queues)
+    let a = put_head_line(out, 0, f.trap, f.closed);
+    let b = put_counts_line(out, a, f.tasks, f.procs, f.sems, f.queues);
+    let tasks = f.task;
+    let c = put_tasks(out, b, tasks, f.tasks);
+    let sems = f.sem;
+    let d = put_sems(out, c, sems, f.sems);
+    let queues = f.queue;
+    put_queues(out, d, f.closed, queues, f.queues)
 }
 
 // A table's text, from the buffer's start. The procedures are gone through here, so that the compiler copies one at a time.
@@ -128,7 +141,21 @@ pub fn put_table(out: &mut [u8], t: Table) -> usize
     requires { ⌜ Counts t ⌝ }
     ensures { λ r. ⌜ Put 65536 (now (out .entry)) 0 (text t) (now (out .exit)) r ⌝ }
 {
-    let mut p = put_front(out, t);
+    let task = t.task;
+    let sem = t.sem;
+    let queue = t.queue;
+    let front = Front {
+        trap: t.trap,
+        closed: t.closed,
+        tasks: t.tasks,
+        procs: t.procs,
+        sems: t.sems,
+        queues: t.queues,
+        task,
+        sem,
+        queue,
+    };
+    let mut p = put_front(out, front);
     let mut i: u8 = 0;
     while i < t.procs {
         let k = i as usize;

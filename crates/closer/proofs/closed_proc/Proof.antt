@@ -1,50 +1,178 @@
-use Rattle.closer.specs.SlotLaws.{made}
-use mathlib.Core.Path.{refl}
+-- The first loop finds which nodes are kept and their targets; the second closes each node in its place.
+use Rattle.closer.specs.Parts.{endOf, Upto}
+use Rattle.closer.specs.SlotLaws.{upto-none, upto-next, made}
+use Rattle.analysis.specs.Steps.{keptIn}
+use Rattle.masks.specs.Bits.{mask-next}
+use Rattle.masks.specs.Cells.{Filled, set-more}
+use Rattle.table.specs.Mask.{maskOf}
+use Rattle.table.specs.Table.{nodeIn}
+use Rattle.text.specs.ShapeLaws.{proc-long}
+use lib.ListN.{length, length-set, length-replicate}
+use Prim.Native.Nat.{ℕ, _≤_, _-_}
+use mathlib.Core.Path.{_≡_, refl}
 use borrow.Author.Needs.{needs}
+use native.Mathlib.Omega.{arith}
 use Rattle.closer.proofs.closed_proc.Statement.{statement}
 use Rattle.closer.proofs.closed_proc.Tie as tie
 
-mul-base : tie.Need-mul-base
+abbrev Inv-loop : tie.InvT-loop
+Inv-loop p cells base c kept₀ ends₀ n₀ kept ends n = (n ≤ 32) × ((kept ≡ maskOf n (keptIn c base cells)) × ((length ends ≡ 32) × Filled (λ a. endOf (nodeIn c a) a) n ends))
+
+abbrev μ-loop : tie.MeasureT-loop
+μ-loop p cells base c kept₀ ends₀ n₀ kept ends n = 32 - n
+
+abbrev Inv-loop2 : tie.InvT-loop2
+Inv-loop2 p cells base c₀ kept n arcs k₀ c k = (k ≤ 32) × Upto c₀ base kept cells arcs k c
+
+abbrev μ-loop2 : tie.MeasureT-loop2
+μ-loop2 p cells base c₀ kept n arcs k₀ c k = 32 - k
+
+mul-base : tie.Need-mul-base Inv-loop μ-loop Inv-loop2 μ-loop2
 mul-base c = search needs
 
-kept-mask-requires : tie.Need-kept-mask-requires
-kept-mask-requires c κs = search needs
+loop-holds : tie.Need-loop-holds Inv-loop μ-loop Inv-loop2 μ-loop2
+unfolding maskOf
+loop-holds c = (search needs, (refl, (length-replicate {A = ℕ} 32 0, λ a h. absurd (omega arith))))
 
-ends-requires : tie.Need-ends-requires
-ends-requires c κs = search needs
+mul-s : tie.Need-mul-s Inv-loop μ-loop Inv-loop2 μ-loop2
+mul-s c = search needs
 
-reach-requires : tie.Need-reach-requires
+element-copy-out-s : tie.Need-element-copy-out-s Inv-loop μ-loop Inv-loop2 μ-loop2
+element-copy-out-s c = search needs
+
+add-i : tie.Need-add-i Inv-loop μ-loop Inv-loop2 μ-loop2
+add-i c = search needs
+
+mul-i : tie.Need-mul-i Inv-loop μ-loop Inv-loop2 μ-loop2
+mul-i c = search needs
+
+element-copy-out-i : tie.Need-element-copy-out-i Inv-loop μ-loop Inv-loop2 μ-loop2
+element-copy-out-i c = search needs
+
+kept-node-requires : tie.Need-kept-node-requires Inv-loop μ-loop Inv-loop2 μ-loop2
+kept-node-requires c κs = search needs
+
+with-requires : tie.Need-with-requires Inv-loop μ-loop Inv-loop2 μ-loop2
+with-requires c κs = search needs
+
+end-of-requires : tie.Need-end-of-requires Inv-loop μ-loop Inv-loop2 μ-loop2
+end-of-requires c κs = search needs
+
+mul-ends : tie.Need-mul-ends Inv-loop μ-loop Inv-loop2 μ-loop2
+mul-ends c = search needs
+
+array-write-ends : tie.Need-array-write-ends Inv-loop μ-loop Inv-loop2 μ-loop2
+array-write-ends c = search needs
+
+add-n : tie.Need-add-n Inv-loop μ-loop Inv-loop2 μ-loop2
+add-n c = search needs
+
+loop-less : tie.Need-loop-less Inv-loop μ-loop Inv-loop2 μ-loop2
+loop-less c = search needs
+
+loop-again : tie.Need-loop-again Inv-loop μ-loop Inv-loop2 μ-loop2
+loop-again c = let h = c .before .before .before .before .before .before .loop in (omega arith, (mask-next _ (h .n) (h .kept) _ (h .inv .1 .0) (c .before .before .kept-node .ensures) (c .before .with .ensures), (simp length-set (h .inv .1 .1 .0), set-more 0 _ (h .n) _ (h .ends) (omega arith) (c .end-of .ensures) (h .inv .1 .1 .1))))
+
+reach-requires : tie.Need-reach-requires Inv-loop μ-loop Inv-loop2 μ-loop2
 reach-requires c κs = search needs
 
-add-drop : tie.Need-add-drop
-add-drop c = search needs
+loop2-holds : tie.Need-loop2-holds Inv-loop μ-loop Inv-loop2 μ-loop2
+loop2-holds c = let a = c .before .before .before .before in (search needs, upto-none _ _ _ _ _ (proc-long (a .args .q) (_, a .good .0)))
 
-mul-drop : tie.Need-mul-drop
-mul-drop c = search needs
+mul-s-2 : tie.Need-mul-s-2 Inv-loop μ-loop Inv-loop2 μ-loop2
+mul-s-2 c = search needs
 
-element-copy-out-drop : tie.Need-element-copy-out-drop
-element-copy-out-drop c = search needs
+element-copy-out-s-2 : tie.Need-element-copy-out-s-2 Inv-loop μ-loop Inv-loop2 μ-loop2
+element-copy-out-s-2 c = search needs
 
-cast-drop : tie.Need-cast-drop
-cast-drop c = search needs
+add-i-2 : tie.Need-add-i-2 Inv-loop μ-loop Inv-loop2 μ-loop2
+add-i-2 c = search needs
 
-closed-slots-requires : tie.Need-closed-slots-requires
-closed-slots-requires c κs = search needs
+mul-i-2 : tie.Need-mul-i-2 Inv-loop μ-loop Inv-loop2 μ-loop2
+mul-i-2 c = search needs
 
-returns : tie.Need-returns
-returns c = made _ _ _ _ _ _ _ _ (c .before .before .before .before .before .before .kept-mask .ensures) (c .before .before .before .before .before .ends .ensures .1) (c .before .before .before .reach .ensures) (c .closed-slots .ensures .0) (c .closed-slots .ensures .1) refl
+element-copy-out-i-2 : tie.Need-element-copy-out-i-2 Inv-loop μ-loop Inv-loop2 μ-loop2
+element-copy-out-i-2 c = search needs
+
+cast-has : tie.Need-cast-has Inv-loop μ-loop Inv-loop2 μ-loop2
+cast-has c = search needs
+
+has-requires : tie.Need-has-requires Inv-loop μ-loop Inv-loop2 μ-loop2
+has-requires c κs = search needs
+
+closed-slot-requires : tie.Need-closed-slot-requires Inv-loop μ-loop Inv-loop2 μ-loop2
+closed-slot-requires c κs = search needs
+
+mul-t34 : tie.Need-mul-t34 Inv-loop μ-loop Inv-loop2 μ-loop2
+mul-t34 c = search needs
+
+element-set-from-c : tie.Need-element-set-from-c Inv-loop μ-loop Inv-loop2 μ-loop2
+element-set-from-c c = search needs
+
+add-k : tie.Need-add-k Inv-loop μ-loop Inv-loop2 μ-loop2
+add-k c = search needs
+
+loop2-less : tie.Need-loop2-less Inv-loop μ-loop Inv-loop2 μ-loop2
+loop2-less c = search needs
+
+loop2-again : tie.Need-loop2-again Inv-loop μ-loop Inv-loop2 μ-loop2
+loop2-again c = let h = c .before .before .before .before .before .before .loop2 in (omega arith, upto-next _ _ _ _ _ (h .k) _ (h .c) (omega arith) (h .inv .1) (c .before .before .has .ensures) (c .closed-slot .ensures))
+
+add-c : tie.Need-add-c Inv-loop μ-loop Inv-loop2 μ-loop2
+add-c c = search needs
+
+mul-c : tie.Need-mul-c Inv-loop μ-loop Inv-loop2 μ-loop2
+mul-c c = search needs
+
+element-copy-out-c : tie.Need-element-copy-out-c Inv-loop μ-loop Inv-loop2 μ-loop2
+element-copy-out-c c = search needs
+
+cast-c : tie.Need-cast-c Inv-loop μ-loop Inv-loop2 μ-loop2
+cast-c c = search needs
+
+returns : tie.Need-returns Inv-loop μ-loop Inv-loop2 μ-loop2
+returns c = let h = c .before .before .before .before .before .before .loop in let z : h .n ≡ 32 = omega arith in let g = c .before .before .loop2 in let w : g .k ≡ 32 = omega arith in made _ _ _ _ _ _ _ _ (rw z at (h .inv .1 .0)) (rw z at (h .inv .1 .1 .1)) (c .before .before .before .reach .ensures) (rw w at (g .inv .1)) refl
 
 pub closed-proc-spec : {M : Type 1} → statement M
 closed-proc-spec =
     tie.close
     (tie.spec
+    Inv-loop
+    μ-loop
+    Inv-loop2
+    μ-loop2
     mul-base
-    kept-mask-requires
-    ends-requires
+    loop-holds
+    mul-s
+    element-copy-out-s
+    add-i
+    mul-i
+    element-copy-out-i
+    kept-node-requires
+    with-requires
+    end-of-requires
+    mul-ends
+    array-write-ends
+    add-n
+    loop-less
+    loop-again
     reach-requires
-    add-drop
-    mul-drop
-    element-copy-out-drop
-    cast-drop
-    closed-slots-requires
+    loop2-holds
+    mul-s-2
+    element-copy-out-s-2
+    add-i-2
+    mul-i-2
+    element-copy-out-i-2
+    cast-has
+    has-requires
+    closed-slot-requires
+    mul-t34
+    element-set-from-c
+    add-k
+    loop2-less
+    loop2-again
+    add-c
+    mul-c
+    element-copy-out-c
+    cast-c
     returns)

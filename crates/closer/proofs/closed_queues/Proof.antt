@@ -11,10 +11,10 @@ use Rattle.closer.proofs.closed_queues.Statement.{statement}
 use Rattle.closer.proofs.closed_queues.Tie as tie
 
 abbrev Inv-loop : tie.InvT-loop
-Inv-loop b t r₀ i₀ r i = (i ≤ 8) × ((length r ≡ 8) × ((a : ℕ) → a < i → getD r a noQueue ≡ queueWith b a (getD (t .queue) a noQueue)))
+Inv-loop b queue r₀ i₀ r i = (i ≤ 8) × ((length r ≡ 8) × ((a : ℕ) → a < i → getD r a noQueue ≡ queueWith b a (getD queue a noQueue)))
 
 abbrev μ-loop : tie.MeasureT-loop
-μ-loop b t r₀ i₀ r i = 8 - i
+μ-loop b queue r₀ i₀ r i = 8 - i
 
 loop-holds : tie.Need-loop-holds Inv-loop μ-loop
 loop-holds c = (search needs, (length-replicate 8 noQueue, λ a h. absurd (omega arith)))
@@ -22,8 +22,8 @@ loop-holds c = (search needs, (length-replicate 8 noQueue, λ a h. absurd (omega
 mul-q : tie.Need-mul-q Inv-loop μ-loop
 mul-q c = search needs
 
-element-copy-out-q : tie.Need-element-copy-out-q Inv-loop μ-loop
-element-copy-out-q c = search needs
+array-copy-out-q : tie.Need-array-copy-out-q Inv-loop μ-loop
+array-copy-out-q c = search needs
 
 cast-has : tie.Need-cast-has Inv-loop μ-loop
 cast-has c = search needs
@@ -44,7 +44,7 @@ loop-less : tie.Need-loop-less Inv-loop μ-loop
 loop-less c = search needs
 
 loop-again : tie.Need-loop-again Inv-loop μ-loop
-loop-again c = let h = c .before .before .before .loop in (omega arith, (simp length-set (h .inv .1 .0), set-more noQueue _ (h .i) _ (h .r) (omega arith) (ap (λ (x : Bool). record { cap = getD (c .before .before .before .before .args .t1 .queue) (h .i) noQueue .cap; blank = x }) (c .has .ensures)) (h .inv .1 .1)))
+loop-again c = let h = c .before .before .before .loop in (omega arith, (simp length-set (h .inv .1 .0), set-more noQueue _ (h .i) _ (h .r) (omega arith) (ap (λ (x : Bool). record { cap = getD (c .before .before .before .before .args .t1) (h .i) noQueue .cap; blank = x }) (c .has .ensures)) (h .inv .1 .1)))
 
 returns : tie.Need-returns Inv-loop μ-loop
 returns c = let h = c .before .loop in let z : h .i ≡ 8 = omega arith in (h .inv .1 .0, rw z at (h .inv .1 .1))
@@ -57,7 +57,7 @@ closed-queues-spec =
     μ-loop
     loop-holds
     mul-q
-    element-copy-out-q
+    array-copy-out-q
     cast-has
     has-requires
     mul-r

@@ -16,7 +16,7 @@ closed-queues-requires : tie.Need-closed-queues-requires
 closed-queues-requires c κs = search needs
 
 returns : tie.Need-returns
-returns c = table-is _ (c .before .before .before .before .before .before .pre) _ (c .before .before .before .before .before .dirty-cells .ensures) _ _ (c .before .before .before .closed-procs .ensures) (c .before .before .closed-queues .ensures)
+returns c = table-is _ (c .before .before .before .before .before .before .before .pre) _ (c .before .before .before .before .before .before .dirty-cells .ensures) _ _ (c .before .before .before .before .closed-procs .ensures) (c .before .before .closed-queues .ensures)
 
 pub closed-table-spec : {M : Type 1} → statement M
 closed-table-spec =

@@ -22,7 +22,7 @@ same-length : tie.Need-same-length
 same-length c = search needs
 
 returns : tie.Need-returns
-returns c = front-put (c .before .before .before .before .before .before .before .before .before .before .before .before .before .before .before .before .before .before .before .before .before .before .before .before .args .t) (c .before .before .before .before .before .before .before .before .before .before .before .before .before .before .before .before .before .before .before .before .before .before .before .before .pre) (c .before .before .before .before .before .before .before .before .before .before .before .before .before .before .before .before .before .before .before .before .before .put-head-line .ensures) (c .before .before .before .before .before .before .before .before .before .before .before .before .before .before .before .before .before .put-counts-line .ensures) (c .before .before .before .before .before .before .before .before .before .before .before .before .put-tasks .ensures) (c .before .before .before .before .before .before .before .put-sems .ensures) (c .before .before .put-queues .ensures)
+returns c = front-put (c .before .before .before .before .before .before .before .before .before .before .before .before .before .before .before .before .before .before .before .before .before .before .before .before .args .f) (c .before .before .before .before .before .before .before .before .before .before .before .before .before .before .before .before .before .before .before .before .before .before .before .before .pre) (c .before .before .before .before .before .before .before .before .before .before .before .before .before .before .before .before .before .before .before .before .before .put-head-line .ensures) (c .before .before .before .before .before .before .before .before .before .before .before .before .before .before .before .before .before .put-counts-line .ensures) (c .before .before .before .before .before .before .before .before .before .before .before .before .put-tasks .ensures) (c .before .before .before .before .before .before .before .put-sems .ensures) (c .before .before .put-queues .ensures)
 
 pub put-front-spec : {M : Type 1} → statement M
 put-front-spec =

@@ -24,13 +24,13 @@ cast-k : tie.Need-cast-k Inv-loop μ-loop
 cast-k c = search needs
 
 mul-q : tie.Need-mul-q Inv-loop μ-loop
-mul-q c = omega (arith, c .before .before .before .before .before .before .before .pre .procs .count)
+mul-q c = omega (arith, c .before .before .before .before .before .before .before .before .before .before .pre .procs .count)
 
 element-copy-out-q : tie.Need-element-copy-out-q Inv-loop μ-loop
-element-copy-out-q c = omega (arith, c .before .before .before .before .before .before .before .pre .procs .count)
+element-copy-out-q c = omega (arith, c .before .before .before .before .before .before .before .before .before .before .pre .procs .count)
 
 put-proc-requires : tie.Need-put-proc-requires Inv-loop μ-loop
-put-proc-requires c κs = (omega (arith, c .before .before .before .loop .inv .0 .put .few, c .before .before .before .loop .inv .0 .put .next, c .before .before .before .before .before .before .put-front .ensures .few, c .before .before .before .before .before .before .put-front .ensures .next, c .before .before .before .before .before .before .before .before .before .pre .procs .count), c .before .before .before .before .before .before .before .before .before .pre .procs .each (c .before .before .before .loop .i) (c .before .before .loop-test .taken))
+put-proc-requires c κs = (omega (arith, c .before .before .before .loop .inv .0 .put .few, c .before .before .before .loop .inv .0 .put .next, c .before .before .before .before .before .before .put-front .ensures .few, c .before .before .before .before .before .before .put-front .ensures .next, c .before .before .before .before .before .before .before .before .before .before .before .before .pre .procs .count), c .before .before .before .before .before .before .before .before .before .before .before .before .pre .procs .each (c .before .before .before .loop .i) (c .before .before .loop-test .taken))
 
 add-i : tie.Need-add-i Inv-loop μ-loop
 add-i c = search needs
@@ -45,7 +45,7 @@ same-length : tie.Need-same-length Inv-loop μ-loop
 same-length c = omega (arith, c .before .loop .inv .0 .put .same, c .before .before .before .before .put-front .ensures .same)
 
 returns : tie.Need-returns Inv-loop μ-loop
-returns c = table-put _ (c .before .before .before .before .before .before .before .pre) (c .before .before .before .before .put-front .ensures) (c .before .loop .inv .0) (c .before .loop .inv .1) (c .loop-test .left)
+returns c = table-put _ (c .before .before .before .before .before .before .before .before .before .before .pre) (c .before .before .before .before .put-front .ensures) (c .before .loop .inv .0) (c .before .loop .inv .1) (c .loop-test .left)
 
 pub put-table-spec : {M : Type 1} → statement M
 put-table-spec =

@@ -1,10 +1,10 @@
 use Rattle.masks.specs.Bits.{one-shl}
 use native.Mathlib.Nat.{one-mul}
 use lib.Bits.{bitOr}
 use mathlib.Core.Path.{sym, _∙_, ap}
 use borrow.Author.Needs.{needs}
-use Rattle.analysis.proofs.with.Statement.{statement}
-use Rattle.analysis.proofs.with.Tie as tie
+use Rattle.masks.proofs.with.Statement.{statement}
+use Rattle.masks.proofs.with.Tie as tie
 
 cast-result : tie.Need-cast-result
 cast-result c = search needs
