@@ -8,7 +8,7 @@ use std::hint::black_box;
 use std::time::{Duration, Instant};
 
 /// How often each side is measured; the best counts.
-const ROUNDS: usize = 15;
+const ROUNDS: usize = 40;
 
 /// How long one measurement of short calls lasts.
 const LASTS: Duration = Duration::from_millis(5);
