@@ -2,7 +2,7 @@
 ghost use mathlib.Core.Path.{_≡_};
 ghost use Prim.Native.Nat.{_≤_};
 ghost use lib.ListN.{length};
-ghost use Rattle.table.specs.Table.{arcTo};
+ghost use Rattle.table.specs.Table.{arcTo, arcNo};
 ghost use Rattle.steps.specs.Cut.{Within, triedOf, passOf, backOf};
 use table::Node;
 
@@ -156,6 +156,51 @@ pub fn arc_to(x: Node) -> u32
         } => to,
         Node::Assert { var: _, to } => to,
         Node::Out { var: _, to } => to,
+        Node::Return => 0,
+    }
+}
+
+// The second arc of a test.
+pub fn arc_no(x: Node) -> u32
+    ensures { λ r. ⌜ r ≡ arcNo x ⌝ }
+{
+    match x {
+        Node::Absent => 0,
+        Node::Start { to: _ } => 0,
+        Node::Set {
+            var: _,
+            op: _,
+            a: _,
+            b: _,
+            to: _,
+        } => 0,
+        Node::Test {
+            op: _,
+            a: _,
+            b: _,
+            yes: _,
+            no,
+        } => no,
+        Node::Read { var: _, to: _ } => 0,
+        Node::Call {
+            callee: _,
+            args: _,
+            to: _,
+        } => 0,
+        Node::Wait { sem: _, to: _ } => 0,
+        Node::Signal { sem: _, to: _ } => 0,
+        Node::Send {
+            queue: _,
+            var: _,
+            to: _,
+        } => 0,
+        Node::Recv {
+            queue: _,
+            var: _,
+            to: _,
+        } => 0,
+        Node::Assert { var: _, to: _ } => 0,
+        Node::Out { var: _, to: _ } => 0,
         Node::Return => 0,
     }
 }

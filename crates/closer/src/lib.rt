@@ -6,15 +6,15 @@ use table::Queue;
 use table::Slot;
 use table::Table;
 ghost use mathlib.Core.Path.{_≡_};
-ghost use Prim.Native.Nat.{ℕ, _<_, _≤_, _%_, _+_, _*_};
+ghost use Prim.Native.Nat.{ℕ, _<_, _%_};
 ghost use lib.ListN.{length, getD};
 ghost use Rattle.table.specs.Mask.{pick, bit};
-ghost use Rattle.table.specs.Table.{removed, nodeIn, procAt, noSlot, noQueue, outside};
-ghost use Rattle.masks.specs.Cells.{cell, Filled};
+ghost use Rattle.table.specs.Table.{removed, procAt, outside};
+ghost use Rattle.masks.specs.Cells.{cell};
 ghost use Rattle.flow.specs.Flow.{low};
 ghost use Rattle.closing.specs.Close.{closeTable};
 ghost use Rattle.analysis.specs.Ready.{Ready};
-ghost use Rattle.closer.specs.Parts.{twoEnds, endOf, argWith, argsWith, dropIn, arcIn, nodeWith, slotWith, ClosedQueues, ClosedProc};
+ghost use Rattle.closer.specs.Parts.{twoEnds, endOf, argWith, argsWith, dropIn, arcIn, nodeWith, ClosedQueues, ClosedProc};
 
 // The target of an arc, twice.
 fn one_end(to: u32) -> u32

@@ -12,7 +12,7 @@ use lib.IntN.{ℤ, pos}
 use borrow.Author.Tests.{leb-false, eqb-true, eqb-false, eq-eqb}
 use Rattle.table.specs.Mask.{pick, bit, membersFrom, members}
 use Rattle.table.specs.MaskLaws.{members-is}
-use Rattle.table.specs.Table.{nodeAt, arcTo}
+use Rattle.table.specs.Table.{nodeAt, arcTo, arcNo}
 use Rattle.table.specs.declared.Args.{Args}
 use Rattle.table.specs.declared.Node.{Node}
 use Rattle.table.specs.declared.Node.the-variants.{Absent, Start, Set, Test, Read, Call, Wait, Signal, Send, Recv, Assert, Out, Return}
@@ -174,49 +174,49 @@ return-tells ts i f d m = go (leb d 1) (eqb (getD ts (placeBelow f m) 0) 32)
     go false true = leaves refl
     go false false = ends refl
 
-tells : (x : Node) (j kp : ℕ) (ts cs : List ℕ) (i f d : ℕ) (m : Columns) → Tells m (triedTurn x j kp ts cs i f d m)
+tells : (x : Node) (j k : ℕ) (ts cs : List ℕ) (i f d : ℕ) (m : Columns) → Tells m (triedTurn x j k ts cs i f d m)
 unfolding triedTurn
-tells Absent j kp ts cs i f d m = leaves refl
-tells (Start to) j kp ts cs i f d m = straight-tells _ _ f m
-tells (Set v o a b to) j kp ts cs i f d m = straight-tells _ _ f m
-tells (Test o a b y n) j kp ts cs i f d m = straight-tells _ _ f m
-tells (Read v to) j kp ts cs i f d m = leaves refl
-tells (Call q xs to) j kp ts cs i f d m = call-tells q xs i f d m
-tells (Wait s to) j kp ts cs i f d m = straight-tells _ _ f m
-tells (Signal s to) j kp ts cs i f d m = straight-tells _ _ f m
-tells (Send q v to) j kp ts cs i f d m = straight-tells _ _ f m
-tells (Recv q v to) j kp ts cs i f d m = straight-tells _ _ f m
-tells (Assert v to) j kp ts cs i f d m = straight-tells _ _ f m
-tells (Out v to) j kp ts cs i f d m = straight-tells _ _ f m
-tells Return j kp ts cs i f d m = return-tells ts i f d m
+tells Absent j k ts cs i f d m = leaves refl
+tells (Start to) j k ts cs i f d m = straight-tells _ _ f m
+tells (Set v o a b to) j k ts cs i f d m = straight-tells _ _ f m
+tells (Test o a b y n) j k ts cs i f d m = straight-tells _ _ f m
+tells (Read v to) j k ts cs i f d m = leaves refl
+tells (Call q xs to) j k ts cs i f d m = call-tells q xs i f d m
+tells (Wait s to) j k ts cs i f d m = straight-tells _ _ f m
+tells (Signal s to) j k ts cs i f d m = straight-tells _ _ f m
+tells (Send q v to) j k ts cs i f d m = straight-tells _ _ f m
+tells (Recv q v to) j k ts cs i f d m = straight-tells _ _ f m
+tells (Assert v to) j k ts cs i f d m = straight-tells _ _ f m
+tells (Out v to) j k ts cs i f d m = straight-tells _ _ f m
+tells Return j k ts cs i f d m = return-tells ts i f d m
 
 -- a step that is not completed changes nothing
-pub left-same : (x : Node) (j kp : ℕ) (ts cs : List ℕ) (i f d : ℕ) (m : Columns) (e : Tried) (m′ : Columns) → turn e m′ ≡ triedTurn x j kp ts cs i f d m → e .done ≡ false → m′ ≡ m
-left-same x j kp ts cs i f d m e m′ h u = go (tells x j kp ts cs i f d m)
+pub left-same : (x : Node) (j k : ℕ) (ts cs : List ℕ) (i f d : ℕ) (m : Columns) (e : Tried) (m′ : Columns) → turn e m′ ≡ triedTurn x j k ts cs i f d m → e .done ≡ false → m′ ≡ m
+left-same x j k ts cs i f d m e m′ h u = go (tells x j k ts cs i f d m)
   where
-    go : Tells m (triedTurn x j kp ts cs i f d m) → m′ ≡ m
+    go : Tells m (triedTurn x j k ts cs i f d m) → m′ ≡ m
     go (leaves q) = ap (λ (r : Turn). r .after) (h ∙ q)
     go (ends q) = absurd (unsame (ap (λ (r : Turn). r .answer .done) h ∙ q) u)
 
 -- a call that is not blocked is completed
-pub left-opens : (x : Node) (j kp : ℕ) (ts cs : List ℕ) (i f d : ℕ) (m : Columns) (e : Tried) (m′ : Columns) → turn e m′ ≡ triedTurn x j kp ts cs i f d m → e .done ≡ false
+pub left-opens : (x : Node) (j k : ℕ) (ts cs : List ℕ) (i f d : ℕ) (m : Columns) (e : Tried) (m′ : Columns) → turn e m′ ≡ triedTurn x j k ts cs i f d m → e .done ≡ false
     → stuckOf x d (m .sems) (m .lens) cs ≡ false → opens x ≡ false
 unfolding triedTurn calls stuckOf opens
-left-opens Absent j kp ts cs i f d m e m′ h u b = refl
-left-opens (Start to) j kp ts cs i f d m e m′ h u b = refl
-left-opens (Set v o a c to) j kp ts cs i f d m e m′ h u b = refl
-left-opens (Test o a c y n) j kp ts cs i f d m e m′ h u b = refl
-left-opens (Read v to) j kp ts cs i f d m e m′ h u b = refl
-left-opens (Call q xs to) j kp ts cs i f d m e m′ h u b =
+left-opens Absent j k ts cs i f d m e m′ h u b = refl
+left-opens (Start to) j k ts cs i f d m e m′ h u b = refl
+left-opens (Set v o a c to) j k ts cs i f d m e m′ h u b = refl
+left-opens (Test o a c y n) j k ts cs i f d m e m′ h u b = refl
+left-opens (Read v to) j k ts cs i f d m e m′ h u b = refl
+left-opens (Call q xs to) j k ts cs i f d m e m′ h u b =
     let z : turn e m′ ≡ turn (doneAs (goesTo 255 (pos 0) 0 0)) (openedBy q xs i f d m) = h ∙ ap (λ (b : Bool). pick b (left m) (turn (doneAs (goesTo 255 (pos 0) 0 0)) (openedBy q xs i f d m))) b in
     absurd (unsame (ap (λ (r : Turn). r .answer .done) z) u)
-left-opens (Wait s to) j kp ts cs i f d m e m′ h u b = refl
-left-opens (Signal s to) j kp ts cs i f d m e m′ h u b = refl
-left-opens (Send q v to) j kp ts cs i f d m e m′ h u b = refl
-left-opens (Recv q v to) j kp ts cs i f d m e m′ h u b = refl
-left-opens (Assert v to) j kp ts cs i f d m e m′ h u b = refl
-left-opens (Out v to) j kp ts cs i f d m e m′ h u b = refl
-left-opens Return j kp ts cs i f d m e m′ h u b = refl
+left-opens (Wait s to) j k ts cs i f d m e m′ h u b = refl
+left-opens (Signal s to) j k ts cs i f d m e m′ h u b = refl
+left-opens (Send q v to) j k ts cs i f d m e m′ h u b = refl
+left-opens (Recv q v to) j k ts cs i f d m e m′ h u b = refl
+left-opens (Assert v to) j k ts cs i f d m e m′ h u b = refl
+left-opens (Out v to) j k ts cs i f d m e m′ h u b = refl
+left-opens Return j k ts cs i f d m e m′ h u b = refl
 
 -- ---- a step that is completed
 
@@ -295,25 +295,29 @@ module _ (j kp : ℕ) (ts cs : List ℕ) (i f d : ℕ) (m : Columns) (e : Tried)
   shown-done z x to o h k =
       led (record { j = j; ended = rw o (shown-ends z to (straight-ends j (showsTo 0 0 z) f m e m′ h u)); leads = rw o (k ∙ ap (λ (a : ℕ). directOf a kp) (shown-arc z to)) })
 
+  arm-leads : (b : Bool) (n y x : ℕ) → j ≡ directOf y kp → n ≡ directOf x kp → pick b j n ≡ directOf (pick b y x) kp
+  arm-leads true n y x k l = k
+  arm-leads false n y x k l = l
+
   -- an ended step, from what is done without its arc
-  pub done-by : (x : Node) → turn e m′ ≡ triedTurn x j kp ts cs i f d m → j ≡ directOf (arcTo x) kp → Done x kp ts cs i f d m e m′
-  unfolding triedTurn stuckOf actOf arcTo
-  done-by Absent h k = absurd (not-left h)
-  done-by (Start to) h k = let z = straight-ends j (goesTo 255 (pos 0) 0 0) f m e m′ h u in led (record { j = j; ended = record { on = z .on; there = z .there; answer = z .answer; after = z .after }; leads = k })
-  done-by (Set v o a b to) h k = let z = straight-ends j (goesTo v (apply o (operandIn (getD (m .vars) f []) a) (operandIn (getD (m .vars) f []) b)) 0 0) f m e m′ h u in led (record { j = j; ended = record { on = z .on; there = z .there; answer = z .answer; after = z .after }; leads = k })
-  done-by (Test o a b y n) h k =
-      let arc = pick (holds (apply o (operandIn (getD (m .vars) f []) a) (operandIn (getD (m .vars) f []) b))) y n in
-      let z = straight-ends (directOf arc kp) (goesTo 255 (pos 0) 0 0) f m e m′ h u in
-      led (record { j = directOf arc kp; ended = record { on = z .on; there = z .there; answer = z .answer; after = z .after }; leads = refl })
-  done-by (Read v to) h k = absurd (not-left h)
-  done-by (Call q xs to) h k = call-done q xs to h
-  done-by (Wait s to) h k = freed-done (Wait s to) (eqb (getD (m .sems) s 0) 0) 255 (pos 0) to 3 s (getD (m .sems) s 0 - 1) refl h k
-  done-by (Signal s to) h k = freed-done (Signal s to) (leb 255 (getD (m .sems) s 0)) 255 (pos 0) to 3 s (getD (m .sems) s 0 + 1) refl h k
-  done-by (Send q v to) h k = freed-done (Send q v to) (leb (getD cs q 0) (getD (m .lens) q 0)) 255 (varAt (getD (m .vars) f []) v) to 1 q (getD (m .lens) q 0 + 1) refl h k
-  done-by (Recv q v to) h k = freed-done (Recv q v to) (eqb (getD (m .lens) q 0) 0) v (getD (getD (m .items) q []) 0 (pos 0)) to 2 q (getD (m .lens) q 0 - 1) refl h k
-  done-by (Assert v to) h k = shown-done (valueOf (getD (m .vars) f []) v) (Assert v to) to refl h k
-  done-by (Out v to) h k = shown-done (valueOf (getD (m .vars) f []) v) (Out v to) to refl h k
-  done-by Return h k = return-done h
+  pub done-by : (x : Node) (n : ℕ) → turn e m′ ≡ triedTurn x j n ts cs i f d m → j ≡ directOf (arcTo x) kp → n ≡ directOf (arcNo x) kp → Done x kp ts cs i f d m e m′
+  unfolding triedTurn stuckOf actOf arcTo arcNo
+  done-by Absent n h k l = absurd (not-left h)
+  done-by (Start to) n h k l = let z = straight-ends j (goesTo 255 (pos 0) 0 0) f m e m′ h u in led (record { j = j; ended = record { on = z .on; there = z .there; answer = z .answer; after = z .after }; leads = k })
+  done-by (Set v o a b to) n h k l = let z = straight-ends j (goesTo v (apply o (operandIn (getD (m .vars) f []) a) (operandIn (getD (m .vars) f []) b)) 0 0) f m e m′ h u in led (record { j = j; ended = record { on = z .on; there = z .there; answer = z .answer; after = z .after }; leads = k })
+  done-by (Test o a b y n) n′ h k l =
+      let yes = holds (apply o (operandIn (getD (m .vars) f []) a) (operandIn (getD (m .vars) f []) b)) in
+      let z = straight-ends (pick yes j n′) (goesTo 255 (pos 0) 0 0) f m e m′ h u in
+      led (record { j = pick yes j n′; ended = record { on = z .on; there = z .there; answer = z .answer; after = z .after }; leads = arm-leads yes n′ y n k l })
+  done-by (Read v to) n h k l = absurd (not-left h)
+  done-by (Call q xs to) n h k l = call-done q xs to h
+  done-by (Wait s to) n h k l = freed-done (Wait s to) (eqb (getD (m .sems) s 0) 0) 255 (pos 0) to 3 s (getD (m .sems) s 0 - 1) refl h k
+  done-by (Signal s to) n h k l = freed-done (Signal s to) (leb 255 (getD (m .sems) s 0)) 255 (pos 0) to 3 s (getD (m .sems) s 0 + 1) refl h k
+  done-by (Send q v to) n h k l = freed-done (Send q v to) (leb (getD cs q 0) (getD (m .lens) q 0)) 255 (varAt (getD (m .vars) f []) v) to 1 q (getD (m .lens) q 0 + 1) refl h k
+  done-by (Recv q v to) n h k l = freed-done (Recv q v to) (eqb (getD (m .lens) q 0) 0) v (getD (getD (m .items) q []) 0 (pos 0)) to 2 q (getD (m .lens) q 0 - 1) refl h k
+  done-by (Assert v to) n h k l = shown-done (valueOf (getD (m .vars) f []) v) (Assert v to) to refl h k
+  done-by (Out v to) n h k l = shown-done (valueOf (getD (m .vars) f []) v) (Out v to) to refl h k
+  done-by Return n h k l = return-done h
 
 -- ---- the turn of a node whose arc leads straight to a kept node
 

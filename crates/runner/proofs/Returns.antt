@@ -87,7 +87,7 @@ module _ (t : Table) (keep : List ℕ) (ready : Ready t keep) (most : ℕ) (vs :
 
   -- ---- a return
 
-  module _ (w : used ≤ length vs) (row : List Slot) (rowed : Row t row) (arcs ts : List ℕ) (arced : Arcs row arcs) (targeted : Targets arcs keep ts)
+  module _ (w : used ≤ length vs) (row : List Slot) (rowed : Row t row) (arcs ts : List ℕ) (arced : Arcs arcTo row arcs) (targeted : Targets arcs keep ts)
       (is-return : x ≡ Return) (deep : 1 < d) (there : getD ts (placeBelow f m) 0 ≡ 32 → ⊥) (after : m′ ≡ closedTo (getD ts (placeBelow f m) 0) i f d m) where
     abbrev g : ℕ
     g = f - 1

@@ -7,7 +7,7 @@ use lib.ListN.{length, getD, set}
 use lib.Dec.{eqb, leb}
 use lib.IntN.{ℤ, pos}
 use Rattle.table.specs.Mask.{pick}
-use Rattle.table.specs.Table.{noSlot, arcTo}
+use Rattle.table.specs.Table.{noSlot}
 use Rattle.table.specs.Values.{apply, holds}
 use Rattle.table.specs.declared.Args.{Args}
 use Rattle.table.specs.declared.Node.{Node}
@@ -111,24 +111,23 @@ returns ts i f d m =
     pick (leb d 1) (left m)
     (let j = getD ts (placeBelow f m) 0 in pick (eqb j 32) (left m) (turn (doneAs (goesTo 255 (pos 0) 0 0)) (closedTo j i f d m)))
 
--- ---- a step tried at once. j is the node that its arc leads straight to, so that what is done needs no arc; ts has that node for every
--- place, and cs the capacities
+-- ---- a step tried at once. j is the node that its arc leads straight to, k the one of a test's second arc, so that what is done needs no arc; ts
+-- has the first for every place, and cs the capacities
 unfoldable pub triedTurn : Node → ℕ → ℕ → List ℕ → List ℕ → ℕ → ℕ → ℕ → Columns → Turn
-triedTurn Absent j kp ts cs i f d m = left m
-triedTurn (Start to) j kp ts cs i f d m = straight j (goesTo 255 (pos 0) 0 0) f m
-triedTurn (Set v o a b to) j kp ts cs i f d m = straight j (goesTo v (apply o (operandIn (getD (m .vars) f []) a) (operandIn (getD (m .vars) f []) b)) 0 0) f m
-triedTurn (Test o a b y n) j kp ts cs i f d m =
-    let arc = pick (holds (apply o (operandIn (getD (m .vars) f []) a) (operandIn (getD (m .vars) f []) b))) y n in
-    straight (directOf arc kp) (goesTo 255 (pos 0) 0 0) f m
-triedTurn (Read v to) j kp ts cs i f d m = left m
-triedTurn (Call q xs to) j kp ts cs i f d m = calls q xs i f d m
-triedTurn (Wait s to) j kp ts cs i f d m = straight j (unless (eqb (getD (m .sems) s 0) 0) 0 (doesTo 255 (pos 0) 0 0 3 s (getD (m .sems) s 0 - 1))) f m
-triedTurn (Signal s to) j kp ts cs i f d m = straight j (unless (leb 255 (getD (m .sems) s 0)) 0 (doesTo 255 (pos 0) 0 0 3 s (getD (m .sems) s 0 + 1))) f m
-triedTurn (Send q v to) j kp ts cs i f d m = straight j (unless (leb (getD cs q 0) (getD (m .lens) q 0)) 0 (doesTo 255 (varAt (getD (m .vars) f []) v) 0 0 1 q (getD (m .lens) q 0 + 1))) f m
-triedTurn (Recv q v to) j kp ts cs i f d m = straight j (unless (eqb (getD (m .lens) q 0) 0) 0 (doesTo v (getD (getD (m .items) q []) 0 (pos 0)) 0 0 2 q (getD (m .lens) q 0 - 1))) f m
-triedTurn (Assert v to) j kp ts cs i f d m = straight j (showsTo 0 0 (valueOf (getD (m .vars) f []) v)) f m
-triedTurn (Out v to) j kp ts cs i f d m = straight j (showsTo 0 0 (valueOf (getD (m .vars) f []) v)) f m
-triedTurn Return j kp ts cs i f d m = returns ts i f d m
+triedTurn Absent j k ts cs i f d m = left m
+triedTurn (Start to) j k ts cs i f d m = straight j (goesTo 255 (pos 0) 0 0) f m
+triedTurn (Set v o a b to) j k ts cs i f d m = straight j (goesTo v (apply o (operandIn (getD (m .vars) f []) a) (operandIn (getD (m .vars) f []) b)) 0 0) f m
+triedTurn (Test o a b y n) j k ts cs i f d m =
+    straight (pick (holds (apply o (operandIn (getD (m .vars) f []) a) (operandIn (getD (m .vars) f []) b))) j k) (goesTo 255 (pos 0) 0 0) f m
+triedTurn (Read v to) j k ts cs i f d m = left m
+triedTurn (Call q xs to) j k ts cs i f d m = calls q xs i f d m
+triedTurn (Wait s to) j k ts cs i f d m = straight j (unless (eqb (getD (m .sems) s 0) 0) 0 (doesTo 255 (pos 0) 0 0 3 s (getD (m .sems) s 0 - 1))) f m
+triedTurn (Signal s to) j k ts cs i f d m = straight j (unless (leb 255 (getD (m .sems) s 0)) 0 (doesTo 255 (pos 0) 0 0 3 s (getD (m .sems) s 0 + 1))) f m
+triedTurn (Send q v to) j k ts cs i f d m = straight j (unless (leb (getD cs q 0) (getD (m .lens) q 0)) 0 (doesTo 255 (varAt (getD (m .vars) f []) v) 0 0 1 q (getD (m .lens) q 0 + 1))) f m
+triedTurn (Recv q v to) j k ts cs i f d m = straight j (unless (eqb (getD (m .lens) q 0) 0) 0 (doesTo v (getD (getD (m .items) q []) 0 (pos 0)) 0 0 2 q (getD (m .lens) q 0 - 1))) f m
+triedTurn (Assert v to) j k ts cs i f d m = straight j (showsTo 0 0 (valueOf (getD (m .vars) f []) v)) f m
+triedTurn (Out v to) j k ts cs i f d m = straight j (showsTo 0 0 (valueOf (getD (m .vars) f []) v)) f m
+triedTurn Return j k ts cs i f d m = returns ts i f d m
 
 -- ---- what it leans on
 
@@ -174,9 +173,9 @@ Queued q is = (q < 8) × (length (getD is q []) ≡ 8)
 
 -- ---- the nodes' arcs
 
--- the arc of each node of a row
-pub record Arcs (row : List Slot) (l : List ℕ) : Type 0 where
-  pub arcs : (a : ℕ) → a < 256 → getD l a 0 ≡ arcTo (getD row a noSlot .node)
+-- the arc f of each node of a row
+pub record Arcs (f : Node → ℕ) (row : List Slot) (l : List ℕ) : Type 0 where
+  pub arcs : (a : ℕ) → a < 256 → getD l a 0 ≡ f (getD row a noSlot .node)
 
 -- the kept node that each arc leads straight to, 32 if it does not
 pub record Targets (arcs keep l : List ℕ) : Type 0 where

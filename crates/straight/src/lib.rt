@@ -9,7 +9,6 @@ ghost use lib.IntN.{pos};
 ghost use Rattle.table.specs.Mask.{pick};
 ghost use Rattle.table.specs.Values.{apply, holds};
 ghost use Rattle.machine.specs.Step.{operandIn};
-ghost use Rattle.tosses.specs.Tosses.{directOf};
 ghost use Rattle.steps.specs.Cut.{doesTo, goesTo, showsTo, unless};
 ghost use Rattle.straight.specs.Turns.{notDone, doneAs, Framed, onNodes, onVars, onSems, onQueues, Moves, Queued};
 use table::Op;
@@ -81,15 +80,21 @@ pub fn set_step<'a>(
     done()
 }
 
+// A test's first target, or its second if z is 0.
+fn arm(z: i32, yes: u8, no: u8) -> u8
+    ensures { λ r. ⌜ r ≡ pick (holds z) yes no ⌝ }
+{
+    if z == 0 { no } else { yes }
+}
+
 // The target of a test, by its operands.
-pub fn tested(vars: &[i32; 16], keep: u32, op: Op, a: Operand, b: Operand, yes: u32, no: u32) -> u8
+pub fn tested(vars: &[i32; 16], yes: u8, no: u8, op: Op, a: Operand, b: Operand) -> u8
     requires { ⌜ length (now vars) ≡ 16 ⌝ }
-    ensures { λ r. ⌜ r ≡ directOf (pick (holds (apply op (operandIn (now (vars .entry)) a) (operandIn (now (vars .entry)) b))) yes no) keep ⌝ }
+    ensures { λ r. ⌜ r ≡ pick (holds (apply op (operandIn (now (vars .entry)) a) (operandIn (now (vars .entry)) b))) yes no ⌝ }
 {
     let p = steps::operand(vars, a);
     let q = steps::operand(vars, b);
-    let z = values::apply(op, p, q);
-    tosses::direct_target(steps::branch(z, yes, no), keep)
+    arm(values::apply(op, p, q), yes, no)
 }
 
 pub fn wait_step<'a>(

@@ -1,5 +1,6 @@
 // A step tried at once, and where the arcs lead straight to.
 ghost use mathlib.Core.Path.{_≡_};
+ghost use Rattle.table.specs.Table.{arcTo, arcNo};
 ghost use Rattle.straight.specs.Turns.{Stood, columns, turn, triedTurn, Arcs, Targets};
 use straight::Tried;
 use table::Node;
@@ -9,7 +10,7 @@ use table::Slot;
 
 // The arc of each node of a row.
 pub fn arcs(row: [Slot; 256]) -> [u32; 256]
-    ensures { λ r. ⌜ Arcs row r ⌝ }
+    ensures { λ r. ⌜ Arcs arcTo row r ⌝ }
 {
     let mut r = [0u32; 256];
     let mut a: usize = 0;
@@ -17,6 +18,21 @@ pub fn arcs(row: [Slot; 256]) -> [u32; 256]
         let s = row[a];
         let x = s.node;
         r[a] = acts::arc_to(x);
+        a = a + 1;
+    }
+    r
+}
+
+// The second arc of each test of a row.
+pub fn no_arcs(row: [Slot; 256]) -> [u32; 256]
+    ensures { λ r. ⌜ Arcs arcNo row r ⌝ }
+{
+    let mut r = [0u32; 256];
+    let mut a: usize = 0;
+    while a < 256 {
+        let s = row[a];
+        let x = s.node;
+        r[a] = acts::arc_no(x);
         a = a + 1;
     }
     r
@@ -38,11 +54,12 @@ pub fn targets(arcs: &[u32; 256], keep: &[u32; 8]) -> [u8; 256]
 
 // ---- steps
 
-// A step tried at once. j is the kept node that the arc of x leads straight to, `targets` has that node for every place.
+// A step tried at once. j is the kept node that the arc of x leads straight to, k the one of a test's second arc; `targets` has the first for every
+// place.
 pub fn direct<'a>(
     x: Node,
     j: u8,
-    keep: u32,
+    k: u8,
     targets: &'a [u8; 256],
     i: usize,
     f: usize,
@@ -57,7 +74,7 @@ pub fn direct<'a>(
     items: &'a mut [[i32; 8]; 8],
 ) -> Tried
     requires { ⌜ Stood x i f d (now procs) (now nodes) (now vars) (now items) ⌝ }
-    ensures { λ r. ⌜ turn r (columns (now (depth .exit)) (now (procs .exit)) (now (nodes .exit)) (now (vars .exit)) (now (sems .exit)) (now (lens .exit)) (now (items .exit))) ≡ triedTurn x j keep (now (targets .entry)) (now (caps .entry)) i f d (columns (now (depth .entry)) (now (procs .entry)) (now (nodes .entry)) (now (vars .entry)) (now (sems .entry)) (now (lens .entry)) (now (items .entry))) ⌝ }
+    ensures { λ r. ⌜ turn r (columns (now (depth .exit)) (now (procs .exit)) (now (nodes .exit)) (now (vars .exit)) (now (sems .exit)) (now (lens .exit)) (now (items .exit))) ≡ triedTurn x j k (now (targets .entry)) (now (caps .entry)) i f d (columns (now (depth .entry)) (now (procs .entry)) (now (nodes .entry)) (now (vars .entry)) (now (sems .entry)) (now (lens .entry)) (now (items .entry))) ⌝ }
 {
     match x {
         Node::Absent => straight::not_done(),
@@ -69,9 +86,15 @@ pub fn direct<'a>(
             b,
             to: _,
         } => straight::set_step(nodes, vars, f, j, var, op, a, b),
-        Node::Test { op, a, b, yes, no } => {
-            let k = straight::tested(&vars[f], keep, op, a, b, yes, no);
-            straight::go(nodes, f, k)
+        Node::Test {
+            op,
+            a,
+            b,
+            yes: _,
+            no: _,
+        } => {
+            let n = straight::tested(&vars[f], j, k, op, a, b);
+            straight::go(nodes, f, n)
         }
         Node::Read { var: _, to: _ } => straight::not_done(),
         Node::Call {

@@ -8,7 +8,7 @@ use lib.ListN.{length, getD, set, drop}
 use lib.Seq.{sets}
 use lib.IntN.{ℤ}
 use Rattle.table.specs.Mask.{pick}
-use Rattle.table.specs.Table.{noSlot}
+use Rattle.table.specs.Table.{noSlot, arcNo}
 use Rattle.table.specs.declared.Node.{Node}
 use Rattle.machine.specs.declared.State.{State}
 use Rattle.machine.specs.Step.{keptIn}
@@ -20,39 +20,39 @@ use Rattle.starts.specs.Begins.{Good}
 use Rattle.straight.specs.Turns.{Columns, columns, turn, triedTurn, Lands}
 use Rattle.runner.proofs.Turns.{Ends, within, rest-less}
 use Rattle.runner.proofs.Stores.{state-of, shape-of, proc-in, node-in}
-use Rattle.runner.proofs.Holds.{Setting, Known, Here, task, depthIn, withCols, Walking, Held, Stopped, behind, answers, at-last, Clear, stop-before, clear-before, Stands, Waits, stood, a-low, x-placed, vars-long, node-lt, cols-left, waits-left, done-next, g-low, p-low, q-low, stop-act, walk-starts, walk-next, ends-met, ends-out, ends-stopped, stop-walk, lands, land-next}
+use Rattle.runner.proofs.Holds.{leading, Setting, Known, Here, task, depthIn, withCols, Walking, Held, Stopped, behind, answers, at-last, Clear, stop-before, clear-before, Stands, Waits, stood, a-low, x-placed, vars-long, node-lt, cols-left, waits-left, done-next, g-low, p-low, q-low, stop-act, walk-starts, walk-next, ends-met, ends-out, ends-stopped, stop-walk, lands, land-next}
 use Rattle.runner.proofs.run_from.Statement.{statement}
 use Rattle.runner.proofs.run_from.Tie as tie
 
 abbrev Inv-loop2 : tie.InvT-loop2
-Inv-loop2 t before schedule values most log keep row arcs targets caps proc node vars lens rows depth lost sems w₀ rest at used k b i d f tp tn a ti back g p q o pi kp far₀ arc₀ us₀ m₀ w far arc us m =
+Inv-loop2 t before schedule values most log keep row arcs targets others caps proc node vars lens rows depth lost sems w₀ rest at used k b i d f tp tn a back g p q o pi kp far₀ arc₀ us₀ m₀ w far arc us m =
     Walking t values p most (set (getD vars g []) (o .var) (o .value)) o far w arc us m
 
 abbrev μ-loop2 : tie.MeasureT-loop2
-μ-loop2 t before schedule values most log keep row arcs targets caps proc node vars lens rows depth lost sems w₀ rest at used k b i d f tp tn a ti back g p q o pi kp far₀ arc₀ us₀ m₀ w far arc us m =
+μ-loop2 t before schedule values most log keep row arcs targets others caps proc node vars lens rows depth lost sems w₀ rest at used k b i d f tp tn a back g p q o pi kp far₀ arc₀ us₀ m₀ w far arc us m =
     m
 
 abbrev Inv-loop : tie.InvT-loop
-Inv-loop t before schedule values most log₀ keep row arcs targets caps proc₀ node₀ vars₀ lens₀ rows₀ depth₀ lost₀ sems₀ w₀ rest₀ at₀ used₀ log proc node vars lens rows depth lost sems w rest at used =
-    Held (record { t = t; keep = keep; most = most; vs = values; row = row; arcs = arcs; ts = targets; cs = caps })
+Inv-loop t before schedule values most log₀ keep row arcs targets others caps proc₀ node₀ vars₀ lens₀ rows₀ depth₀ lost₀ sems₀ w₀ rest₀ at₀ used₀ log proc node vars lens rows depth lost sems w rest at used =
+    Held (record { t = t; keep = keep; most = most; vs = values; row = row; arcs = arcs; ts = targets; os = others; cs = caps })
     (runFrom t (keptIn t) most values schedule 0 (stateOf depth₀ lost₀ proc₀ node₀ vars₀ sems₀ lens₀ rows₀) (drop before values) log₀) (length log₀)
     (record { ks = rest; lost = lost; cols = columns depth proc node vars sems lens rows; used = used; at = at; log = log })
 
 abbrev μ-loop : tie.MeasureT-loop
-μ-loop t before schedule values most log₀ keep row arcs targets caps proc₀ node₀ vars₀ lens₀ rows₀ depth₀ lost₀ sems₀ w₀ rest₀ at₀ used₀ log proc node vars lens rows depth lost sems w rest at used =
+μ-loop t before schedule values most log₀ keep row arcs targets others caps proc₀ node₀ vars₀ lens₀ rows₀ depth₀ lost₀ sems₀ w₀ rest₀ at₀ used₀ log proc node vars lens rows depth lost sems w rest at used =
     length rest
 
 abbrev S : (c : tie.At-loop Inv-loop2 μ-loop2 Inv-loop μ-loop) → Setting
-S c = record { t = (c .before .before .before .before .before .before .before .before .before .before .before .before .before .before .before .before .before .before .args) .t; keep = (c .before .before .before .before .before .before .before .before .before .before .before .before .before .before .before .before .before .before .args) .t2; most = (c .before .before .before .before .before .before .before .before .before .before .before .before .before .before .before .before .before .before .args) .most; vs = (c .before .before .before .before .before .before .before .before .before .before .before .before .before .before .before .before .before .before .args) .values .now; row = (c .before .before .before .before .before .before .before .before .before .before .before .before .before .before .before .row) .result; arcs = (c .before .before .before .before .before .before .before .before .before .before .before .before .before .before .arcs) .result; ts = (c .before .before .before .before .before .before .before .before .before .before .before .targets) .result; cs = (c .before .before .before .before .before .before .before .before .before .before .caps) .result }
+S c = record { t = (c .before .before .before .before .before .before .before .before .before .before .before .before .before .before .before .before .before .before .before .before .before .before .args) .t; keep = (c .before .before .before .before .before .before .before .before .before .before .before .before .before .before .before .before .before .before .before .before .before .before .args) .t2; most = (c .before .before .before .before .before .before .before .before .before .before .before .before .before .before .before .before .before .before .before .before .before .before .args) .most; vs = (c .before .before .before .before .before .before .before .before .before .before .before .before .before .before .before .before .before .before .before .before .before .before .args) .values .now; row = (c .before .before .before .before .before .before .before .before .before .before .before .before .before .before .before .before .before .before .before .row) .result; arcs = (c .before .before .before .before .before .before .before .before .before .before .before .before .before .before .before .before .before .before .arcs) .result; ts = (c .before .before .before .before .before .before .before .before .before .before .before .before .before .before .before .targets) .result; os = (c .before .before .before .before .before .before .before .before .before .before .before .targets2) .result; cs = (c .before .before .before .before .before .before .before .before .before .before .caps) .result }
 
 abbrev whole : (c : tie.At-loop Inv-loop2 μ-loop2 Inv-loop μ-loop) → Ran
-whole c = runFrom ((c .before .before .before .before .before .before .before .before .before .before .before .before .before .before .before .before .before .before .args) .t) (keptIn ((c .before .before .before .before .before .before .before .before .before .before .before .before .before .before .before .before .before .before .args) .t)) ((c .before .before .before .before .before .before .before .before .before .before .before .before .before .before .before .before .before .before .args) .most) ((c .before .before .before .before .before .before .before .before .before .before .before .before .before .before .before .before .before .before .args) .values .now) ((c .before .before .before .before .before .before .before .before .before .before .before .before .before .before .before .before .before .before .args) .schedule .now) 0 (stateOf ((c .before .before .before .before .before .before .before .before .before .before .before .before .before .before .before .before .before .before .args) .s .depth) ((c .before .before .before .before .before .before .before .before .before .before .before .before .before .before .before .before .before .before .args) .s .lost) ((c .before .before .before .before .before .before .before .before .procs) .result) ((c .before .before .before .before .before .before .before .nodes) .result) ((c .before .before .before .before .before .before .vars) .result) ((c .before .before .before .before .before .before .before .before .before .before .before .before .before .before .before .before .before .before .args) .s .sems) ((c .before .before .before .before .before .lens) .result) ((c .before .before .before .before .items) .result)) (drop ((c .before .before .before .before .before .before .before .before .before .before .before .before .before .before .before .before .before .before .args) .before) ((c .before .before .before .before .before .before .before .before .before .before .before .before .before .before .before .before .before .before .args) .values .now)) ((c .before .before .before .before .before .before .before .before .before .before .before .before .before .before .before .before .before .before .args) .log .now)
+whole c = runFrom ((c .before .before .before .before .before .before .before .before .before .before .before .before .before .before .before .before .before .before .before .before .before .before .args) .t) (keptIn ((c .before .before .before .before .before .before .before .before .before .before .before .before .before .before .before .before .before .before .before .before .before .before .args) .t)) ((c .before .before .before .before .before .before .before .before .before .before .before .before .before .before .before .before .before .before .before .before .before .before .args) .most) ((c .before .before .before .before .before .before .before .before .before .before .before .before .before .before .before .before .before .before .before .before .before .before .args) .values .now) ((c .before .before .before .before .before .before .before .before .before .before .before .before .before .before .before .before .before .before .before .before .before .before .args) .schedule .now) 0 (stateOf ((c .before .before .before .before .before .before .before .before .before .before .before .before .before .before .before .before .before .before .before .before .before .before .args) .s .depth) ((c .before .before .before .before .before .before .before .before .before .before .before .before .before .before .before .before .before .before .before .before .before .before .args) .s .lost) ((c .before .before .before .before .before .before .before .before .procs) .result) ((c .before .before .before .before .before .before .before .nodes) .result) ((c .before .before .before .before .before .before .vars) .result) ((c .before .before .before .before .before .before .before .before .before .before .before .before .before .before .before .before .before .before .before .before .before .before .args) .s .sems) ((c .before .before .before .before .before .lens) .result) ((c .before .before .before .before .items) .result)) (drop ((c .before .before .before .before .before .before .before .before .before .before .before .before .before .before .before .before .before .before .before .before .before .before .args) .before) ((c .before .before .before .before .before .before .before .before .before .before .before .before .before .before .before .before .before .before .before .before .before .before .args) .values .now)) ((c .before .before .before .before .before .before .before .before .before .before .before .before .before .before .before .before .before .before .before .before .before .before .args) .log .now)
 
 abbrev size : (c : tie.At-loop Inv-loop2 μ-loop2 Inv-loop μ-loop) → ℕ
-size c = length ((c .before .before .before .before .before .before .before .before .before .before .before .before .before .before .before .before .before .before .args) .log .now)
+size c = length ((c .before .before .before .before .before .before .before .before .before .before .before .before .before .before .before .before .before .before .before .before .before .before .args) .log .now)
 
 K : (c : tie.At-loop Inv-loop2 μ-loop2 Inv-loop μ-loop) → Known (S c)
-K c = record { ready = (c .before .before .before .before .before .before .before .before .before .before .before .before .before .before .before .before .before .before .pre) .0; rowed = (c .before .before .before .before .before .before .before .before .before .before .before .before .before .before .before .row) .ensures; arced = (c .before .before .before .before .before .before .before .before .before .before .before .before .before .before .arcs) .ensures; targeted = (c .before .before .before .before .before .before .before .before .before .before .before .targets) .ensures; caps = (c .before .before .before .before .before .before .before .before .before .before .caps) .ensures }
+K c = record { ready = (c .before .before .before .before .before .before .before .before .before .before .before .before .before .before .before .before .before .before .before .before .before .before .pre) .0; rowed = (c .before .before .before .before .before .before .before .before .before .before .before .before .before .before .before .before .before .before .before .row) .ensures; arced = (c .before .before .before .before .before .before .before .before .before .before .before .before .before .before .before .before .before .before .arcs) .ensures; targeted = (c .before .before .before .before .before .before .before .before .before .before .before .before .before .before .before .targets) .ensures; others = leading arcNo _ _ _ _ ((c .before .before .before .before .before .before .before .before .before .before .before .before .before .before .no-arcs) .ensures) ((c .before .before .before .before .before .before .before .before .before .before .before .targets2) .ensures); caps = (c .before .before .before .before .before .before .before .before .before .before .caps) .ensures }
 
 abbrev Now : (c : tie.At-loop Inv-loop2 μ-loop2 Inv-loop μ-loop) → Here
 Now c = record { ks = (c .loop) .rest .now; lost = (c .loop) .lost; cols = columns ((c .loop) .depth) ((c .loop) .proc) ((c .loop) .node) ((c .loop) .vars) ((c .loop) .sems) ((c .loop) .lens) ((c .loop) .rows); used = (c .loop) .used; at = (c .loop) .at; log = (c .loop) .log }
@@ -60,8 +60,8 @@ Now c = record { ks = (c .loop) .rest .now; lost = (c .loop) .lost; cols = colum
 clear : (c : tie.Else2 Inv-loop2 μ-loop2 Inv-loop μ-loop) → Clear (S (c .before .before .before .before .before)) (whole (c .before .before .before .before .before)) (size (c .before .before .before .before .before)) (K (c .before .before .before .before .before)) (Now (c .before .before .before .before .before)) ((c .before .before .before .before .before .loop) .inv)
 clear c = clear-before (S (c .before .before .before .before .before)) (whole (c .before .before .before .before .before)) (size (c .before .before .before .before .before)) (K (c .before .before .before .before .before)) (Now (c .before .before .before .before .before)) ((c .before .before .before .before .before .loop) .inv) ((c .before .before .before .before .if1) .left) ((c .before .before2) .result) ((c .before .before2) .ensures) ((c .if2) .left)
 
-begins : (c : tie.After-items Inv-loop2 μ-loop2 Inv-loop μ-loop) → stateOf ((c .before .before .before .before .before .before .before .before .before .before .before .before .before .before .args) .s .depth) ((c .before .before .before .before .before .before .before .before .before .before .before .before .before .before .args) .s .lost) ((c .before .before .before .before .procs) .result) ((c .before .before .before .nodes) .result) ((c .before .before .vars) .result) ((c .before .before .before .before .before .before .before .before .before .before .before .before .before .before .args) .s .sems) ((c .before .lens) .result) ((c .items) .result) ≡ (c .before .before .before .before .before .before .before .before .before .before .before .before .before .before .args) .s
-begins c = state-of ((c .before .before .before .before .before .before .before .before .before .before .before .before .before .before .pre) .1 .0) ((c .before .before .before .before .procs) .ensures) ((c .before .before .before .nodes) .ensures) ((c .before .before .vars) .ensures) ((c .before .lens) .ensures .0) ((c .items) .ensures .0)
+begins : (c : tie.After-items Inv-loop2 μ-loop2 Inv-loop μ-loop) → stateOf ((c .before .before .before .before .before .before .before .before .before .before .before .before .before .before .before .before .before .before .args) .s .depth) ((c .before .before .before .before .before .before .before .before .before .before .before .before .before .before .before .before .before .before .args) .s .lost) ((c .before .before .before .before .procs) .result) ((c .before .before .before .nodes) .result) ((c .before .before .vars) .result) ((c .before .before .before .before .before .before .before .before .before .before .before .before .before .before .before .before .before .before .args) .s .sems) ((c .before .lens) .result) ((c .items) .result) ≡ (c .before .before .before .before .before .before .before .before .before .before .before .before .before .before .before .before .before .before .args) .s
+begins c = state-of ((c .before .before .before .before .before .before .before .before .before .before .before .before .before .before .before .before .before .before .pre) .1 .0) ((c .before .before .before .before .procs) .ensures) ((c .before .before .before .nodes) .ensures) ((c .before .before .vars) .ensures) ((c .before .lens) .ensures .0) ((c .items) .ensures .0)
 
 log-fits : (c : tie.After-slice-known Inv-loop2 μ-loop2 Inv-loop μ-loop) → length ((c .before .before .args) .log .now) < 18446744073709551616
 log-fits c = omega arith
@@ -73,13 +73,13 @@ node-low : (c : tie.At-loop Inv-loop2 μ-loop2 Inv-loop μ-loop) → (i : ℕ) �
 node-low c = λ i. rw (node-in ((c .loop) .inv .shape) i) ((c .loop) .inv .good .nodes i)
 
 f-below : (c : tie.After-top-of Inv-loop2 μ-loop2 Inv-loop μ-loop) → (c .top-of) .result < 32
-f-below c = omega (arith, (c .top-of) .ensures, clear (c .before) .task-is, (c .before .before .before .before .before .before .before .before .before .before .before .before .before .before .before .before .before .before .before .before .before .before .before .before .pre) .0 .tasks, ((c .before .before .before .before .before .before .loop) .inv .good) .bounded (task (Now (c .before .before .before .before .before .before))) (clear (c .before) .task-is), ((c .before .before .before .before .before .before .loop) .inv .good) .opened (task (Now (c .before .before .before .before .before .before))) (clear (c .before) .task-is))
+f-below c = omega (arith, (c .top-of) .ensures, clear (c .before) .task-is, (c .before .before .before .before .before .before .before .before .before .before .before .before .before .before .before .before .before .before .before .before .before .before .before .before .before .before .before .before .pre) .0 .tasks, ((c .before .before .before .before .before .before .loop) .inv .good) .bounded (task (Now (c .before .before .before .before .before .before))) (clear (c .before) .task-is), ((c .before .before .before .before .before .before .loop) .inv .good) .opened (task (Now (c .before .before .before .before .before .before))) (clear (c .before) .task-is))
 
 abbrev X : (c : tie.After-place Inv-loop2 μ-loop2 Inv-loop μ-loop) → Node
-X c = getD ((c .before .before .before .before .before .before .before .before .before .before .before .before .before .before .before .before .before .before .before .before .before .before .row) .result) ((c .place) .result) noSlot .node
+X c = getD ((c .before .before .before .before .before .before .before .before .before .before .before .before .before .before .before .before .before .before .before .before .before .before .before .before .before .before .row) .result) ((c .place) .result) noSlot .node
 
 st : (c : tie.After-place Inv-loop2 μ-loop2 Inv-loop μ-loop) → Stands (S (c .before .before .before .before .before .before .before)) (whole (c .before .before .before .before .before .before .before)) (size (c .before .before .before .before .before .before .before)) (K (c .before .before .before .before .before .before .before)) (Now (c .before .before .before .before .before .before .before)) ((c .before .top-of) .result) (X c)
-st c = record { held = (c .before .before .before .before .before .before .before .loop) .inv; clear = clear (c .before .before); at = (c .before .top-of) .ensures; node = ap (λ (i : ℕ). getD ((c .before .before .before .before .before .before .before .before .before .before .before .before .before .before .before .before .before .before .before .before .before .before .row) .result) i noSlot .node) ((c .place) .ensures) }
+st c = record { held = (c .before .before .before .before .before .before .before .loop) .inv; clear = clear (c .before .before); at = (c .before .top-of) .ensures; node = ap (λ (i : ℕ). getD ((c .before .before .before .before .before .before .before .before .before .before .before .before .before .before .before .before .before .before .before .before .before .before .before .before .before .before .row) .result) i noSlot .node) ((c .place) .ensures) }
 
 a-below : (c : tie.After-place Inv-loop2 μ-loop2 Inv-loop μ-loop) → (c .place) .result < 256
 a-below c = omega (arith, (c .place) .ensures, a-low (S (c .before .before .before .before .before .before .before)) (whole (c .before .before .before .before .before .before .before)) (size (c .before .before .before .before .before .before .before)) (K (c .before .before .before .before .before .before .before)) (Now (c .before .before .before .before .before .before .before)) ((c .before .top-of) .result) (X c) (st c))
@@ -87,8 +87,8 @@ a-below c = omega (arith, (c .place) .ensures, a-low (S (c .before .before .befo
 abbrev M : (c : tie.After-direct Inv-loop2 μ-loop2 Inv-loop μ-loop) → Columns
 M c = columns ((c .direct) .last .1 .1 .1 .1 .1 .1 .1 .0) ((c .direct) .last .1 .1 .1 .1 .1 .1 .1 .1 .0) ((c .direct) .last .1 .1 .1 .1 .1 .1 .1 .1 .1 .0) ((c .direct) .last .1 .1 .1 .1 .1 .1 .1 .1 .1 .1 .0) ((c .direct) .last .1 .1 .1 .1 .1 .1 .1 .1 .1 .1 .1 .0) ((c .direct) .last .1 .1 .1 .1 .1 .1 .1 .1 .1 .1 .1 .1 .0) ((c .direct) .last .1 .1 .1 .1 .1 .1 .1 .1 .1 .1 .1 .1 .1 .1 .0)
 
-tried : (c : tie.After-direct Inv-loop2 μ-loop2 Inv-loop μ-loop) → turn ((c .direct) .result) (M c) ≡ triedTurn (X (c .before .before .before .before .before .before .before .before .before .before .before)) (getD ((c .before .before .before .before .before .before .before .before .before .before .before .before .before .before .before .before .before .before .before .before .before .before .before .before .before .before .before .before .before .targets) .result) (32 * getD ((c .before .before .before .before .before .before .before .before .before .before .before .before .before .before .before .before .before .before .loop) .proc) ((c .before .before .before .before .before .before .before .before .before .before .before .before .top-of) .result) 0 + getD ((c .before .before .before .before .before .before .before .before .before .before .before .before .before .before .before .before .before .before .loop) .node) ((c .before .before .before .before .before .before .before .before .before .before .before .before .top-of) .result) 0) 0) (getD ((c .before .before .before .before .before .before .before .before .before .before .before .before .before .before .before .before .before .before .before .before .before .before .before .before .before .before .before .before .before .before .before .before .before .before .before .before .args) .t2) (getD ((c .before .before .before .before .before .before .before .before .before .before .before .before .before .before .before .before .before .before .loop) .proc) ((c .before .before .before .before .before .before .before .before .before .before .before .before .top-of) .result) 0) 0) ((c .before .before .before .before .before .before .before .before .before .before .before .before .before .before .before .before .before .before .before .before .before .before .before .before .before .before .before .before .before .targets) .result) ((c .before .before .before .before .before .before .before .before .before .before .before .before .before .before .before .before .before .before .before .before .before .before .before .before .before .before .before .before .caps) .result) (task (Now (c .before .before .before .before .before .before .before .before .before .before .before .before .before .before .before .before .before .before))) ((c .before .before .before .before .before .before .before .before .before .before .before .before .top-of) .result) (depthIn (Now (c .before .before .before .before .before .before .before .before .before .before .before .before .before .before .before .before .before .before))) (Now (c .before .before .before .before .before .before .before .before .before .before .before .before .before .before .before .before .before .before) .cols)
-tried c = (c .direct) .ensures ∙ ap (λ (i : ℕ). triedTurn (X (c .before .before .before .before .before .before .before .before .before .before .before)) (getD ((c .before .before .before .before .before .before .before .before .before .before .before .before .before .before .before .before .before .before .before .before .before .before .before .before .before .before .before .before .before .targets) .result) i 0) (getD ((c .before .before .before .before .before .before .before .before .before .before .before .before .before .before .before .before .before .before .before .before .before .before .before .before .before .before .before .before .before .before .before .before .before .before .before .before .args) .t2) (getD ((c .before .before .before .before .before .before .before .before .before .before .before .before .before .before .before .before .before .before .loop) .proc) ((c .before .before .before .before .before .before .before .before .before .before .before .before .top-of) .result) 0) 0) ((c .before .before .before .before .before .before .before .before .before .before .before .before .before .before .before .before .before .before .before .before .before .before .before .before .before .before .before .before .before .targets) .result) ((c .before .before .before .before .before .before .before .before .before .before .before .before .before .before .before .before .before .before .before .before .before .before .before .before .before .before .before .before .caps) .result) (task (Now (c .before .before .before .before .before .before .before .before .before .before .before .before .before .before .before .before .before .before))) ((c .before .before .before .before .before .before .before .before .before .before .before .before .top-of) .result) (depthIn (Now (c .before .before .before .before .before .before .before .before .before .before .before .before .before .before .before .before .before .before))) (Now (c .before .before .before .before .before .before .before .before .before .before .before .before .before .before .before .before .before .before) .cols)) ((c .before .before .before .before .before .before .before .before .before .before .before .place) .ensures)
+tried : (c : tie.After-direct Inv-loop2 μ-loop2 Inv-loop μ-loop) → turn ((c .direct) .result) (M c) ≡ triedTurn (X (c .before .before .before .before .before .before .before .before .before .before .before)) (getD ((c .before .before .before .before .before .before .before .before .before .before .before .before .before .before .before .before .before .before .before .before .before .before .before .before .before .before .before .before .before .before .before .before .before .targets) .result) (32 * getD ((c .before .before .before .before .before .before .before .before .before .before .before .before .before .before .before .before .before .before .loop) .proc) ((c .before .before .before .before .before .before .before .before .before .before .before .before .top-of) .result) 0 + getD ((c .before .before .before .before .before .before .before .before .before .before .before .before .before .before .before .before .before .before .loop) .node) ((c .before .before .before .before .before .before .before .before .before .before .before .before .top-of) .result) 0) 0) (getD ((c .before .before .before .before .before .before .before .before .before .before .before .before .before .before .before .before .before .before .before .before .before .before .before .before .before .before .before .before .before .targets2) .result) (32 * getD ((c .before .before .before .before .before .before .before .before .before .before .before .before .before .before .before .before .before .before .loop) .proc) ((c .before .before .before .before .before .before .before .before .before .before .before .before .top-of) .result) 0 + getD ((c .before .before .before .before .before .before .before .before .before .before .before .before .before .before .before .before .before .before .loop) .node) ((c .before .before .before .before .before .before .before .before .before .before .before .before .top-of) .result) 0) 0) ((c .before .before .before .before .before .before .before .before .before .before .before .before .before .before .before .before .before .before .before .before .before .before .before .before .before .before .before .before .before .before .before .before .before .targets) .result) ((c .before .before .before .before .before .before .before .before .before .before .before .before .before .before .before .before .before .before .before .before .before .before .before .before .before .before .before .before .caps) .result) (task (Now (c .before .before .before .before .before .before .before .before .before .before .before .before .before .before .before .before .before .before))) ((c .before .before .before .before .before .before .before .before .before .before .before .before .top-of) .result) (depthIn (Now (c .before .before .before .before .before .before .before .before .before .before .before .before .before .before .before .before .before .before))) (Now (c .before .before .before .before .before .before .before .before .before .before .before .before .before .before .before .before .before .before) .cols)
+tried c = (c .direct) .ensures ∙ ap (λ (i : ℕ). triedTurn (X (c .before .before .before .before .before .before .before .before .before .before .before)) (getD ((c .before .before .before .before .before .before .before .before .before .before .before .before .before .before .before .before .before .before .before .before .before .before .before .before .before .before .before .before .before .before .before .before .before .targets) .result) i 0) (getD ((c .before .before .before .before .before .before .before .before .before .before .before .before .before .before .before .before .before .before .before .before .before .before .before .before .before .before .before .before .before .targets2) .result) i 0) ((c .before .before .before .before .before .before .before .before .before .before .before .before .before .before .before .before .before .before .before .before .before .before .before .before .before .before .before .before .before .before .before .before .before .targets) .result) ((c .before .before .before .before .before .before .before .before .before .before .before .before .before .before .before .before .before .before .before .before .before .before .before .before .before .before .before .before .caps) .result) (task (Now (c .before .before .before .before .before .before .before .before .before .before .before .before .before .before .before .before .before .before))) ((c .before .before .before .before .before .before .before .before .before .before .before .before .top-of) .result) (depthIn (Now (c .before .before .before .before .before .before .before .before .before .before .before .before .before .before .before .before .before .before))) (Now (c .before .before .before .before .before .before .before .before .before .before .before .before .before .before .before .before .before .before) .cols)) ((c .before .before .before .before .before .before .before .before .before .before .before .place) .ensures)
 
 abbrev Left : (c : tie.After-direct Inv-loop2 μ-loop2 Inv-loop μ-loop) → Here
 Left c = withCols (Now (c .before .before .before .before .before .before .before .before .before .before .before .before .before .before .before .before .before .before)) (M c)
@@ -105,8 +105,8 @@ deep c = ap (λ (m : Columns). getD (m .depth) (task (Now (c .before .before .be
 g-is : (c : tie.After-under Inv-loop2 μ-loop2 Inv-loop μ-loop) → (c .under) .result ≡ underOf ((c .before .before .before .before .before .before .before .before .before .before .before .before .before .before .before .top-of) .result) ((c .before .closes) .result) (depthIn (Left (c .before .before .before)))
 g-is c = (c .under) .ensures ∙ ap (underOf ((c .before .before .before .before .before .before .before .before .before .before .before .before .before .before .before .top-of) .result) ((c .before .closes) .result)) (deep (c .before .before))
 
-acts : (c : tie.After-act Inv-loop2 μ-loop2 Inv-loop μ-loop) → (c .act) .result ≡ triedOf (X (c .before .before .before .before .before .before .before .before .before .before .before .before .before .before .before .before .before .before .before .before .before)) (getD ((c .before .before .before .before .before .before .before .before .before .before .before .before .before .before .before .before .before .before .before .before .before .before .before .before .before .before .before .before .before .before .before .before .before .before .before .before .before .before .before .before .before .before .arcs) .result) (32 * getD ((c .before .before .before .before .before .before .before .before .before .before .direct) .last .1 .1 .1 .1 .1 .1 .1 .1 .0) ((c .before .before .before .before .before .before .before .under) .result) 0 + getD ((c .before .before .before .before .before .before .before .before .before .before .direct) .last .1 .1 .1 .1 .1 .1 .1 .1 .1 .0) ((c .before .before .before .before .before .before .before .under) .result) 0) 0) (getD ((c .before .before .before .before .before .before .before .before .before .before .direct) .last .1 .1 .1 .1 .1 .1 .1 .1 .1 .1 .0) ((c .before .before .before .before .before .before .before .under) .result) []) (depthIn (Left (c .before .before .before .before .before .before .before .before .before .before))) ((c .before .before .before .before .before .before .before .before .before .before .direct) .last .1 .1 .1 .1 .1 .1 .1 .1 .1 .1 .1 .0) ((c .before .before .before .before .before .before .before .before .before .before .direct) .last .1 .1 .1 .1 .1 .1 .1 .1 .1 .1 .1 .1 .0) ((c .before .before .before .before .before .before .before .before .before .before .before .before .before .before .before .before .before .before .before .before .before .before .before .before .before .before .before .before .before .before .before .before .before .before .before .before .before .before .caps) .result) ((c .before .before .before .before .before .before .before .before .before .before .direct) .last .1 .1 .1 .1 .1 .1 .1 .1 .1 .1 .1 .1 .1 .1 .0) ((c .before .before .before .before .before .before .before .before .before .before .before .before .before .before .before .before .before .before .before .before .before .before .before .before .before .before .before .before .before .before .before .before .before .before .before .before .before .before .before .before .before .before .before .before .before .before .args) .values .now) ((c .before .before .before .before .before .before .before .before .before .before .before .before .before .before .before .before .before .before .before .before .before .before .before .before .before .before .before .before .loop) .used)
-acts c = (c .act) .ensures ∙ (λ i. triedOf (X (c .before .before .before .before .before .before .before .before .before .before .before .before .before .before .before .before .before .before .before .before .before)) (getD ((c .before .before .before .before .before .before .before .before .before .before .before .before .before .before .before .before .before .before .before .before .before .before .before .before .before .before .before .before .before .before .before .before .before .before .before .before .before .before .before .before .before .before .arcs) .result) ((c .before .before .before .before .before .before .place2) .ensures i) 0) (getD ((c .before .before .before .before .before .before .before .before .before .before .direct) .last .1 .1 .1 .1 .1 .1 .1 .1 .1 .1 .0) ((c .before .before .before .before .before .before .before .under) .result) []) (deep (c .before .before .before .before .before .before .before .before .before) i) ((c .before .before .before .before .before .before .before .before .before .before .direct) .last .1 .1 .1 .1 .1 .1 .1 .1 .1 .1 .1 .0) ((c .before .before .before .before .before .before .before .before .before .before .direct) .last .1 .1 .1 .1 .1 .1 .1 .1 .1 .1 .1 .1 .0) ((c .before .before .before .before .before .before .before .before .before .before .before .before .before .before .before .before .before .before .before .before .before .before .before .before .before .before .before .before .before .before .before .before .before .before .before .before .before .before .caps) .result) ((c .before .before .before .before .before .before .before .before .before .before .direct) .last .1 .1 .1 .1 .1 .1 .1 .1 .1 .1 .1 .1 .1 .1 .0) ((c .before .before .before .before .before .before .before .before .before .before .before .before .before .before .before .before .before .before .before .before .before .before .before .before .before .before .before .before .before .before .before .before .before .before .before .before .before .before .before .before .before .before .before .before .before .before .args) .values .now) ((c .before .before .before .before .before .before .before .before .before .before .before .before .before .before .before .before .before .before .before .before .before .before .before .before .before .before .before .before .loop) .used))
+acts : (c : tie.After-act Inv-loop2 μ-loop2 Inv-loop μ-loop) → (c .act) .result ≡ triedOf (X (c .before .before .before .before .before .before .before .before .before .before .before .before .before .before .before .before .before .before .before .before .before)) (getD ((c .before .before .before .before .before .before .before .before .before .before .before .before .before .before .before .before .before .before .before .before .before .before .before .before .before .before .before .before .before .before .before .before .before .before .before .before .before .before .before .before .before .before .before .before .before .before .arcs) .result) (32 * getD ((c .before .before .before .before .before .before .before .before .before .before .direct) .last .1 .1 .1 .1 .1 .1 .1 .1 .0) ((c .before .before .before .before .before .before .before .under) .result) 0 + getD ((c .before .before .before .before .before .before .before .before .before .before .direct) .last .1 .1 .1 .1 .1 .1 .1 .1 .1 .0) ((c .before .before .before .before .before .before .before .under) .result) 0) 0) (getD ((c .before .before .before .before .before .before .before .before .before .before .direct) .last .1 .1 .1 .1 .1 .1 .1 .1 .1 .1 .0) ((c .before .before .before .before .before .before .before .under) .result) []) (depthIn (Left (c .before .before .before .before .before .before .before .before .before .before))) ((c .before .before .before .before .before .before .before .before .before .before .direct) .last .1 .1 .1 .1 .1 .1 .1 .1 .1 .1 .1 .0) ((c .before .before .before .before .before .before .before .before .before .before .direct) .last .1 .1 .1 .1 .1 .1 .1 .1 .1 .1 .1 .1 .0) ((c .before .before .before .before .before .before .before .before .before .before .before .before .before .before .before .before .before .before .before .before .before .before .before .before .before .before .before .before .before .before .before .before .before .before .before .before .before .before .caps) .result) ((c .before .before .before .before .before .before .before .before .before .before .direct) .last .1 .1 .1 .1 .1 .1 .1 .1 .1 .1 .1 .1 .1 .1 .0) ((c .before .before .before .before .before .before .before .before .before .before .before .before .before .before .before .before .before .before .before .before .before .before .before .before .before .before .before .before .before .before .before .before .before .before .before .before .before .before .before .before .before .before .before .before .before .before .before .before .before .before .args) .values .now) ((c .before .before .before .before .before .before .before .before .before .before .before .before .before .before .before .before .before .before .before .before .before .before .before .before .before .before .before .before .loop) .used)
+acts c = (c .act) .ensures ∙ (λ i. triedOf (X (c .before .before .before .before .before .before .before .before .before .before .before .before .before .before .before .before .before .before .before .before .before)) (getD ((c .before .before .before .before .before .before .before .before .before .before .before .before .before .before .before .before .before .before .before .before .before .before .before .before .before .before .before .before .before .before .before .before .before .before .before .before .before .before .before .before .before .before .before .before .before .before .arcs) .result) ((c .before .before .before .before .before .before .place2) .ensures i) 0) (getD ((c .before .before .before .before .before .before .before .before .before .before .direct) .last .1 .1 .1 .1 .1 .1 .1 .1 .1 .1 .0) ((c .before .before .before .before .before .before .before .under) .result) []) (deep (c .before .before .before .before .before .before .before .before .before) i) ((c .before .before .before .before .before .before .before .before .before .before .direct) .last .1 .1 .1 .1 .1 .1 .1 .1 .1 .1 .1 .0) ((c .before .before .before .before .before .before .before .before .before .before .direct) .last .1 .1 .1 .1 .1 .1 .1 .1 .1 .1 .1 .1 .0) ((c .before .before .before .before .before .before .before .before .before .before .before .before .before .before .before .before .before .before .before .before .before .before .before .before .before .before .before .before .before .before .before .before .before .before .before .before .before .before .caps) .result) ((c .before .before .before .before .before .before .before .before .before .before .direct) .last .1 .1 .1 .1 .1 .1 .1 .1 .1 .1 .1 .1 .1 .1 .0) ((c .before .before .before .before .before .before .before .before .before .before .before .before .before .before .before .before .before .before .before .before .before .before .before .before .before .before .before .before .before .before .before .before .before .before .before .before .before .before .before .before .before .before .before .before .before .before .before .before .before .before .args) .values .now) ((c .before .before .before .before .before .before .before .before .before .before .before .before .before .before .before .before .before .before .before .before .before .before .before .before .before .before .before .before .loop) .used))
 
 q-below : (c : tie.After-place2 Inv-loop2 μ-loop2 Inv-loop μ-loop) → (c .place2) .result < 256
 q-below c = omega (arith, (c .place2) .ensures, q-low (S (c .before .before .before .before .before .before .before .before .before .before .before .before .before .before .before .before .before .before .before .before .before .before)) (whole (c .before .before .before .before .before .before .before .before .before .before .before .before .before .before .before .before .before .before .before .before .before .before)) (size (c .before .before .before .before .before .before .before .before .before .before .before .before .before .before .before .before .before .before .before .before .before .before)) (K (c .before .before .before .before .before .before .before .before .before .before .before .before .before .before .before .before .before .before .before .before .before .before)) (Left (c .before .before .before .before)) ((c .before .before .before .before .before .before .before .before .before .before .before .before .before .before .before .before .top-of) .result) (X (c .before .before .before .before .before .before .before .before .before .before .before .before .before .before .before)) (wt (c .before .before .before)) ((c .before .before .closes) .result) ((c .before .under) .result) ((c .before .before .closes) .ensures) (g-is (c .before)))
@@ -120,7 +120,7 @@ ahead-long c = ap length (ahead-is c) ∙ (c .before .before .before .before .be
 d-below : (c : tie.After-place3 Inv-loop2 μ-loop2 Inv-loop μ-loop) → (c .place3) .result < 256
 d-below c = omega (arith, (c .place3) .ensures, p-low (S (c .before .before .before .before .before .before .before .before .before .before .before .before .before .before .before .before .before .before .before .before .before .before .before .before .before .before .before .before .before .before .before .before .before .before .before .before .before .before .before)) (whole (c .before .before .before .before .before .before .before .before .before .before .before .before .before .before .before .before .before .before .before .before .before .before .before .before .before .before .before .before .before .before .before .before .before .before .before .before .before .before .before)) (size (c .before .before .before .before .before .before .before .before .before .before .before .before .before .before .before .before .before .before .before .before .before .before .before .before .before .before .before .before .before .before .before .before .before .before .before .before .before .before .before)) (K (c .before .before .before .before .before .before .before .before .before .before .before .before .before .before .before .before .before .before .before .before .before .before .before .before .before .before .before .before .before .before .before .before .before .before .before .before .before .before .before)) (Left (c .before .before .before .before .before .before .before .before .before .before .before .before .before .before .before .before .before .before .before .before .before)) ((c .before .before .before .before .before .before .before .before .before .before .before .before .before .before .before .before .before .before .before .before .before .before .before .before .before .before .before .before .before .before .before .before .before .top-of) .result) (X (c .before .before .before .before .before .before .before .before .before .before .before .before .before .before .before .before .before .before .before .before .before .before .before .before .before .before .before .before .before .before .before .before)) (wt (c .before .before .before .before .before .before .before .before .before .before .before .before .before .before .before .before .before .before .before .before)) ((c .before .before .before .before .before .before .before .before .before .before .before .before .before .before .before .before .before .before .before .closes) .result) ((c .before .before .before .before .before .before .before .before .before .before .before .before .before .before .before .before .before .before .under) .result) ((c .before .before .before .before .before .before .before .before .before .before .before .before .before .before .before .before .before .before .before .closes) .ensures) (g-is (c .before .before .before .before .before .before .before .before .before .before .before .before .before .before .before .before .before .before)), (c .before .before .before .before .before .before .before .arrive) .ensures .sound .place)
 
-ends : (c : tie.Joined5 Inv-loop2 μ-loop2 Inv-loop μ-loop) → Ends ((c .before .before .before .before .before .before .before .before .before .before .before .before .before .before .before .before .before .before .before .before .before .before .before .before .before .before .before .before .before .before .before .before .before .before .before .before .before .before .before .before .before .before .before .before .before .before .before .before .before .before .before .args) .t) ((c .before .before .before .before .before .before .before .before .before .before .before .before .before .before .before .before .before .before .before .before .before .before .before .before .before .before .before .before .before .before .before .before .before .before .before .before .before .before .before .before .before .before .before .before .before .before .before .before .before .before .before .args) .t2) (K (c .before .before .before .before .before .before .before .before .before .before .before .before .before .before .before .before .before .before .before .before .before .before .before .before .before .before .before .before .before .before .before .before .before) .ready) ((c .before .before .before .before .before .before .before .before .before .before .before .before .before .before .before .before .before .before .before .before .before .before .before .before .before .before .before .before .before .before .before .before .before .before .before .before .before .before .before .before .before .before .before .before .before .before .before .before .before .before .before .args) .most) ((c .before .before .before .before .before .before .before .before .before .before .before .before .before .before .before .before .before .before .before .before .before .before .before .before .before .before .before .before .before .before .before .before .before .before .before .before .before .before .before .before .before .before .before .before .before .before .before .before .before .before .before .args) .values .now) (getD ((c .before .before .before .before .before .before .before .before .before .before .before .before .before .before .before .direct) .last .1 .1 .1 .1 .1 .1 .1 .1 .0) ((c .before .before .before .before .before .before .before .before .before .before .before .before .under) .result) 0) ((c .before .before .loop2) .m) (pick ((c .before .before .loop2) .far) ((c .before .before .loop2) .w) (set (getD ((c .before .before .before .before .before .before .before .before .before .before .before .before .before .before .before .direct) .last .1 .1 .1 .1 .1 .1 .1 .1 .1 .1 .0) ((c .before .before .before .before .before .before .before .before .before .before .before .before .under) .result) []) ((c .before .before .before .before .before .act) .result .var) ((c .before .before .before .before .before .act) .result .value))) ((c .before .before .loop2) .arc) ((c .before .before .loop2) .us) ((c .if5) .z)
+ends : (c : tie.Joined5 Inv-loop2 μ-loop2 Inv-loop μ-loop) → Ends ((c .before .before .before .before .before .before .before .before .before .before .before .before .before .before .before .before .before .before .before .before .before .before .before .before .before .before .before .before .before .before .before .before .before .before .before .before .before .before .before .before .before .before .before .before .before .before .before .before .before .before .before .before .before .before .before .args) .t) ((c .before .before .before .before .before .before .before .before .before .before .before .before .before .before .before .before .before .before .before .before .before .before .before .before .before .before .before .before .before .before .before .before .before .before .before .before .before .before .before .before .before .before .before .before .before .before .before .before .before .before .before .before .before .before .before .args) .t2) (K (c .before .before .before .before .before .before .before .before .before .before .before .before .before .before .before .before .before .before .before .before .before .before .before .before .before .before .before .before .before .before .before .before .before) .ready) ((c .before .before .before .before .before .before .before .before .before .before .before .before .before .before .before .before .before .before .before .before .before .before .before .before .before .before .before .before .before .before .before .before .before .before .before .before .before .before .before .before .before .before .before .before .before .before .before .before .before .before .before .before .before .before .before .args) .most) ((c .before .before .before .before .before .before .before .before .before .before .before .before .before .before .before .before .before .before .before .before .before .before .before .before .before .before .before .before .before .before .before .before .before .before .before .before .before .before .before .before .before .before .before .before .before .before .before .before .before .before .before .before .before .before .before .args) .values .now) (getD ((c .before .before .before .before .before .before .before .before .before .before .before .before .before .before .before .direct) .last .1 .1 .1 .1 .1 .1 .1 .1 .0) ((c .before .before .before .before .before .before .before .before .before .before .before .before .under) .result) 0) ((c .before .before .loop2) .m) (pick ((c .before .before .loop2) .far) ((c .before .before .loop2) .w) (set (getD ((c .before .before .before .before .before .before .before .before .before .before .before .before .before .before .before .direct) .last .1 .1 .1 .1 .1 .1 .1 .1 .1 .1 .0) ((c .before .before .before .before .before .before .before .before .before .before .before .before .under) .result) []) ((c .before .before .before .before .before .act) .result .var) ((c .before .before .before .before .before .act) .result .value))) ((c .before .before .loop2) .arc) ((c .before .before .loop2) .us) ((c .if5) .z)
 ends c =
     ⊎-elim (λ w. ends-met (S (c .before .before .before .before .before .before .before .before .before .before .before .before .before .before .before .before .before .before .before .before .before .before .before .before .before .before .before .before .before .before .before .before .before)) (whole (c .before .before .before .before .before .before .before .before .before .before .before .before .before .before .before .before .before .before .before .before .before .before .before .before .before .before .before .before .before .before .before .before .before)) (size (c .before .before .before .before .before .before .before .before .before .before .before .before .before .before .before .before .before .before .before .before .before .before .before .before .before .before .before .before .before .before .before .before .before)) (K (c .before .before .before .before .before .before .before .before .before .before .before .before .before .before .before .before .before .before .before .before .before .before .before .before .before .before .before .before .before .before .before .before .before)) (Left (c .before .before .before .before .before .before .before .before .before .before .before .before .before .before .before)) ((c .before .before .before .before .before .before .before .before .before .before .before .before .before .before .before .before .before .before .before .before .before .before .before .before .before .before .before .top-of) .result) (X (c .before .before .before .before .before .before .before .before .before .before .before .before .before .before .before .before .before .before .before .before .before .before .before .before .before .before)) (wt (c .before .before .before .before .before .before .before .before .before .before .before .before .before .before)) ((c .before .before .before .before .before .before .before .before .before .before .before .before .before .closes) .result) ((c .before .before .before .before .before .before .before .before .before .before .before .before .under) .result) ((c .before .before .before .before .before .before .before .before .before .before .before .before .before .closes) .ensures) (g-is (c .before .before .before .before .before .before .before .before .before .before .before .before)) ((c .before .before .before .before .before .act) .result) (acts (c .before .before .before .before .before)) ((c .before .before .loop2) .far) ((c .before .before .loop2) .w) ((c .before .before .loop2) .arc) ((c .before .before .loop2) .us) ((c .before .before .loop2) .m) ((c .before .before .loop2) .inv) ((c .before .arrive) .result) ((c .before .arrive) .ensures) ((c .if5) .z) (w .0 .taken) (w .3))
     (⊎-elim (λ w. ends-out (S (c .before .before .before .before .before .before .before .before .before .before .before .before .before .before .before .before .before .before .before .before .before .before .before .before .before .before .before .before .before .before .before .before .before)) (whole (c .before .before .before .before .before .before .before .before .before .before .before .before .before .before .before .before .before .before .before .before .before .before .before .before .before .before .before .before .before .before .before .before .before)) (size (c .before .before .before .before .before .before .before .before .before .before .before .before .before .before .before .before .before .before .before .before .before .before .before .before .before .before .before .before .before .before .before .before .before)) (K (c .before .before .before .before .before .before .before .before .before .before .before .before .before .before .before .before .before .before .before .before .before .before .before .before .before .before .before .before .before .before .before .before .before)) (Left (c .before .before .before .before .before .before .before .before .before .before .before .before .before .before .before)) ((c .before .before .before .before .before .before .before .before .before .before .before .before .before .before .before .before .before .before .before .before .before .before .before .before .before .before .before .top-of) .result) (X (c .before .before .before .before .before .before .before .before .before .before .before .before .before .before .before .before .before .before .before .before .before .before .before .before .before .before)) (wt (c .before .before .before .before .before .before .before .before .before .before .before .before .before .before)) ((c .before .before .before .before .before .before .before .before .before .before .before .before .before .closes) .result) ((c .before .before .before .before .before .before .before .before .before .before .before .before .under) .result) ((c .before .before .before .before .before .before .before .before .before .before .before .before .before .closes) .ensures) (g-is (c .before .before .before .before .before .before .before .before .before .before .before .before)) ((c .before .before .before .before .before .act) .result) (acts (c .before .before .before .before .before)) ((c .before .before .loop2) .far) ((c .before .before .loop2) .w) ((c .before .before .loop2) .arc) ((c .before .before .loop2) .us) ((c .before .before .loop2) .m) ((c .before .before .loop2) .inv) ((c .before .arrive) .result) ((c .before .arrive) .ensures) ((c .if5) .z) (w .2 .result) (w .0 .left) (w .1 .taken) (w .2 .ensures) (w .5))
@@ -147,8 +147,8 @@ ended : (c : tie.Joined1 Inv-loop2 μ-loop2 Inv-loop μ-loop) → Stopped (S (c 
 ended c =
     ⊎-elim (λ w. behind (S (c .before)) (whole (c .before)) (size (c .before)) (stop-1 (record { before = (c .before); if1 = w .0 })) (w .1) (w .2) (w .3) (w .4) (w .5) (w .6) (w .7) (w .8))
     (⊎-elim (λ w. behind (S (c .before)) (whole (c .before)) (size (c .before)) (stop-2 (record { before = (record { before = (record { before = (record { before = (record { before = (c .before); if1 = w .0 }); shared-slice-known2 = w .1 }); lost2 = w .2 }); before2 = w .3 }); if2 = w .4 })) (w .5) (w .6) (w .7) (w .8) (w .9) (w .10) (w .11) (w .12))
-    (⊎-elim (λ w. behind (S (c .before)) (whole (c .before)) (size (c .before)) (stop-3 (record { before = (record { before = (record { before = (record { before = (record { before = (record { before = (record { before = (record { before = (record { before = (record { before = (record { before = (record { before = (record { before = (record { before = (record { before = (record { before = (record { before = (record { before = (record { before = (record { before = (record { before = (record { before = (record { before = (record { before = (record { before = (record { before = (record { before = (record { before = (record { before = (record { before = (c .before); if1 = w .0 }); shared-slice-known2 = w .1 }); lost2 = w .2 }); before2 = w .3 }); if2 = w .4 }); top-of = w .5 }); place = w .6 }); sl = w .7 }); targets2 = w .8 }); depth2 = w .9 }); proc = w .10 }); node = w .11 }); vars2 = w .12 }); sems2 = w .13 }); lens2 = w .14 }); caps2 = w .15 }); rows = w .16 }); direct = w .17 }); if3 = w .18 }); closes = w .19 }); under = w .20 }); place2 = w .21 }); act-arg = w .22 }); sems3 = w .23 }); lens3 = w .24 }); caps3 = w .25 }); rows2 = w .26 }); act = w .27 }); struct-known = w .28 }); if4 = w .29 })) (w .30) (w .31) (w .32) (w .33) (w .34) (w .35) (w .36) (w .37))
-    (λ w. behind (S (c .before)) (whole (c .before)) (size (c .before)) (stop-4 (record { before = (record { before = (record { before = (record { before = (record { before = (record { before = (record { before = (record { before = (record { before = (record { before = (record { before = (record { before = (record { before = (record { before = (record { before = (record { before = (record { before = (record { before = (record { before = (record { before = (record { before = (record { before = (record { before = (record { before = (record { before = (record { before = (record { before = (record { before = (record { before = (record { before = (record { before = (record { before = (record { before = (record { before = (record { before = (c .before); if1 = w .0 }); shared-slice-known2 = w .1 }); lost2 = w .2 }); before2 = w .3 }); if2 = w .4 }); top-of = w .5 }); place = w .6 }); sl = w .7 }); targets2 = w .8 }); depth2 = w .9 }); proc = w .10 }); node = w .11 }); vars2 = w .12 }); sems2 = w .13 }); lens2 = w .14 }); caps2 = w .15 }); rows = w .16 }); direct = w .17 }); if3 = w .18 }); closes = w .19 }); under = w .20 }); place2 = w .21 }); act-arg = w .22 }); sems3 = w .23 }); lens3 = w .24 }); caps3 = w .25 }); rows2 = w .26 }); act = w .27 }); struct-known = w .28 }); if4 = w .29 }); loop2 = w .30 }); arrive = w .31 }); if5 = w .32 }); struct-known3 = w .33 }); if8 = w .34 })) (w .35) (w .36) (w .37) (w .38) (w .39) (w .40) (w .41) (w .42))))
+    (⊎-elim (λ w. behind (S (c .before)) (whole (c .before)) (size (c .before)) (stop-3 (record { before = (record { before = (record { before = (record { before = (record { before = (record { before = (record { before = (record { before = (record { before = (record { before = (record { before = (record { before = (record { before = (record { before = (record { before = (record { before = (record { before = (record { before = (record { before = (record { before = (record { before = (record { before = (record { before = (record { before = (record { before = (record { before = (record { before = (record { before = (record { before = (record { before = (c .before); if1 = w .0 }); shared-slice-known2 = w .1 }); lost2 = w .2 }); before2 = w .3 }); if2 = w .4 }); top-of = w .5 }); place = w .6 }); sl = w .7 }); targets3 = w .8 }); depth2 = w .9 }); proc = w .10 }); node = w .11 }); vars2 = w .12 }); sems2 = w .13 }); lens2 = w .14 }); caps2 = w .15 }); rows = w .16 }); direct = w .17 }); if3 = w .18 }); closes = w .19 }); under = w .20 }); place2 = w .21 }); act-arg = w .22 }); sems3 = w .23 }); lens3 = w .24 }); caps3 = w .25 }); rows2 = w .26 }); act = w .27 }); struct-known = w .28 }); if4 = w .29 })) (w .30) (w .31) (w .32) (w .33) (w .34) (w .35) (w .36) (w .37))
+    (λ w. behind (S (c .before)) (whole (c .before)) (size (c .before)) (stop-4 (record { before = (record { before = (record { before = (record { before = (record { before = (record { before = (record { before = (record { before = (record { before = (record { before = (record { before = (record { before = (record { before = (record { before = (record { before = (record { before = (record { before = (record { before = (record { before = (record { before = (record { before = (record { before = (record { before = (record { before = (record { before = (record { before = (record { before = (record { before = (record { before = (record { before = (record { before = (record { before = (record { before = (record { before = (record { before = (c .before); if1 = w .0 }); shared-slice-known2 = w .1 }); lost2 = w .2 }); before2 = w .3 }); if2 = w .4 }); top-of = w .5 }); place = w .6 }); sl = w .7 }); targets3 = w .8 }); depth2 = w .9 }); proc = w .10 }); node = w .11 }); vars2 = w .12 }); sems2 = w .13 }); lens2 = w .14 }); caps2 = w .15 }); rows = w .16 }); direct = w .17 }); if3 = w .18 }); closes = w .19 }); under = w .20 }); place2 = w .21 }); act-arg = w .22 }); sems3 = w .23 }); lens3 = w .24 }); caps3 = w .25 }); rows2 = w .26 }); act = w .27 }); struct-known = w .28 }); if4 = w .29 }); loop2 = w .30 }); arrive = w .31 }); if5 = w .32 }); struct-known3 = w .33 }); if8 = w .34 })) (w .35) (w .36) (w .37) (w .38) (w .39) (w .40) (w .41) (w .42))))
     ((c .if1) .came)
 
 row-requires : tie.Need-row-requires Inv-loop2 μ-loop2 Inv-loop μ-loop
@@ -160,17 +160,23 @@ arcs-requires c κs = search needs
 targets-requires : tie.Need-targets-requires Inv-loop2 μ-loop2 Inv-loop μ-loop
 targets-requires c κs = search needs
 
+no-arcs-requires : tie.Need-no-arcs-requires Inv-loop2 μ-loop2 Inv-loop μ-loop
+no-arcs-requires c κs = search needs
+
+targets-requires-2 : tie.Need-targets-requires-2 Inv-loop2 μ-loop2 Inv-loop μ-loop
+targets-requires-2 c κs = search needs
+
 caps-requires : tie.Need-caps-requires Inv-loop2 μ-loop2 Inv-loop μ-loop
 caps-requires c κs = search needs
 
 procs-requires : tie.Need-procs-requires Inv-loop2 μ-loop2 Inv-loop μ-loop
-procs-requires c κs = (c .before .before .before .before .before .before .before .before .before .pre) .1 .0 .frames
+procs-requires c κs = (c .before .before .before .before .before .before .before .before .before .before .before .before .before .pre) .1 .0 .frames
 
 nodes-requires : tie.Need-nodes-requires Inv-loop2 μ-loop2 Inv-loop μ-loop
-nodes-requires c κs = (c .before .before .before .before .before .before .before .before .before .before .pre) .1 .0 .frames
+nodes-requires c κs = (c .before .before .before .before .before .before .before .before .before .before .before .before .before .before .pre) .1 .0 .frames
 
 vars-requires : tie.Need-vars-requires Inv-loop2 μ-loop2 Inv-loop μ-loop
-vars-requires c κs = (c .before .before .before .before .before .before .before .before .before .before .before .pre) .1 .0 .frames
+vars-requires c κs = (c .before .before .before .before .before .before .before .before .before .before .before .before .before .before .before .pre) .1 .0 .frames
 
 lens-requires : tie.Need-lens-requires Inv-loop2 μ-loop2 Inv-loop μ-loop
 lens-requires c κs = search needs
@@ -183,12 +189,12 @@ loop-holds c = record {
   n = 0;
   at-n = refl;
   ran = refl;
-  good = subst (λ (u : State). Good ((c .before .before .before .before .before .before .before .before .before .before .before .before .before .before .before .before .before .args) .t) u) (sym (begins (c .before .before .before))) ((c .before .before .before .before .before .before .before .before .before .before .before .before .before .before .before .before .before .pre) .1 .0);
-  shape = shape-of ((c .before .before .before .before .before .before .before .before .before .before .before .before .before .before .before .before .before .pre) .1 .0) ((c .before .before .before .before .before .before .before .procs) .ensures) ((c .before .before .before .before .before .before .nodes) .ensures) ((c .before .before .before .before .before .vars) .ensures) ((c .before .before .before .before .lens) .ensures .0) ((c .before .before .before .items) .ensures .0) ((c .before .before .before .before .lens) .ensures .1) ((c .before .before .before .items) .ensures .1 .0) ((c .before .before .before .items) .ensures .1 .1);
-  within = (c .before .before .before .before .before .before .before .before .before .before .before .before .before .before .before .before .before .pre) .1 .1;
+  good = subst (λ (u : State). Good ((c .before .before .before .before .before .before .before .before .before .before .before .before .before .before .before .before .before .before .before .before .before .args) .t) u) (sym (begins (c .before .before .before))) ((c .before .before .before .before .before .before .before .before .before .before .before .before .before .before .before .before .before .before .before .before .before .pre) .1 .0);
+  shape = shape-of ((c .before .before .before .before .before .before .before .before .before .before .before .before .before .before .before .before .before .before .before .before .before .pre) .1 .0) ((c .before .before .before .before .before .before .before .procs) .ensures) ((c .before .before .before .before .before .before .nodes) .ensures) ((c .before .before .before .before .before .vars) .ensures) ((c .before .before .before .before .lens) .ensures .0) ((c .before .before .before .items) .ensures .0) ((c .before .before .before .before .lens) .ensures .1) ((c .before .before .before .items) .ensures .1 .0) ((c .before .before .before .items) .ensures .1 .1);
+  within = (c .before .before .before .before .before .before .before .before .before .before .before .before .before .before .before .before .before .before .before .before .before .pre) .1 .1;
   room = omega arith;
   same = refl;
-  fits = log-fits (c .before .before .before .before .before .before .before .before .before .before .before .before .before .before .before);
+  fits = log-fits (c .before .before .before .before .before .before .before .before .before .before .before .before .before .before .before .before .before .before .before);
 }
 
 shared-slice-read-k : tie.Need-shared-slice-read-k Inv-loop2 μ-loop2 Inv-loop μ-loop
@@ -198,16 +204,16 @@ sub-before : tie.Need-sub-before Inv-loop2 μ-loop2 Inv-loop μ-loop
 sub-before c = (c .before .before .loop) .inv .room
 
 before-requires : tie.Need-before-requires Inv-loop2 μ-loop2 Inv-loop μ-loop
-before-requires c κs = (c .before .before .before .before .before .before .before .before .before .before .before .before .before .before .before .before .before .before .before .before .before .pre) .0 .tasks
+before-requires c κs = (c .before .before .before .before .before .before .before .before .before .before .before .before .before .before .before .before .before .before .before .before .before .before .before .before .before .pre) .0 .tasks
 
 cast-i : tie.Need-cast-i Inv-loop2 μ-loop2 Inv-loop μ-loop
-cast-i c = record { fits = omega (arith, clear c .task-is, (c .before .before .before .before .before .before .before .before .before .before .before .before .before .before .before .before .before .before .before .before .before .before .before .pre) .0 .tasks) }
+cast-i c = record { fits = omega (arith, clear c .task-is, (c .before .before .before .before .before .before .before .before .before .before .before .before .before .before .before .before .before .before .before .before .before .before .before .before .before .before .before .pre) .0 .tasks) }
 
 array-read-d : tie.Need-array-read-d Inv-loop2 μ-loop2 Inv-loop μ-loop
-array-read-d c = omega (arith, clear c .task-is, (c .before .before .before .before .before .before .before .before .before .before .before .before .before .before .before .before .before .before .before .before .before .before .before .pre) .0 .tasks)
+array-read-d c = omega (arith, clear c .task-is, (c .before .before .before .before .before .before .before .before .before .before .before .before .before .before .before .before .before .before .before .before .before .before .before .before .before .before .before .pre) .0 .tasks)
 
 top-of-requires : tie.Need-top-of-requires Inv-loop2 μ-loop2 Inv-loop μ-loop
-top-of-requires c κs = (omega (arith, clear c .task-is, (c .before .before .before .before .before .before .before .before .before .before .before .before .before .before .before .before .before .before .before .before .before .before .before .pre) .0 .tasks), (((c .before .before .before .before .before .loop) .inv .good) .opened (task (Now (c .before .before .before .before .before))) (clear c .task-is), ((c .before .before .before .before .before .loop) .inv .good) .bounded (task (Now (c .before .before .before .before .before))) (clear c .task-is)))
+top-of-requires c κs = (omega (arith, clear c .task-is, (c .before .before .before .before .before .before .before .before .before .before .before .before .before .before .before .before .before .before .before .before .before .before .before .before .before .before .before .pre) .0 .tasks), (((c .before .before .before .before .before .loop) .inv .good) .opened (task (Now (c .before .before .before .before .before))) (clear c .task-is), ((c .before .before .before .before .before .loop) .inv .good) .bounded (task (Now (c .before .before .before .before .before))) (clear c .task-is)))
 
 array-read-tp : tie.Need-array-read-tp Inv-loop2 μ-loop2 Inv-loop μ-loop
 array-read-tp c = f-below c
@@ -224,17 +230,11 @@ mul-sl c = record { fits = omega (arith, a-below c) }
 array-copy-out-sl : tie.Need-array-copy-out-sl Inv-loop2 μ-loop2 Inv-loop μ-loop
 array-copy-out-sl c = a-below c
 
-cast-ti : tie.Need-cast-ti Inv-loop2 μ-loop2 Inv-loop μ-loop
-cast-ti c = record { fits = omega (arith, proc-low (c .before .before .before .before .before .before .before .before) ((c .before .before .top-of) .result)) }
-
 array-read-direct : tie.Need-array-read-direct Inv-loop2 μ-loop2 Inv-loop μ-loop
 array-read-direct c = a-below (c .before)
 
-mul-direct : tie.Need-mul-direct Inv-loop2 μ-loop2 Inv-loop μ-loop
-mul-direct c = record { fits = omega (arith, proc-low (c .before .before .before .before .before .before .before .before) ((c .before .before .top-of) .result)) }
-
 array-read-direct-2 : tie.Need-array-read-direct-2 Inv-loop2 μ-loop2 Inv-loop μ-loop
-array-read-direct-2 c = proc-low (c .before .before .before .before .before .before .before .before) ((c .before .before .top-of) .result)
+array-read-direct-2 c = a-below (c .before)
 
 direct-requires : tie.Need-direct-requires Inv-loop2 μ-loop2 Inv-loop μ-loop
 direct-requires c κs = stood (S (c .before .before .before .before .before .before .before .before .before .before .before .before .before .before .before .before .before)) (whole (c .before .before .before .before .before .before .before .before .before .before .before .before .before .before .before .before .before)) (size (c .before .before .before .before .before .before .before .before .before .before .before .before .before .before .before .before .before)) (K (c .before .before .before .before .before .before .before .before .before .before .before .before .before .before .before .before .before)) (Now (c .before .before .before .before .before .before .before .before .before .before .before .before .before .before .before .before .before)) ((c .before .before .before .before .before .before .before .before .before .before .before .top-of) .result) (X (c .before .before .before .before .before .before .before .before .before .before)) (st (c .before .before .before .before .before .before .before .before .before .before))
@@ -351,7 +351,7 @@ land-requires : tie.Need-land-requires Inv-loop2 μ-loop2 Inv-loop μ-loop
 land-requires c κs = subst (λ (d : ℕ). Lands (task (Now (c .before .before .before .before .before .before .before .before .before .before .before .before .before .before .before .before .before .before .before .before .before .before .before .before .before .before .before .before .before .before .before .before .before .before .before .before .before .before .before .before .before .before .before))) ((c .before .before .before .before .before .before .before .before .before .before .before .before .before .before .before .before .before .before .before .before .before .before .before .before .before .before .before .before .before .before .before .before .before .before .before .before .before .top-of) .result) ((c .before .before .before .before .before .before .before .before .before .before .before .before .before .before .before .before .before .before .before .before .before .before .under) .result) d ((c .before .before .before .before .before .before .before .before .before .before .before .before .before .before .before .before .before .before .before .before .before .before .before .closes) .result) ((c .before .before .before .before .before .before .before .before .before .before .before .before .before .before .before .act) .result) ((c .before .before .before .before .before .before .before .before .before .before .before .before .before .before .before .before .before .before .before .before .before .before .before .before .before .direct) .last .1 .1 .1 .1 .1 .1 .1 .0) ((c .before .before .before .before .before .before .before .before .before .before .before .before .before .before .before .before .before .before .before .before .before .before .before .before .before .direct) .last .1 .1 .1 .1 .1 .1 .1 .1 .1 .1 .0) ((c .before .before .before .before .before .before .before .before .before .before .before .before .before .before .before .before .before .before .before .before .before .before .before .before .before .direct) .last .1 .1 .1 .1 .1 .1 .1 .1 .1 .1 .1 .1 .1 .1 .0)) (sym (deep (c .before .before .before .before .before .before .before .before .before .before .before .before .before .before .before .before .before .before .before .before .before .before .before .before))) (lands (S (c .before .before .before .before .before .before .before .before .before .before .before .before .before .before .before .before .before .before .before .before .before .before .before .before .before .before .before .before .before .before .before .before .before .before .before .before .before .before .before .before .before .before .before)) (whole (c .before .before .before .before .before .before .before .before .before .before .before .before .before .before .before .before .before .before .before .before .before .before .before .before .before .before .before .before .before .before .before .before .before .before .before .before .before .before .before .before .before .before .before)) (size (c .before .before .before .before .before .before .before .before .before .before .before .before .before .before .before .before .before .before .before .before .before .before .before .before .before .before .before .before .before .before .before .before .before .before .before .before .before .before .before .before .before .before .before)) (K (c .before .before .before .before .before .before .before .before .before .before .before .before .before .before .before .before .before .before .before .before .before .before .before .before .before .before .before .before .before .before .before .before .before .before .before .before .before .before .before .before .before .before .before)) (Left (c .before .before .before .before .before .before .before .before .before .before .before .before .before .before .before .before .before .before .before .before .before .before .before .before .before)) ((c .before .before .before .before .before .before .before .before .before .before .before .before .before .before .before .before .before .before .before .before .before .before .before .before .before .before .before .before .before .before .before .before .before .before .before .before .before .top-of) .result) (X (c .before .before .before .before .before .before .before .before .before .before .before .before .before .before .before .before .before .before .before .before .before .before .before .before .before .before .before .before .before .before .before .before .before .before .before .before)) (wt (c .before .before .before .before .before .before .before .before .before .before .before .before .before .before .before .before .before .before .before .before .before .before .before .before)) ((c .before .before .before .before .before .before .before .before .before .before .before .before .before .before .before .before .before .before .before .before .before .before .before .closes) .result) ((c .before .before .before .before .before .before .before .before .before .before .before .before .before .before .before .before .before .before .before .before .before .before .under) .result) ((c .before .before .before .before .before .before .before .before .before .before .before .before .before .before .before .before .before .before .before .before .before .before .before .closes) .ensures) (g-is (c .before .before .before .before .before .before .before .before .before .before .before .before .before .before .before .before .before .before .before .before .before .before)) ((c .before .before .before .before .before .before .before .before .before .before .before .before .before .before .before .act) .result) (acts (c .before .before .before .before .before .before .before .before .before .before .before .before .before .before .before)) ((c .before .before .before .before .before .before .before .before .before .before .before .before .loop2) .far) ((c .before .before .before .before .before .before .before .before .before .before .before .before .loop2) .w) ((c .before .before .before .before .before .before .before .before .before .before .before .before .loop2) .arc) ((c .before .before .before .before .before .before .before .before .before .before .before .before .loop2) .us) ((c .before .before .before .before .before .before .before .before .before .before .before .before .loop2) .m) ((c .before .before .before .before .before .before .before .before .before .before .before .before .loop2) .inv) ((c .before .before .before .before .before .before .before .before .before .before .before .arrive) .result) ((c .before .before .before .before .before .before .before .before .before .before .before .arrive) .ensures) ((c .before .before .before .before .before .before .before .before .before .before .before .before .before .if4) .left) ((c .before .before .before .before .before .before .before .before .before .before .if5) .z) (ends (c .before .before .before .before .before .before .before .before .before .before)))
 
 array-write-lost : tie.Need-array-write-lost Inv-loop2 μ-loop2 Inv-loop μ-loop
-array-write-lost c = omega (arith, clear (c .before .before .before .before .before .before .before .before .before .before .before .before .before .before .before .before .before .before .before .before .before .before .before .before .before .before .before .before .before .before .before .before .before .before .before .before .before .before .before) .task-is, (c .before .before .before .before .before .before .before .before .before .before .before .before .before .before .before .before .before .before .before .before .before .before .before .before .before .before .before .before .before .before .before .before .before .before .before .before .before .before .before .before .before .before .before .before .before .before .before .before .before .before .before .before .before .before .before .before .before .before .before .before .before .before .pre) .0 .tasks)
+array-write-lost c = omega (arith, clear (c .before .before .before .before .before .before .before .before .before .before .before .before .before .before .before .before .before .before .before .before .before .before .before .before .before .before .before .before .before .before .before .before .before .before .before .before .before .before .before) .task-is, (c .before .before .before .before .before .before .before .before .before .before .before .before .before .before .before .before .before .before .before .before .before .before .before .before .before .before .before .before .before .before .before .before .before .before .before .before .before .before .before .before .before .before .before .before .before .before .before .before .before .before .before .before .before .before .before .before .before .before .before .before .before .before .before .before .before .before .pre) .0 .tasks)
 
 note-requires : tie.Need-note-requires Inv-loop2 μ-loop2 Inv-loop μ-loop
 note-requires c κs = omega (arith, clear (c .before .before .before .before .before .before .before .before .before .before .before .before .before .before .before .before .before .before .before .before .before .before .before .before .before .before .before .before .before .before .before .before .before .before .before .before .before .before .before .before .before) .room, (c .before .before .before .before .before .before .before .before .before .before .before .before .before .before .before .before .before .before .before .before .before .before .before .before .before .before .before .before .before .before .before .before .before .before .before .before .before .before .before .before .before .before .before .before .before .before .loop) .inv .room, (c .before .before .before .before .before .before .before .before .before .before .before .before .before .before .before .before .before .before .before .before .before .before .before .before .before .before .before .before .before .before .before .before .before .before .before .before .before .before .before .before .before .before .before .before .before .before .loop) .inv .fits)
@@ -383,7 +383,7 @@ same-length c = ended (c .before) .same
 returns : tie.Need-returns Inv-loop2 μ-loop2 Inv-loop μ-loop
 returns c =
     let a = answers (S (c .before .before)) (whole (c .before .before)) (size (c .before .before)) (ended (c .before)) ((c .running) .ensures) in
-    let b = ap (λ (u : State). runFrom ((c .before .before .before .before .before .before .before .before .before .before .before .before .before .before .before .before .before .before .before .before .args) .t) (keptIn ((c .before .before .before .before .before .before .before .before .before .before .before .before .before .before .before .before .before .before .before .before .args) .t)) ((c .before .before .before .before .before .before .before .before .before .before .before .before .before .before .before .before .before .before .before .before .args) .most) ((c .before .before .before .before .before .before .before .before .before .before .before .before .before .before .before .before .before .before .before .before .args) .values .now) ((c .before .before .before .before .before .before .before .before .before .before .before .before .before .before .before .before .before .before .before .before .args) .schedule .now) 0 u (drop ((c .before .before .before .before .before .before .before .before .before .before .before .before .before .before .before .before .before .before .before .before .args) .before) ((c .before .before .before .before .before .before .before .before .before .before .before .before .before .before .before .before .before .before .before .before .args) .values .now)) ((c .before .before .before .before .before .before .before .before .before .before .before .before .before .before .before .before .before .before .before .before .args) .log .now)) (begins (c .before .before .before .before .before .before)) in
+    let b = ap (λ (u : State). runFrom ((c .before .before .before .before .before .before .before .before .before .before .before .before .before .before .before .before .before .before .before .before .before .before .before .before .args) .t) (keptIn ((c .before .before .before .before .before .before .before .before .before .before .before .before .before .before .before .before .before .before .before .before .before .before .before .before .args) .t)) ((c .before .before .before .before .before .before .before .before .before .before .before .before .before .before .before .before .before .before .before .before .before .before .before .before .args) .most) ((c .before .before .before .before .before .before .before .before .before .before .before .before .before .before .before .before .before .before .before .before .before .before .before .before .args) .values .now) ((c .before .before .before .before .before .before .before .before .before .before .before .before .before .before .before .before .before .before .before .before .before .before .before .before .args) .schedule .now) 0 u (drop ((c .before .before .before .before .before .before .before .before .before .before .before .before .before .before .before .before .before .before .before .before .before .before .before .before .args) .before) ((c .before .before .before .before .before .before .before .before .before .before .before .before .before .before .before .before .before .before .before .before .before .before .before .before .args) .values .now)) ((c .before .before .before .before .before .before .before .before .before .before .before .before .before .before .before .before .before .before .before .before .before .before .before .before .args) .log .now)) (begins (c .before .before .before .before .before .before)) in
     (a .0 ∙ ap (λ (x : Ran). x .answer) b, a .1 ∙ ap (λ (x : Ran). x .log) b)
 
 pub run-from-spec : {M : Type 1} → statement M
@@ -397,6 +397,8 @@ run-from-spec =
     row-requires
     arcs-requires
     targets-requires
+    no-arcs-requires
+    targets-requires-2
     caps-requires
     procs-requires
     nodes-requires
@@ -415,9 +417,7 @@ run-from-spec =
     place-requires
     mul-sl
     array-copy-out-sl
-    cast-ti
     array-read-direct
-    mul-direct
     array-read-direct-2
     direct-requires
     put-requires

@@ -1,10 +1,8 @@
 use borrow.Author.Needs.{needs}
 use mathlib.Core.Path.{ap, _∙_}
-use Prim.Native.Nat.{ℕ}
 use lib.IntN.{ℤ}
 use Rattle.table.specs.Mask.{pick}
 use Rattle.table.specs.Values.{apply, holds}
-use Rattle.tosses.specs.Tosses.{directOf}
 use Rattle.values.proofs.Again.{again, twice}
 use Rattle.straight.proofs.tested.Statement.{statement}
 use Rattle.straight.proofs.tested.Tie as tie
@@ -18,14 +16,11 @@ operand-requires-2 c κs = search needs
 apply-requires : tie.Need-apply-requires
 apply-requires c κs = search needs
 
-branch-requires : tie.Need-branch-requires
-branch-requires c κs = search needs
-
-direct-target-requires : tie.Need-direct-target-requires
-direct-target-requires c κs = search needs
+arm-requires : tie.Need-arm-requires
+arm-requires c κs = search needs
 
 returns : tie.Need-returns
-returns c = (c .direct-target) .ensures ∙ ap (λ (a : ℕ). directOf a ((c .before .before .before .before .before .args) .keep)) ((c .before .branch) .ensures ∙ ap (λ (z : ℤ). pick (holds z) ((c .before .before .before .before .before .args) .yes) ((c .before .before .before .before .before .args) .no)) (again ((c .before .before .apply) .result) (record { sfits = (c .before .before .apply) .ok }) ∙ (c .before .before .apply) .ensures ∙ twice (apply ((c .before .before .before .before .before .args) .op)) ((c .before .before .before .before .operand) .result) ((c .before .before .before .operand2) .result) (record { sfits = (c .before .before .before .before .operand) .ok }) (record { sfits = (c .before .before .before .operand2) .ok }) ((c .before .before .before .before .operand) .ensures) ((c .before .before .before .operand2) .ensures)))
+returns c = (c .arm) .ensures ∙ ap (λ (z : ℤ). pick (holds z) ((c .before .before .before .before .args) .yes) ((c .before .before .before .before .args) .no)) (again ((c .before .apply) .result) (record { sfits = (c .before .apply) .ok }) ∙ (c .before .apply) .ensures ∙ twice (apply ((c .before .before .before .before .args) .op)) ((c .before .before .before .operand) .result) ((c .before .before .operand2) .result) (record { sfits = (c .before .before .before .operand) .ok }) (record { sfits = (c .before .before .operand2) .ok }) ((c .before .before .before .operand) .ensures) ((c .before .before .operand2) .ensures))
 
 pub tested-spec : {M : Type 1} → statement M
 tested-spec =
@@ -34,6 +29,5 @@ tested-spec =
     operand-requires
     operand-requires-2
     apply-requires
-    branch-requires
-    direct-target-requires
+    arm-requires
     returns)

@@ -1,0 +1,63 @@
+use borrow.Author.Needs.{needs}
+use native.Mathlib.Omega.{arith}
+use mathlib.Core.Path.{_≡_, refl}
+use Prim.Native.Nat.{_-_, _≤_}
+use lib.ListN.{length, getD, length-set}
+use Rattle.table.specs.Table.{noSlot, arcNo}
+use Rattle.masks.specs.Cells.{Filled}
+use Rattle.straight.proofs.Laws.{filled-set}
+use Rattle.turns.proofs.no_arcs.Statement.{statement}
+use Rattle.turns.proofs.no_arcs.Tie as tie
+
+abbrev Inv-loop : tie.InvT-loop
+Inv-loop row r₀ a₀ r a = (a ≤ 256) × ((length r ≡ 256) × Filled (λ k. arcNo (getD row k noSlot .node)) a r)
+
+abbrev μ-loop : tie.MeasureT-loop
+μ-loop row r₀ a₀ r a = 256 - a
+
+loop-holds : tie.Need-loop-holds Inv-loop μ-loop
+loop-holds c = (omega arith, (refl, λ k h. absurd (omega arith)))
+
+mul-s : tie.Need-mul-s Inv-loop μ-loop
+mul-s c = search needs
+
+array-copy-out-s : tie.Need-array-copy-out-s Inv-loop μ-loop
+array-copy-out-s c = search needs
+
+arc-no-requires : tie.Need-arc-no-requires Inv-loop μ-loop
+arc-no-requires c κs = search needs
+
+mul-r : tie.Need-mul-r Inv-loop μ-loop
+mul-r c = search needs
+
+array-write-r : tie.Need-array-write-r Inv-loop μ-loop
+array-write-r c = search needs
+
+add-a : tie.Need-add-a Inv-loop μ-loop
+add-a c = search needs
+
+loop-less : tie.Need-loop-less Inv-loop μ-loop
+loop-less c = search needs
+
+loop-again : tie.Need-loop-again Inv-loop μ-loop
+loop-again c = (omega arith, (simp length-set ((c .before .before .before .loop) .inv .1 .0), filled-set (λ k. arcNo (getD ((c .before .before .before .before .args) .t1) k noSlot .node)) ((c .before .before .before .loop) .r) ((c .before .before .before .loop) .a) (omega (arith, (c .before .before .before .loop) .inv .1 .0)) ((c .arc-no) .ensures) ((c .before .before .before .loop) .inv .1 .1)))
+
+returns : tie.Need-returns Inv-loop μ-loop
+returns c = record { arcs = λ k h. (c .before .loop) .inv .1 .1 k (omega arith) }
+
+pub no-arcs-spec : {M : Type 1} → statement M
+no-arcs-spec =
+    tie.close
+    (tie.spec
+    Inv-loop
+    μ-loop
+    loop-holds
+    mul-s
+    array-copy-out-s
+    arc-no-requires
+    mul-r
+    array-write-r
+    add-a
+    loop-less
+    loop-again
+    returns)
