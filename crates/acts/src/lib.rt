@@ -160,7 +160,7 @@ pub fn arc_to(x: Node) -> u32
     }
 }
 
-// The second arc of a test.
+// A test's arc at `no`; 0 for every other node.
 pub fn arc_no(x: Node) -> u32
     ensures { λ r. ⌜ r ≡ arcNo x ⌝ }
 {

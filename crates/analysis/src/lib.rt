@@ -2,9 +2,7 @@
 use flow::Pass;
 use table::Node;
 use table::Proc;
-use table::Slot;
 use table::Table;
-use table::Task;
 ghost use mathlib.Core.Path.{_≡_};
 ghost use mathlib.Core.Bool.{true};
 ghost use mathlib.Core.List.{List};

@@ -8,7 +8,7 @@ use Rattle.text.specs.Reader.{read}
 use Rattle.text.specs.Writer.{text, fault}
 use Rattle.text.specs.RoundTrip.{read-good, read-fault}
 use Rattle.closing.specs.declared.Closing.{Closing}
-use Rattle.closing.specs.Close.{closeTable, refusal, close}
+use Rattle.closing.specs.Close.{closeTable, close}
 use Rattle.closing.specs.Program.{refusedLine, afterClosing, afterReading, printed}
 use Rattle.bufshani.specs.CloseLaws.{close-closed, close-open}
 
@@ -32,8 +32,8 @@ module _ (s : List ℕ) (r : Reading) (e : r ≡ read s) where
     from-closing : (c : Closing) → c ≡ close (r .table) → afterClosing (c .number) c ≡ printed s
     from-closing c q = ap (λ (x : Closing). afterClosing (x .number) x) q ∙ (rw h at from-reading)
 
-    pub printed-unclosed : r .table .closed ≡ true → refusedLine 9 0 ≡ printed s
-    printed-unclosed d = from-closing (refusal 9) (close-closed (r .table) 0 (sound-read s r e h) refl d)
+    pub printed-closed : r .table .closed ≡ true → refusedLine 9 0 ≡ printed s
+    printed-closed d = from-closing _ (close-closed (r .table) 0 (sound-read s r e h) refl d)
 
-    pub printed-closed : r .table .closed ≡ false → text (closeTable (r .table)) ≡ printed s
-    printed-closed d = from-closing (record { number = 0; line = 0; table = closeTable (r .table) }) (close-open (r .table) (closeTable (r .table)) 0 (sound-read s r e h) refl d refl)
+    pub printed-open : r .table .closed ≡ false → text (closeTable (r .table)) ≡ printed s
+    printed-open d = from-closing _ (close-open (r .table) (closeTable (r .table)) 0 (sound-read s r e h) refl d refl)

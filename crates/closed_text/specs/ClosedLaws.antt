@@ -27,7 +27,7 @@ use Rattle.writer.specs.CountsLaws.{counts}
 use Rattle.writer.specs.TableLaws.{table-put}
 
 -- what the closed table says before its procedures
-abbrev pub closedFront : Table → List Queue → Front
+abbrev closedFront : Table → List Queue → Front
 closedFront t queues = record { trap = t .trap; closed = true; tasks = t .tasks; procs = t .procs; sems = t .sems; queues = t .queues; task = t .task; sem = t .sem; queue = queues }
 
 -- the lines of its procedures

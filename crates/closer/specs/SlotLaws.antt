@@ -36,14 +36,13 @@ module _ (q : Proc) (base kept : ℕ) (l arcs : List ℕ) where
     rest = λ m b. getD-set-other (r .slots) n m _ noSlot (omega arith) ∙ h .rest m (omega arith);
   }
 
-pub made : (q : Proc) (p : ℕ) (l : List ℕ) (kept : ℕ) (ends arcs : List ℕ) (r : Proc) (d : ℕ)
+pub made : (q : Proc) (p : ℕ) (l : List ℕ) (kept : ℕ) (ends arcs : List ℕ) (r : Proc)
     → kept ≡ maskOf 32 (keptIn q (p * 32) l)
     → Filled (λ n. endOf (nodeIn q n) n) 32 ends
     → Reaches kept ends arcs
     → Upto q (p * 32) kept l arcs 32 r
-    → d ≡ cell l (256 + p) % 256
-    → ClosedProc q p l (record { params = r .params; vars = r .vars; nodes = r .nodes; drop = d; slots = r .slots })
-made q p l kept ends arcs r d e f g h z = record {
+    → ClosedProc q p l (record { params = r .params; vars = r .vars; nodes = r .nodes; drop = cell l (256 + p) % 256; slots = r .slots })
+made q p l kept ends arcs r e f g h = record {
   ends = ends;
   ends-are = f;
   arcs = arcs;
@@ -51,5 +50,5 @@ made q p l kept ends arcs r d e f g h z = record {
   slots = r .slots;
   size = h .size;
   slots-are = λ n b. rw e at (h .done n b);
-  is = rw z (ap (λ (x : Proc). record { params = x .params; vars = x .vars; nodes = x .nodes; drop = cell l (256 + p) % 256; slots = r .slots }) (h .head));
+  is = ap (λ (x : Proc). record { params = x .params; vars = x .vars; nodes = x .nodes; drop = cell l (256 + p) % 256; slots = r .slots }) (h .head);
 }

@@ -235,7 +235,7 @@ fn closed_slot(x: Node, kept: bool, i: u32, cells: &[u32; 265], arcs: &[u32; 32]
     Node::Absent
 }
 
-// One procedure, closed: which nodes are kept and where each leads, then each node in its place.
+// One procedure, closed. One loop finds which nodes are kept and where each leads, the other closes each node in its place.
 pub fn closed_proc(q: Proc, p: usize, cells: &[u32; 265]) -> Proc
     requires { ⌜ p < 8 ⌝ }
     ensures { λ r. ⌜ ClosedProc q p (now (cells .entry)) r ⌝ }
@@ -290,9 +290,9 @@ fn closed_procs(t: Table, cells: &[u32; 265]) -> [Proc; 8]
     r
 }
 
-// b: the blank queues.
-pub fn closed_queues(queue: [Queue; 8], b: u32) -> [Queue; 8]
-    ensures { λ r. ⌜ ClosedQueues b queue r ⌝ }
+// The closed queues of open ones. b: the blank ones.
+pub fn closed_queues(queues: [Queue; 8], b: u32) -> [Queue; 8]
+    ensures { λ r. ⌜ ClosedQueues b queues r ⌝ }
 {
     let mut r = [Queue {
         cap: 0,
@@ -300,7 +300,7 @@ pub fn closed_queues(queue: [Queue; 8], b: u32) -> [Queue; 8]
     }; 8];
     let mut i: usize = 0;
     while i < 8 {
-        let q = queue[i];
+        let q = queues[i];
         let blank = flow::has(b, i as u8);
         r[i] = Queue { cap: q.cap, blank };
         i += 1;

@@ -3,7 +3,7 @@ use mathlib.Core.Path.{_≡_, refl, sym, _∙_, ap, subst}
 use mathlib.Core.Bool.{Bool, true, false}
 use mathlib.Core.List.{List, [], _∷_, List·Memᴰ·head}
 use mathlib.Core.Option.{Option, none, some}
-use Prim.Native.Nat.{ℕ, _+_, _-_, _*_, _<_, _≤_}
+use Prim.Native.Nat.{ℕ, _+_, _-_, _*_, _/_, _<_, _≤_}
 use native.Mathlib.Omega.{arith}
 use lib.ListN.{length, getD, set, take, drop, length-set}
 use lib.Seq.{sets, set-getD}
@@ -12,10 +12,11 @@ use lib.IntN.{ℤ, pos}
 use borrow.Author.Tests.{leb-false, eqb-true, eqb-false, eq-eqb}
 use Rattle.table.specs.Mask.{pick, bit, membersFrom, members}
 use Rattle.table.specs.MaskLaws.{members-is}
-use Rattle.table.specs.Table.{nodeAt, arcTo, arcNo}
+use Rattle.table.specs.Table.{noSlot, nodeAt, arcTo, arcNo}
 use Rattle.table.specs.declared.Args.{Args}
 use Rattle.table.specs.declared.Node.{Node}
 use Rattle.table.specs.declared.Node.the-variants.{Absent, Start, Set, Test, Read, Call, Wait, Signal, Send, Recv, Assert, Out, Return}
+use Rattle.table.specs.declared.Slot.{Slot}
 use Rattle.table.specs.declared.Table.{Table}
 use Rattle.machine.specs.declared.Frame.{Frame}
 use Rattle.machine.specs.declared.State.{State}
@@ -32,7 +33,7 @@ use Rattle.starts.specs.GoodLaws.{good-frame}
 use Rattle.columns.specs.Columns.{framesOf, queuesOf, stateOf, Shape}
 use Rattle.columns.specs.ColumnLaws.{frame-set}
 use Rattle.straight.specs.declared.Tried.{Tried}
-use Rattle.straight.specs.Turns.{Columns, Turn, turn, left, doneAs, movedTo, free, straight, openedBy, calls, closedTo, placeBelow, returns, triedTurn}
+use Rattle.straight.specs.Turns.{Columns, Turn, turn, left, doneAs, movedTo, free, straight, openedBy, calls, closedTo, placeBelow, returns, triedTurn, Arcs, Targets}
 use Rattle.runner.proofs.Walks.{met, metOf, heading, withVars}
 use Rattle.runner.proofs.Runs.{opens, logged-is, storedAs}
 use Rattle.runner.proofs.Turns.{ends-over, Standing, stays-here, placed, turn-walks, at-below}
@@ -57,6 +58,13 @@ pub goes-as : {t : Table} {most : ℕ} {vs : List ℤ} {ks : List ℕ} {n : ℕ}
 goes-as {t} {most} {vs} {ks} {n} {s} {used} {log} {lost} {log′ = log′} e h = subst (λ (m : Columns). Goes t most vs ks n s used log lost m log′) (sym e) h
 
 -- ---- an arc with one target, which is kept
+
+-- the kept node that the arc f of each node of a row leads straight to, 32 if it does not
+abbrev pub LeadsStraight : (Node → ℕ) → List Slot → List ℕ → List ℕ → Type 0
+LeadsStraight f row keep l = (a : ℕ) → a < 256 → getD l a 0 ≡ directOf (f (getD row a noSlot .node)) (getD keep (a / 32) 0)
+
+pub leads-straight : (f : Node → ℕ) (row : List Slot) (arcs keep l : List ℕ) → Arcs f row arcs → Targets arcs keep l → LeadsStraight f row keep l
+leads-straight f row arcs keep l c t a h = t .targets a h ∙ ap (λ (x : ℕ). directOf x (getD keep (a / 32) 0)) (c .arcs a h)
 
 pub record OneKept (arc keep j : ℕ) : Type 0 where
   pub one : members arc ≡ j ∷ []
@@ -295,29 +303,30 @@ module _ (j kp : ℕ) (ts cs : List ℕ) (i f d : ℕ) (m : Columns) (e : Tried)
   shown-done z x to o h k =
       led (record { j = j; ended = rw o (shown-ends z to (straight-ends j (showsTo 0 0 z) f m e m′ h u)); leads = rw o (k ∙ ap (λ (a : ℕ). directOf a kp) (shown-arc z to)) })
 
-  arm-leads : (b : Bool) (n y x : ℕ) → j ≡ directOf y kp → n ≡ directOf x kp → pick b j n ≡ directOf (pick b y x) kp
-  arm-leads true n y x k l = k
-  arm-leads false n y x k l = l
+  -- the target of the arm taken
+  arm-leads : (b : Bool) (k y n : ℕ) → j ≡ directOf y kp → k ≡ directOf n kp → pick b j k ≡ directOf (pick b y n) kp
+  arm-leads true k y n l l′ = l
+  arm-leads false k y n l l′ = l′
 
   -- an ended step, from what is done without its arc
-  pub done-by : (x : Node) (n : ℕ) → turn e m′ ≡ triedTurn x j n ts cs i f d m → j ≡ directOf (arcTo x) kp → n ≡ directOf (arcNo x) kp → Done x kp ts cs i f d m e m′
+  pub done-by : (x : Node) (k : ℕ) → turn e m′ ≡ triedTurn x j k ts cs i f d m → j ≡ directOf (arcTo x) kp → k ≡ directOf (arcNo x) kp → Done x kp ts cs i f d m e m′
   unfolding triedTurn stuckOf actOf arcTo arcNo
-  done-by Absent n h k l = absurd (not-left h)
-  done-by (Start to) n h k l = let z = straight-ends j (goesTo 255 (pos 0) 0 0) f m e m′ h u in led (record { j = j; ended = record { on = z .on; there = z .there; answer = z .answer; after = z .after }; leads = k })
-  done-by (Set v o a b to) n h k l = let z = straight-ends j (goesTo v (apply o (operandIn (getD (m .vars) f []) a) (operandIn (getD (m .vars) f []) b)) 0 0) f m e m′ h u in led (record { j = j; ended = record { on = z .on; there = z .there; answer = z .answer; after = z .after }; leads = k })
-  done-by (Test o a b y n) n′ h k l =
+  done-by Absent k h l l′ = absurd (not-left h)
+  done-by (Start to) k h l l′ = let z = straight-ends j (goesTo 255 (pos 0) 0 0) f m e m′ h u in led (record { j = j; ended = record { on = z .on; there = z .there; answer = z .answer; after = z .after }; leads = l })
+  done-by (Set v o a b to) k h l l′ = let z = straight-ends j (goesTo v (apply o (operandIn (getD (m .vars) f []) a) (operandIn (getD (m .vars) f []) b)) 0 0) f m e m′ h u in led (record { j = j; ended = record { on = z .on; there = z .there; answer = z .answer; after = z .after }; leads = l })
+  done-by (Test o a b y n) k h l l′ =
       let yes = holds (apply o (operandIn (getD (m .vars) f []) a) (operandIn (getD (m .vars) f []) b)) in
-      let z = straight-ends (pick yes j n′) (goesTo 255 (pos 0) 0 0) f m e m′ h u in
-      led (record { j = pick yes j n′; ended = record { on = z .on; there = z .there; answer = z .answer; after = z .after }; leads = arm-leads yes n′ y n k l })
-  done-by (Read v to) n h k l = absurd (not-left h)
-  done-by (Call q xs to) n h k l = call-done q xs to h
-  done-by (Wait s to) n h k l = freed-done (Wait s to) (eqb (getD (m .sems) s 0) 0) 255 (pos 0) to 3 s (getD (m .sems) s 0 - 1) refl h k
-  done-by (Signal s to) n h k l = freed-done (Signal s to) (leb 255 (getD (m .sems) s 0)) 255 (pos 0) to 3 s (getD (m .sems) s 0 + 1) refl h k
-  done-by (Send q v to) n h k l = freed-done (Send q v to) (leb (getD cs q 0) (getD (m .lens) q 0)) 255 (varAt (getD (m .vars) f []) v) to 1 q (getD (m .lens) q 0 + 1) refl h k
-  done-by (Recv q v to) n h k l = freed-done (Recv q v to) (eqb (getD (m .lens) q 0) 0) v (getD (getD (m .items) q []) 0 (pos 0)) to 2 q (getD (m .lens) q 0 - 1) refl h k
-  done-by (Assert v to) n h k l = shown-done (valueOf (getD (m .vars) f []) v) (Assert v to) to refl h k
-  done-by (Out v to) n h k l = shown-done (valueOf (getD (m .vars) f []) v) (Out v to) to refl h k
-  done-by Return n h k l = return-done h
+      let z = straight-ends (pick yes j k) (goesTo 255 (pos 0) 0 0) f m e m′ h u in
+      led (record { j = pick yes j k; ended = record { on = z .on; there = z .there; answer = z .answer; after = z .after }; leads = arm-leads yes k y n l l′ })
+  done-by (Read v to) k h l l′ = absurd (not-left h)
+  done-by (Call q xs to) k h l l′ = call-done q xs to h
+  done-by (Wait s to) k h l l′ = freed-done (Wait s to) (eqb (getD (m .sems) s 0) 0) 255 (pos 0) to 3 s (getD (m .sems) s 0 - 1) refl h l
+  done-by (Signal s to) k h l l′ = freed-done (Signal s to) (leb 255 (getD (m .sems) s 0)) 255 (pos 0) to 3 s (getD (m .sems) s 0 + 1) refl h l
+  done-by (Send q v to) k h l l′ = freed-done (Send q v to) (leb (getD cs q 0) (getD (m .lens) q 0)) 255 (varAt (getD (m .vars) f []) v) to 1 q (getD (m .lens) q 0 + 1) refl h l
+  done-by (Recv q v to) k h l l′ = freed-done (Recv q v to) (eqb (getD (m .lens) q 0) 0) v (getD (getD (m .items) q []) 0 (pos 0)) to 2 q (getD (m .lens) q 0 - 1) refl h l
+  done-by (Assert v to) k h l l′ = shown-done (valueOf (getD (m .vars) f []) v) (Assert v to) to refl h l
+  done-by (Out v to) k h l l′ = shown-done (valueOf (getD (m .vars) f []) v) (Out v to) to refl h l
+  done-by Return k h l l′ = return-done h
 
 -- ---- the turn of a node whose arc leads straight to a kept node
 

@@ -28,23 +28,16 @@ use Rattle.columns.specs.Columns.{framesOf, queuesOf, runningOf}
 use Rattle.starts.specs.Ready.{Placed, Ready}
 use Rattle.starts.specs.Begins.{Row, frameIn, Good}
 use Rattle.straight.specs.declared.Tried.{Tried}
-use Rattle.straight.specs.Turns.{Columns, columns, turn, triedTurn, Stood, Lands, landed, emptied, Arcs, Targets}
+use Rattle.straight.specs.Turns.{Columns, columns, turn, triedTurn, Stood, Lands, landed, emptied, Arcs}
 use Rattle.runner.proofs.Walks.{met, metOf, heading, withVars, tried-within, pass-within}
 use Rattle.runner.proofs.Runs.{opens, stopsAt, answered, at-end}
 use Rattle.runner.proofs.Turns.{within, at-below, Ends, ends-over, ends-spent, ends-halts, goes-on, stop-none, stop-full, stop-lost, Standing, node-is, placed, under-le, freed, acted, logs, stop-tried, stop-acting, stop-walking, whole, turn-walks, stored-good, under-less, back-below}
 use Rattle.runner.proofs.Stores.{proc-in, node-in, vars-in, shape-after, onTop, Closed, top-none, top-good, vars-still, frames-after, shape-closed}
-use Rattle.runner.proofs.Directs.{stateIn, Shaped, Goes, left-same, left-opens, Done, led, called, returned, done-by, goes-straight}
+use Rattle.runner.proofs.Directs.{LeadsStraight, stateIn, Shaped, Goes, left-same, left-opens, Done, led, called, returned, done-by, goes-straight}
 use Rattle.runner.proofs.Returns.{goes-call, goes-return}
 
--- the kept node that the arc f of each node of a row leads straight to, 32 if it does not
-abbrev pub Leading : (Node → ℕ) → List Slot → List ℕ → List ℕ → Type 0
-Leading f row keep l = (a : ℕ) → a < 256 → getD l a 0 ≡ directOf (f (getD row a noSlot .node)) (getD keep (a / 32) 0)
-
-pub leading : (f : Node → ℕ) (row : List Slot) (arcs keep l : List ℕ) → Arcs f row arcs → Targets arcs keep l → Leading f row keep l
-leading f row arcs keep l c t a h = t .targets a h ∙ ap (λ (x : ℕ). directOf x (getD keep (a / 32) 0)) (c .arcs a h)
-
--- what a run goes by: the table, its nodes in a row, their arcs and where these lead straight to, the same of the tests' second arcs, the kept
--- nodes, the queues' capacities
+-- what a run goes by: the table, its nodes in a row, their arcs and where these lead straight to, where the tests' arcs at `no` do, the kept nodes,
+-- the queues' capacities
 pub record Setting : Type 0 where
   pub t : Table
   pub keep : List ℕ
@@ -53,15 +46,15 @@ pub record Setting : Type 0 where
   pub row : List Slot
   pub arcs : List ℕ
   pub ts : List ℕ
-  pub os : List ℕ
+  pub ns : List ℕ
   pub cs : List ℕ
 
 pub record Known (S : Setting) : Type 0 where
   pub ready : Ready (S .t) (S .keep)
   pub rowed : Row (S .t) (S .row)
   pub arced : Arcs arcTo (S .row) (S .arcs)
-  pub targeted : Targets (S .arcs) (S .keep) (S .ts)
-  pub others : Leading arcNo (S .row) (S .keep) (S .os)
+  pub targeted : LeadsStraight arcTo (S .row) (S .keep) (S .ts)
+  pub targeted-no : LeadsStraight arcNo (S .row) (S .keep) (S .ns)
   pub caps : (q : ℕ) → q < 8 → getD (S .cs) q 0 ≡ queueAt (S .t) q .cap
 
 -- the rest of the schedule, the state, the values used, the log with the place of its next entry
@@ -278,14 +271,14 @@ module _ (S : Setting) (whole-run : Ran) (size : ℕ) where
       pub a-low : a < 256
       a-low = omega (arith, proc-lt f, node-lt f)
 
-      module _ (e : Tried) (m′ : Columns) (tries : turn e m′ ≡ triedTurn x (getD (S .ts) a 0) (getD (S .os) a 0) (S .ts) (S .cs) i f d m) where
+      module _ (e : Tried) (m′ : Columns) (tries : turn e m′ ≡ triedTurn x (getD (S .ts) a 0) (getD (S .ns) a 0) (S .ts) (S .cs) i f d m) where
         pub cols-left : e .done ≡ false → m ≡ m′
-        cols-left u = sym (left-same x (getD (S .ts) a 0) (getD (S .os) a 0) (S .ts) (S .cs) i f d m e m′ tries u)
+        cols-left u = sym (left-same x (getD (S .ts) a 0) (getD (S .ns) a 0) (S .ts) (S .cs) i f d m e m′ tries u)
 
         pub waits-left : e .done ≡ false → Waits (withCols v m′) f x
         waits-left u =
             subst (λ (m : Columns). Waits (withCols v m) f x) (cols-left u)
-            (record { stands = st; calls = left-opens x (getD (S .ts) a 0) (getD (S .os) a 0) (S .ts) (S .cs) i f d m e m′ tries u })
+            (record { stands = st; calls = left-opens x (getD (S .ts) a 0) (getD (S .ns) a 0) (S .ts) (S .cs) i f d m e m′ tries u })
 
         module _ (u : e .done ≡ true) (log′ : List ℕ) (puts : log′ ≡ sets (v .log) (v .at) (i ∷ getD (m .procs) f 0 ∷ getD (m .nodes) f 0 ∷ e .flag ∷ word (e .bits))) where
           puts-n : log′ ≡ sets (v .log) (8 * h .n) (i ∷ getD (m .procs) f 0 ∷ getD (m .nodes) f 0 ∷ e .flag ∷ word (e .bits))
@@ -294,16 +287,16 @@ module _ (S : Setting) (whole-run : Ran) (size : ℕ) where
           place-of : a / 32 ≡ getD (m .procs) f 0
           place-of = omega (arith, node-lt f)
 
-          leads-to : (g : Node → ℕ) (l : List ℕ) → Leading g (S .row) (S .keep) l → getD l a 0 ≡ directOf (g x) kp
+          leads-to : (g : Node → ℕ) (l : List ℕ) → LeadsStraight g (S .row) (S .keep) l → getD l a 0 ≡ directOf (g x) kp
           leads-to g l t = t a a-low ∙ (λ j. directOf (ap g (sym (st .node)) j) (getD (S .keep) (place-of j) 0))
 
           goes : Goes (S .t) (S .most) (S .vs) (v .ks) (h .n) (state v) (v .used) (v .log) (v .lost) m′ log′
-          goes = go (done-by (getD (S .ts) a 0) kp (S .ts) (S .cs) i f d m e m′ u x (getD (S .os) a 0) tries (leads-to arcTo (S .ts) (leading arcTo (S .row) (S .arcs) (S .keep) (S .ts) (K .arced) (K .targeted))) (leads-to arcNo (S .os) (K .others)))
+          goes = go (done-by (getD (S .ts) a 0) kp (S .ts) (S .cs) i f d m e m′ u x (getD (S .ns) a 0) tries (leads-to arcTo (S .ts) (K .targeted)) (leads-to arcNo (S .ns) (K .targeted-no)))
             where
               go : Done x kp (S .ts) (S .cs) i f d m e m′ → Goes (S .t) (S .most) (S .vs) (v .ks) (h .n) (state v) (v .used) (v .log) (v .lost) m′ log′
               go (led z) = goes-straight (S .t) (S .keep) (K .ready) (S .most) (S .vs) (v .ks) (h .n) (v .lost) m (v .used) (v .log) f x (S .cs) is-standing (h .shape) (h .within) e m′ z log′ puts-n
               go (called q xs to c l ans aft) = goes-call (S .t) (S .keep) (K .ready) (S .most) (S .vs) (v .ks) (h .n) (v .lost) m (v .used) (v .log) f x (S .cs) is-standing (h .shape) e m′ ans log′ puts-n q xs to c l aft
-              go (returned c l there ans aft) = goes-return (S .t) (S .keep) (K .ready) (S .most) (S .vs) (v .ks) (h .n) (v .lost) m (v .used) (v .log) f x (S .cs) is-standing (h .shape) e m′ ans log′ puts-n (h .within) (S .row) (K .rowed) (S .arcs) (S .ts) (K .arced) (K .targeted) c l there aft
+              go (returned c l there ans aft) = goes-return (S .t) (S .keep) (K .ready) (S .most) (S .vs) (v .ks) (h .n) (v .lost) m (v .used) (v .log) f x (S .cs) is-standing (h .shape) e m′ ans log′ puts-n (h .within) (S .row) (K .rowed) (S .ts) (K .targeted) c l there aft
 
           pub done-next : (used : ℕ) → used ≡ v .used → Held (stepped v (v .lost) m′ used log′)
           done-next used z = rw z (next (v .lost) m′ (v .used) log′ (ap length puts ∙ length-sets (v .log) (v .at) (i ∷ getD (m .procs) f 0 ∷ getD (m .nodes) f 0 ∷ e .flag ∷ word (e .bits))) (goes .ran) (goes .good) (goes .shape) (h .within))

@@ -9,7 +9,7 @@ use lib.Seq.{sets, set-out, set-getD, getD-set-other}
 use lib.IntN.{ℤ, pos}
 use borrow.Author.Tests.{lt-leb, lt-ltb}
 use Rattle.table.specs.Mask.{members}
-use Rattle.table.specs.Table.{nodeAt, arcTo}
+use Rattle.table.specs.Table.{noSlot, nodeAt, arcTo}
 use Rattle.table.specs.declared.Args.{Args}
 use Rattle.table.specs.declared.Node.{Node}
 use Rattle.table.specs.declared.Node.the-variants.{Call, Return}
@@ -27,12 +27,12 @@ use Rattle.starts.specs.Begins.{Row, frameIn, Good}
 use Rattle.columns.specs.Columns.{framesOf, queuesOf}
 use Rattle.columns.specs.ColumnLaws.{frame-set}
 use Rattle.straight.specs.declared.Tried.{Tried}
-use Rattle.straight.specs.Turns.{Columns, doneAs, openedBy, closedTo, placeBelow, Arcs, Targets}
+use Rattle.straight.specs.Turns.{Columns, doneAs, openedBy, closedTo, placeBelow}
 use Rattle.runner.proofs.Walks.{met, metOf, heading, withVars}
 use Rattle.runner.proofs.Runs.{opens, storedAs}
 use Rattle.runner.proofs.Turns.{ends-over, Standing, turn-walks, stored-good, turn-calls, opened-good, call-free, call-shows}
 use Rattle.runner.proofs.Stores.{proc-in, node-in, vars-in, shape-set}
-use Rattle.runner.proofs.Directs.{stateIn, Shaped, Goes, goes-as, OneKept, one-kept, one-arrives}
+use Rattle.runner.proofs.Directs.{LeadsStraight, stateIn, Shaped, Goes, goes-as, OneKept, one-kept, one-arrives}
 
 module _ (t : Table) (keep : List ℕ) (ready : Ready t keep) (most : ℕ) (vs : List ℤ) (ks : List ℕ) (n : ℕ) (lost : List Bool) (m : Columns) (used : ℕ) (log : List ℕ)
     (f : ℕ) (x : Node) (cs : List ℕ)
@@ -87,7 +87,7 @@ module _ (t : Table) (keep : List ℕ) (ready : Ready t keep) (most : ℕ) (vs :
 
   -- ---- a return
 
-  module _ (w : used ≤ length vs) (row : List Slot) (rowed : Row t row) (arcs ts : List ℕ) (arced : Arcs arcTo row arcs) (targeted : Targets arcs keep ts)
+  module _ (w : used ≤ length vs) (row : List Slot) (rowed : Row t row) (ts : List ℕ) (targeted : LeadsStraight arcTo row keep ts)
       (is-return : x ≡ Return) (deep : 1 < d) (there : getD ts (placeBelow f m) 0 ≡ 32 → ⊥) (after : m′ ≡ closedTo (getD ts (placeBelow f m) 0) i f d m) where
     abbrev g : ℕ
     g = f - 1
@@ -145,16 +145,16 @@ module _ (t : Table) (keep : List ℕ) (ready : Ready t keep) (most : ℕ) (vs :
     abbrev call-arc : ℕ
     call-arc = arcTo (nodeAt t (on .proc) (on .node))
 
-    arc-is : getD arcs a 0 ≡ call-arc
+    arc-is : arcTo (getD row a noSlot .node) ≡ call-arc
     arc-is =
-        arced .arcs a (omega (arith, inside, inside-node)) ∙ ap arcTo (rowed .nodes (getD (m .procs) g 0) (getD (m .nodes) g 0) inside inside-node) ∙
+        ap arcTo (rowed .nodes (getD (m .procs) g 0) (getD (m .nodes) g 0) inside inside-node) ∙
         (λ k. arcTo (nodeAt t (proc-in shape g k) (node-in shape g k)))
 
     place-of : a / 32 ≡ getD (m .procs) g 0
     place-of = omega (arith, inside-node)
 
     leads : j ≡ directOf call-arc kp
-    leads = targeted .targets a (omega (arith, inside, inside-node)) ∙ (λ k. directOf (arc-is k) (getD keep (place-of k) 0))
+    leads = targeted a (omega (arith, inside, inside-node)) ∙ (λ k. directOf (arc-is k) (getD keep (place-of k) 0))
 
     target : OneKept call-arc kp j
     target = rw leads (one-kept call-arc kp (members call-arc) refl (λ z. there (leads ∙ z)))

@@ -8,7 +8,7 @@ use lib.ListN.{length, getD, set, length-set}
 use lib.Seq.{set-getD, getD-set-other}
 use lib.Dec.{eqb}
 use lib.IntN.{ℤ, pos}
-use borrow.Author.Tests.{eqb-false, eq-eqb, ne-eqb}
+use borrow.Author.Tests.{eqb-false, ne-eqb}
 use Rattle.table.specs.Mask.{pick}
 use Rattle.table.specs.declared.Table.{Table}
 use Rattle.machine.specs.declared.Frame.{Frame}
@@ -114,20 +114,6 @@ module _ (ps ns : List ℕ) (vs : List (List ℤ)) (ds : List ℕ) (f i back : �
     pub nodes : ns′ ≡ set ns f (onTop .node)
     pub vars : vs′ ≡ set vs f (onTop .vars)
     pub depth : ds′ ≡ set ds i (getD ds i 0 - back)
-
-  module _ {ps′ ns′ : List ℕ} {vs′ : List (List ℤ)} {ds′ : List ℕ} where
-    pub stays-open : back ≡ 0 → ps′ ≡ ps → ns′ ≡ ns → vs′ ≡ vs → ds′ ≡ ds → Closed ps′ ns′ vs′ ds′
-    stays-open z a b c d =
-        let k : getD ds i 0 - back ≡ getD ds i 0 = omega arith in
-        record {
-          procs = rw (eq-eqb back 0 z) (a ∙ sym (set-getD ps f 0));
-          nodes = rw (eq-eqb back 0 z) (b ∙ sym (set-getD ns f 0));
-          vars = rw (eq-eqb back 0 z) (c ∙ sym (set-getD vs f []));
-          depth = rw k (d ∙ sym (set-getD ds i 0));
-        }
-
-    pub is-closed : {u : List ℤ} → (back ≡ 0 → ⊥) → u ≡ onTop .vars → ps′ ≡ set ps f 0 → ns′ ≡ set ns f 0 → vs′ ≡ set vs f u → ds′ ≡ set ds i (getD ds i 0 - back) → Closed ps′ ns′ vs′ ds′
-    is-closed h e a b c d = record { procs = rw (ne-eqb back 0 h) a; nodes = rw (ne-eqb back 0 h) b; vars = c ∙ ap (set vs f) e; depth = d }
 
   pub top-none : (back ≡ 0 → ⊥) → onTop ≡ noFrame
   top-none h = rw (ne-eqb back 0 h) refl

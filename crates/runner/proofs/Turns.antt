@@ -10,10 +10,7 @@ use lib.ListN.{length, getD, set, take, drop}
 use lib.Seq.{sets, take-all}
 use lib.Dec.{eqb, leb, ltb}
 use lib.IntN.{ℤ, pos}
-use borrow.Author.Tests.{leb-false, le-leb, lt-leb, lt-ltb, eqb-true, eqb-false, eq-eqb, ne-eqb}
-use types.Run.{OneOf, miss}
-use denote.Enum.Declared.{tagOf}
-use Rattle.table.proofs.Node.{the-type}
+use borrow.Author.Tests.{leb-false, lt-leb, lt-ltb, eqb-true, eqb-false, eq-eqb, ne-eqb}
 use Rattle.table.specs.Mask.{pick}
 use Rattle.table.specs.Table.{noSlot, queueAt, nodeAt, arcTo}
 use Rattle.table.specs.declared.Args.{Args}
@@ -125,10 +122,6 @@ pub rest-less : (l : List ℕ) → (length l ≡ 0 → ⊥) → length (take (le
 rest-less [] h = absurd (h refl)
 rest-less (k ∷ ks) h = rw (take-all (suc (length ks) - 1) ks (omega arith)) (omega arith)
 
--- the log has a completed step more
-pub next-room : (n l l′ l₀ : ℕ) → l′ ≡ l → 8 ≤ l - 8 * n → (8 * n ≤ l) × ((l ≡ l₀) × (l < 18446744073709551616)) → (8 * (n + 1) ≤ l′) × ((l′ ≡ l₀) × (l′ < 18446744073709551616))
-next-room n l l′ l₀ e h (a, (b, c)) = (omega (arith, e, h, a), (e ∙ b, omega (arith, e, c)))
-
 pub call-below : (q : ℕ) (xs : Args) (to d : ℕ) (ss ls cs : List ℕ) → stuckOf (Call q xs to) d ss ls cs ≡ false → d < 8
 unfolding stuckOf
 call-below q xs to d ss ls cs f = leb-false 8 d f
@@ -232,9 +225,6 @@ module _ (t : Table) (keep : List ℕ) (ready : Ready t keep) (most : ℕ) (vs :
       call-blocks : (q : ℕ) (xs : Args) (to : ℕ) → x ≡ Call q xs to → blocks ≡ leb 8 d
       unfolding stuckOf
       call-blocks q xs to e = rw e refl
-
-      pub stop-call : (q : ℕ) (xs : Args) (to : ℕ) → x ≡ Call q xs to → 8 ≤ d → going ≡ ending 13
-      stop-call q xs to e h = stop-blocked (call-blocks q xs to e ∙ le-leb 8 d h)
 
       pub call-free : (q : ℕ) (xs : Args) (to : ℕ) → x ≡ Call q xs to → d < 8 → blocks ≡ false
       call-free q xs to e h = call-blocks q xs to e ∙ lt-leb 8 d h
@@ -429,24 +419,3 @@ module _ (t : Table) (keep : List ℕ) (ready : Ready t keep) (most : ℕ) (vs :
                 let a = good-frame (withFrames s (set (s .frames) f b)) f b (st .good) fb refl refl in
                 let e = good-frame (withFrames s (set (set (s .frames) f b) g frame)) g frame a (record { proc = st .good .procs g; node = small; vars = long′ }) refl refl in
                 good-depth (whole b) k (d - backOf x) e (omega (arith, back-le, st .good .opened k (st .task))) (omega (arith, st .good .bounded k (st .task))) refl refl
-
--- ---- the other side of the test for a call
-
-abbrev others : List ℕ
-others = 0 ∷ 1 ∷ 2 ∷ 3 ∷ 4 ∷ 6 ∷ 7 ∷ 8 ∷ 9 ∷ 10 ∷ 11 ∷ 12 ∷ []
-
-pub no-call : (x : Node) → OneOf others (tagOf the-type x) → opens x ≡ false
-unfolding opens
-no-call Absent k = refl
-no-call (Start to) k = refl
-no-call (Set v o a b to) k = refl
-no-call (Test o a b y n) k = refl
-no-call (Read v to) k = refl
-no-call (Call q xs to) k = absurd (miss others 5 tt k)
-no-call (Wait i to) k = refl
-no-call (Signal i to) k = refl
-no-call (Send q v to) k = refl
-no-call (Recv q v to) k = refl
-no-call (Assert v to) k = refl
-no-call (Out v to) k = refl
-no-call Return k = refl

@@ -111,8 +111,8 @@ returns ts i f d m =
     pick (leb d 1) (left m)
     (let j = getD ts (placeBelow f m) 0 in pick (eqb j 32) (left m) (turn (doneAs (goesTo 255 (pos 0) 0 0)) (closedTo j i f d m)))
 
--- ---- a step tried at once. j is the node that its arc leads straight to, k the one of a test's second arc, so that what is done needs no arc; ts
--- has the first for every place, and cs the capacities
+-- ---- a step tried at once. j is the node that its arc leads straight to, k the one that a test's arc at `no` does, so that what is done needs no
+-- arc; ts has j for every place, and cs the capacities
 unfoldable pub triedTurn : Node → ℕ → ℕ → List ℕ → List ℕ → ℕ → ℕ → ℕ → Columns → Turn
 triedTurn Absent j k ts cs i f d m = left m
 triedTurn (Start to) j k ts cs i f d m = straight j (goesTo 255 (pos 0) 0 0) f m

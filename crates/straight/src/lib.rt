@@ -80,7 +80,7 @@ pub fn set_step<'a>(
     done()
 }
 
-// A test's first target, or its second if z is 0.
+// The target at `yes`, or the one at `no` if z is 0: `steps::branch` for targets.
 fn arm(z: i32, yes: u8, no: u8) -> u8
     ensures { λ r. ⌜ r ≡ pick (holds z) yes no ⌝ }
 {
@@ -88,7 +88,7 @@ fn arm(z: i32, yes: u8, no: u8) -> u8
 }
 
 // The target of a test, by its operands.
-pub fn tested(vars: &[i32; 16], yes: u8, no: u8, op: Op, a: Operand, b: Operand) -> u8
+pub fn tested(vars: &[i32; 16], op: Op, a: Operand, b: Operand, yes: u8, no: u8) -> u8
     requires { ⌜ length (now vars) ≡ 16 ⌝ }
     ensures { λ r. ⌜ r ≡ pick (holds (apply op (operandIn (now (vars .entry)) a) (operandIn (now (vars .entry)) b))) yes no ⌝ }
 {

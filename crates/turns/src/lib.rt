@@ -23,7 +23,7 @@ pub fn arcs(row: [Slot; 256]) -> [u32; 256]
     r
 }
 
-// The second arc of each test of a row.
+// Each test's arc at `no`; 0 for every other node of a row.
 pub fn no_arcs(row: [Slot; 256]) -> [u32; 256]
     ensures { λ r. ⌜ Arcs arcNo row r ⌝ }
 {
@@ -54,7 +54,7 @@ pub fn targets(arcs: &[u32; 256], keep: &[u32; 8]) -> [u8; 256]
 
 // ---- steps
 
-// A step tried at once. j is the kept node that the arc of x leads straight to, k the one of a test's second arc; `targets` has the first for every
+// A step tried at once. j is the kept node that the arc of x leads straight to, k the one that a test's arc at `no` does; `targets` has j for every
 // place.
 pub fn direct<'a>(
     x: Node,
@@ -93,7 +93,7 @@ pub fn direct<'a>(
             yes: _,
             no: _,
         } => {
-            let n = straight::tested(&vars[f], j, k, op, a, b);
+            let n = straight::tested(&vars[f], op, a, b, j, k);
             straight::go(nodes, f, n)
         }
         Node::Read { var: _, to: _ } => straight::not_done(),

@@ -14,7 +14,7 @@ use table::Slot;
 use table::Table;
 use table::Task;
 use text::Writing;
-ghost use Prim.Native.Nat.{_*_, _≤_, _<_};
+ghost use Prim.Native.Nat.{_*_, _≤_};
 ghost use lib.ListN.{getD};
 ghost use Rattle.table.specs.Table.{noTask, noSem, noQueue};
 ghost use Rattle.text.specs.Reader.{concat};

@@ -5,34 +5,24 @@ use Rattle.bufshani.specs.CloseLaws.{close-faulty, close-closed, close-o
 use borrow.Author.Needs.{needs}
 use Rattle.bufshani.proofs.close_checked.Statement.{statement}
 use Rattle.bufshani.proofs.close_checked.Tie as tie
-use Rattle.bufshani.proofs.close_checked.Reads as reads
-use Rattle.bufshani.proofs.close_checked.Lts as lts
-use Rattle.bufshani.proofs.refused.Reads as refused-reads
-use Rattle.closer.proofs.closed_table.Reads as closed-table-reads
 
--- src/lib.rt:48:9
 refused-requires : tie.Need-refused-requires
 refused-requires c κs = search needs
 
--- src/lib.rt:48:9
 returns : tie.Need-returns
 returns c = c .refused .ensures ∙ close-faulty (c .before .before .args .t) _ (c .before .before .pre) (c .before .if1 .taken)
 
--- src/lib.rt:51:9
 refused-requires-2 : tie.Need-refused-requires-2
 refused-requires-2 c κs = search needs
 
--- src/lib.rt:51:9
 returns-2 : tie.Need-returns-2
 returns-2 c = c .refused2 .ensures ∙ close-closed (c .before .before .before .args .t) _ (c .before .before .before .pre) (c .before .before .if1 .left) (c .before .if2 .taken)
 
--- src/lib.rt:53:9
 closed-table-requires : tie.Need-closed-table-requires
 closed-table-requires c κs =
     let a = c .before .before in
     ready (a .args .t) (shaped (a .args .t) (_, a .good .0)) (sym (a .pre) ∙ c .before .if1 .left) (c .if2 .left)
 
--- src/lib.rt:43:1
 returns-3 : tie.Need-returns-3
 returns-3 c =
     let a = c .before .before .before in

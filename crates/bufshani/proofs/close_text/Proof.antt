@@ -1,6 +1,6 @@
 use mathlib.Core.Path.{sym}
 use Rattle.put.specs.PutLaws.{put-more}
-use Rattle.bufshani.specs.PrintLaws.{sound-read, printed-refused, printed-unclosed, printed-closed}
+use Rattle.bufshani.specs.PrintLaws.{sound-read, printed-refused, printed-closed, printed-open}
 use borrow.Author.Needs.{needs}
 use native.Mathlib.Omega.{arith}
 use Rattle.bufshani.proofs.close_text.Statement.{statement}
@@ -25,7 +25,7 @@ same-length-2 : tie.Need-same-length-2
 same-length-2 c = search needs
 
 returns-2 : tie.Need-returns-2
-returns-2 c = rw (← printed-unclosed _ _ (c .before .before .before .before .before .before .before .before .read .ensures) (c .before .before .before .before .before .before .if1 .left) (c .before .before .before .before .if2 .taken)) (put-more (omega arith) (c .before .before .put-refused2 .ensures))
+returns-2 c = rw (← printed-closed _ _ (c .before .before .before .before .before .before .before .before .read .ensures) (c .before .before .before .before .before .before .if1 .left) (c .before .before .before .before .if2 .taken)) (put-more (omega arith) (c .before .before .put-refused2 .ensures))
 
 put-closed-requires : tie.Need-put-closed-requires
 put-closed-requires c κs = (sym (sound-read _ _ (c .before .before .before .before .before .read .ensures) (c .before .before .before .if1 .left)), c .before .if2 .left)
@@ -34,7 +34,7 @@ same-length-3 : tie.Need-same-length-3
 same-length-3 c = search needs
 
 returns-3 : tie.Need-returns-3
-returns-3 c = rw (← printed-closed _ _ (c .before .before .before .before .before .before .before .before .read .ensures) (c .before .before .before .before .before .before .if1 .left) (c .before .before .before .before .if2 .left)) (c .before .before .put-closed .ensures)
+returns-3 c = rw (← printed-open _ _ (c .before .before .before .before .before .before .before .before .read .ensures) (c .before .before .before .before .before .before .if1 .left) (c .before .before .before .before .if2 .left)) (c .before .before .put-closed .ensures)
 
 pub close-text-spec : {M : Type 1} → statement M
 close-text-spec =

@@ -6,17 +6,10 @@ use Rattle.bufshani.specs.RunLaws.{faulty-answer, faulty-log, begun-is}
 use borrow.Author.Needs.{needs}
 use Rattle.bufshani.proofs.run_checked.Statement.{statement}
 use Rattle.bufshani.proofs.run_checked.Tie as tie
-use Rattle.bufshani.proofs.run_checked.Reads as reads
-use Rattle.bufshani.proofs.run_checked.Lts as lts
-use Rattle.keeps.proofs.kept.Reads as kept-reads
-use Rattle.bufshani.proofs.no_state.Reads as no-state-reads
-use Rattle.runner.proofs.run_ready.Reads as run-ready-reads
 
--- src/lib.rt:97:13
 no-state-requires : tie.Need-no-state-requires
 no-state-requires c κs = search needs
 
--- src/lib.rt:98:9
 returns : tie.Need-returns
 returns c =
     let a = c .before .before .before .before in (
@@ -24,21 +17,17 @@ returns c =
       faulty-log (a .args .t) _ _ _ _ (a .args .n) (a .pre) (c .before .if1 .taken),
     )
 
--- src/lib.rt:105:9
 kept-requires : tie.Need-kept-requires
 kept-requires c κs = search needs
 
--- src/lib.rt:106:5
 run-ready-requires : tie.Need-run-ready-requires
 run-ready-requires c κs =
     let a = c .before .before .before .before .before in
     ready (a .args .t) _ (shaped (a .args .t) (_, a .good .0)) (sym (a .pre) ∙ c .before .before .if1 .left) (c .before .kept .ensures .keeps)
 
--- src/lib.rt:91:1
 same-length : tie.Need-same-length
 same-length c = search needs
 
--- src/lib.rt:91:1
 returns-2 : tie.Need-returns-2
 returns-2 c =
     let a = c .before .before .before .before .before .before .before .before in

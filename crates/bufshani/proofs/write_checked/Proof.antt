@@ -5,28 +5,21 @@ use Rattle.bufshani.specs.WriteLaws.{write-faulty, write-good}
 use borrow.Author.Needs.{needs}
 use Rattle.bufshani.proofs.write_checked.Statement.{statement}
 use Rattle.bufshani.proofs.write_checked.Tie as tie
-use Rattle.bufshani.proofs.write_checked.Reads as reads
-use Rattle.bufshani.proofs.write_checked.Lts as lts
-use Rattle.writer.proofs.write_ready.Reads as write-ready-reads
 
--- src/lib.rt:145:9
 returns : tie.Need-returns
 returns c =
     let a = c .before .before in
     let e = write-faulty (a .args .t) _ (a .args .n) (a .pre) (c .if1 .taken) in
     (ap (λ (w : Written). w .answer) e, ap (λ (w : Written). w .buffer) e)
 
--- src/lib.rt:151:5
 write-ready-requires : tie.Need-write-ready-requires
 write-ready-requires c κs =
     let a = c .before .before .before in
     counts (a .args .t) (sym (a .pre) ∙ c .before .if1 .left)
 
--- src/lib.rt:139:1
 same-length : tie.Need-same-length
 same-length c = search needs
 
--- src/lib.rt:139:1
 returns-2 : tie.Need-returns-2
 returns-2 c =
     let a = c .before .before .before .before .before .before in

@@ -7,31 +7,24 @@ use borrow.Author.Needs.{needs}
 use Rattle.bufshani_c.proofs.bufshani_steps.Statement.{statement}
 use Rattle.bufshani_c.proofs.bufshani_steps.Tie as tie
 
--- src/lib.rt:58:9
 read-requires : tie.Need-read-requires
 read-requires c κs = search needs
 
--- src/lib.rt:60:9
 pack-requires : tie.Need-pack-requires
 pack-requires c κs = search needs
 
--- src/lib.rt:60:9
 returns : tie.Need-returns
 returns c = let e = stepped-refused _ _ _ _ _ _ (c .before .before .before .read .ensures) (c .before .if1 .taken) in (c .pack .ensures ∙ ap (λ (x : Coded). x .answer) e, ap (λ (x : Coded). x .buffer) e)
 
--- src/lib.rt:63:9
 run-requires : tie.Need-run-requires
 run-requires c κs = search needs
 
--- src/lib.rt:64:5
 pack-requires-2 : tie.Need-pack-requires-2
 pack-requires-2 c κs = search needs
 
--- src/lib.rt:47:1
 same-length : tie.Need-same-length
 same-length c = search needs
 
--- src/lib.rt:47:1
 returns-2 : tie.Need-returns-2
 returns-2 c = let e = stepped-good _ _ _ _ _ _ (c .before .before .before .before .before .before .before .before .read .ensures) (c .before .before .before .before .before .before .if1 .left) in let w = (c .before .before .before .run .ensures) in (c .pack2 .ensures ∙ ap (λ (x : Running). packed (x .stop) (x .steps)) (w .0) ∙ ap (λ (x : Coded). x .answer) e, w .1 ∙ ap (λ (x : Coded). x .buffer) e)
 

@@ -9,31 +9,24 @@ use borrow.Author.Needs.{needs}
 use Rattle.bufshani_c.proofs.bufshani_write.Statement.{statement}
 use Rattle.bufshani_c.proofs.bufshani_write.Tie as tie
 
--- src/lib.rt:29:9
 read-requires : tie.Need-read-requires
 read-requires c κs = search needs
 
--- src/lib.rt:31:9
 pack-requires : tie.Need-pack-requires
 pack-requires c κs = search needs
 
--- src/lib.rt:31:9
 returns : tie.Need-returns
 returns c = let e = rewritten-refused _ _ _ (c .before .before .before .read .ensures) (c .before .if1 .taken) in (c .pack .ensures ∙ ap (λ (x : Coded). x .answer) e, ap (λ (x : Coded). x .buffer) e)
 
--- src/lib.rt:34:9
 write-ready-requires : tie.Need-write-ready-requires
 write-ready-requires c κs = counts _ (sym (sound-read _ _ (c .before .before .before .before .read .ensures) (c .before .before .if1 .left)))
 
--- src/lib.rt:35:5
 pack-requires-2 : tie.Need-pack-requires-2
 pack-requires-2 c κs = search needs
 
--- src/lib.rt:24:1
 same-length : tie.Need-same-length
 same-length c = search needs
 
--- src/lib.rt:24:1
 returns-2 : tie.Need-returns-2
 returns-2 c = let e = rewritten-good _ _ _ (c .before .before .before .before .before .before .before .before .read .ensures) (c .before .before .before .before .before .before .if1 .left) in let w = (c .before .before .before .write-ready .ensures) in (c .pack2 .ensures ∙ ap (λ (x : Writing). packed (x .number) (x .len)) (w .answer) ∙ ap (λ (x : Coded). x .answer) e, w .buffer ∙ ap (λ (x : Coded). x .buffer) e)
 

@@ -131,7 +131,7 @@ cast-c : tie.Need-cast-c Inv-loop μ-loop Inv-loop2 μ-loop2
 cast-c c = search needs
 
 returns : tie.Need-returns Inv-loop μ-loop Inv-loop2 μ-loop2
-returns c = let h = c .before .before .before .before .before .before .loop in let z : h .n ≡ 32 = omega arith in let g = c .before .before .loop2 in let w : g .k ≡ 32 = omega arith in made _ _ _ _ _ _ _ _ (rw z at (h .inv .1 .0)) (rw z at (h .inv .1 .1 .1)) (c .before .before .before .reach .ensures) (rw w at (g .inv .1)) refl
+returns c = let h = c .before .before .before .before .before .before .loop in let z : h .n ≡ 32 = omega arith in let g = c .before .before .loop2 in let w : g .k ≡ 32 = omega arith in made _ _ _ _ _ _ _ (rw z at (h .inv .1 .0)) (rw z at (h .inv .1 .1 .1)) (c .before .before .before .reach .ensures) (rw w at (g .inv .1))
 
 pub closed-proc-spec : {M : Type 1} → statement M
 closed-proc-spec =

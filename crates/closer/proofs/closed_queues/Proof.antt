@@ -11,10 +11,10 @@ use Rattle.closer.proofs.closed_queues.Statement.{statement}
 use Rattle.closer.proofs.closed_queues.Tie as tie
 
 abbrev Inv-loop : tie.InvT-loop
-Inv-loop b queue r₀ i₀ r i = (i ≤ 8) × ((length r ≡ 8) × ((a : ℕ) → a < i → getD r a noQueue ≡ queueWith b a (getD queue a noQueue)))
+Inv-loop b queues r₀ i₀ r i = (i ≤ 8) × ((length r ≡ 8) × ((a : ℕ) → a < i → getD r a noQueue ≡ queueWith b a (getD queues a noQueue)))
 
 abbrev μ-loop : tie.MeasureT-loop
-μ-loop b queue r₀ i₀ r i = 8 - i
+μ-loop b queues r₀ i₀ r i = 8 - i
 
 loop-holds : tie.Need-loop-holds Inv-loop μ-loop
 loop-holds c = (search needs, (length-replicate 8 noQueue, λ a h. absurd (omega arith)))

@@ -8,7 +8,7 @@ use lib.ListN.{length, getD, set, drop}
 use lib.Seq.{sets}
 use lib.IntN.{ℤ}
 use Rattle.table.specs.Mask.{pick}
-use Rattle.table.specs.Table.{noSlot, arcNo}
+use Rattle.table.specs.Table.{noSlot, arcTo, arcNo}
 use Rattle.table.specs.declared.Node.{Node}
 use Rattle.machine.specs.declared.State.{State}
 use Rattle.machine.specs.Step.{keptIn}
@@ -20,30 +20,31 @@ use Rattle.starts.specs.Begins.{Good}
 use Rattle.straight.specs.Turns.{Columns, columns, turn, triedTurn, Lands}
 use Rattle.runner.proofs.Turns.{Ends, within, rest-less}
 use Rattle.runner.proofs.Stores.{state-of, shape-of, proc-in, node-in}
-use Rattle.runner.proofs.Holds.{leading, Setting, Known, Here, task, depthIn, withCols, Walking, Held, Stopped, behind, answers, at-last, Clear, stop-before, clear-before, Stands, Waits, stood, a-low, x-placed, vars-long, node-lt, cols-left, waits-left, done-next, g-low, p-low, q-low, stop-act, walk-starts, walk-next, ends-met, ends-out, ends-stopped, stop-walk, lands, land-next}
+use Rattle.runner.proofs.Directs.{leads-straight}
+use Rattle.runner.proofs.Holds.{Setting, Known, Here, task, depthIn, withCols, Walking, Held, Stopped, behind, answers, at-last, Clear, stop-before, clear-before, Stands, Waits, stood, a-low, x-placed, vars-long, node-lt, cols-left, waits-left, done-next, g-low, p-low, q-low, stop-act, walk-starts, walk-next, ends-met, ends-out, ends-stopped, stop-walk, lands, land-next}
 use Rattle.runner.proofs.run_from.Statement.{statement}
 use Rattle.runner.proofs.run_from.Tie as tie
 
 abbrev Inv-loop2 : tie.InvT-loop2
-Inv-loop2 t before schedule values most log keep row arcs targets others caps proc node vars lens rows depth lost sems w₀ rest at used k b i d f tp tn a back g p q o pi kp far₀ arc₀ us₀ m₀ w far arc us m =
+Inv-loop2 t before schedule values most log keep row arcs targets no-targets caps proc node vars lens rows depth lost sems w₀ rest at used k b i d f tp tn a back g p q o pi kp far₀ arc₀ us₀ m₀ w far arc us m =
     Walking t values p most (set (getD vars g []) (o .var) (o .value)) o far w arc us m
 
 abbrev μ-loop2 : tie.MeasureT-loop2
-μ-loop2 t before schedule values most log keep row arcs targets others caps proc node vars lens rows depth lost sems w₀ rest at used k b i d f tp tn a back g p q o pi kp far₀ arc₀ us₀ m₀ w far arc us m =
+μ-loop2 t before schedule values most log keep row arcs targets no-targets caps proc node vars lens rows depth lost sems w₀ rest at used k b i d f tp tn a back g p q o pi kp far₀ arc₀ us₀ m₀ w far arc us m =
     m
 
 abbrev Inv-loop : tie.InvT-loop
-Inv-loop t before schedule values most log₀ keep row arcs targets others caps proc₀ node₀ vars₀ lens₀ rows₀ depth₀ lost₀ sems₀ w₀ rest₀ at₀ used₀ log proc node vars lens rows depth lost sems w rest at used =
-    Held (record { t = t; keep = keep; most = most; vs = values; row = row; arcs = arcs; ts = targets; os = others; cs = caps })
+Inv-loop t before schedule values most log₀ keep row arcs targets no-targets caps proc₀ node₀ vars₀ lens₀ rows₀ depth₀ lost₀ sems₀ w₀ rest₀ at₀ used₀ log proc node vars lens rows depth lost sems w rest at used =
+    Held (record { t = t; keep = keep; most = most; vs = values; row = row; arcs = arcs; ts = targets; ns = no-targets; cs = caps })
     (runFrom t (keptIn t) most values schedule 0 (stateOf depth₀ lost₀ proc₀ node₀ vars₀ sems₀ lens₀ rows₀) (drop before values) log₀) (length log₀)
     (record { ks = rest; lost = lost; cols = columns depth proc node vars sems lens rows; used = used; at = at; log = log })
 
 abbrev μ-loop : tie.MeasureT-loop
-μ-loop t before schedule values most log₀ keep row arcs targets others caps proc₀ node₀ vars₀ lens₀ rows₀ depth₀ lost₀ sems₀ w₀ rest₀ at₀ used₀ log proc node vars lens rows depth lost sems w rest at used =
+μ-loop t before schedule values most log₀ keep row arcs targets no-targets caps proc₀ node₀ vars₀ lens₀ rows₀ depth₀ lost₀ sems₀ w₀ rest₀ at₀ used₀ log proc node vars lens rows depth lost sems w rest at used =
     length rest
 
 abbrev S : (c : tie.At-loop Inv-loop2 μ-loop2 Inv-loop μ-loop) → Setting
-S c = record { t = (c .before .before .before .before .before .before .before .before .before .before .before .before .before .before .before .before .before .before .before .before .before .before .args) .t; keep = (c .before .before .before .before .before .before .before .before .before .before .before .before .before .before .before .before .before .before .before .before .before .before .args) .t2; most = (c .before .before .before .before .before .before .before .before .before .before .before .before .before .before .before .before .before .before .before .before .before .before .args) .most; vs = (c .before .before .before .before .before .before .before .before .before .before .before .before .before .before .before .before .before .before .before .before .before .before .args) .values .now; row = (c .before .before .before .before .before .before .before .before .before .before .before .before .before .before .before .before .before .before .before .row) .result; arcs = (c .before .before .before .before .before .before .before .before .before .before .before .before .before .before .before .before .before .before .arcs) .result; ts = (c .before .before .before .before .before .before .before .before .before .before .before .before .before .before .before .targets) .result; os = (c .before .before .before .before .before .before .before .before .before .before .before .targets2) .result; cs = (c .before .before .before .before .before .before .before .before .before .before .caps) .result }
+S c = record { t = (c .before .before .before .before .before .before .before .before .before .before .before .before .before .before .before .before .before .before .before .before .before .before .args) .t; keep = (c .before .before .before .before .before .before .before .before .before .before .before .before .before .before .before .before .before .before .before .before .before .before .args) .t2; most = (c .before .before .before .before .before .before .before .before .before .before .before .before .before .before .before .before .before .before .before .before .before .before .args) .most; vs = (c .before .before .before .before .before .before .before .before .before .before .before .before .before .before .before .before .before .before .before .before .before .before .args) .values .now; row = (c .before .before .before .before .before .before .before .before .before .before .before .before .before .before .before .before .before .before .before .row) .result; arcs = (c .before .before .before .before .before .before .before .before .before .before .before .before .before .before .before .before .before .before .arcs) .result; ts = (c .before .before .before .before .before .before .before .before .before .before .before .before .before .before .before .targets) .result; ns = (c .before .before .before .before .before .before .before .before .before .before .before .targets2) .result; cs = (c .before .before .before .before .before .before .before .before .before .before .caps) .result }
 
 abbrev whole : (c : tie.At-loop Inv-loop2 μ-loop2 Inv-loop μ-loop) → Ran
 whole c = runFrom ((c .before .before .before .before .before .before .before .before .before .before .before .before .before .before .before .before .before .before .before .before .before .before .args) .t) (keptIn ((c .before .before .before .before .before .before .before .before .before .before .before .before .before .before .before .before .before .before .before .before .before .before .args) .t)) ((c .before .before .before .before .before .before .before .before .before .before .before .before .before .before .before .before .before .before .before .before .before .before .args) .most) ((c .before .before .before .before .before .before .before .before .before .before .before .before .before .before .before .before .before .before .before .before .before .before .args) .values .now) ((c .before .before .before .before .before .before .before .before .before .before .before .before .before .before .before .before .before .before .before .before .before .before .args) .schedule .now) 0 (stateOf ((c .before .before .before .before .before .before .before .before .before .before .before .before .before .before .before .before .before .before .before .before .before .before .args) .s .depth) ((c .before .before .before .before .before .before .before .before .before .before .before .before .before .before .before .before .before .before .before .before .before .before .args) .s .lost) ((c .before .before .before .before .before .before .before .before .procs) .result) ((c .before .before .before .before .before .before .before .nodes) .result) ((c .before .before .before .before .before .before .vars) .result) ((c .before .before .before .before .before .before .before .before .before .before .before .before .before .before .before .before .before .before .before .before .before .before .args) .s .sems) ((c .before .before .before .before .before .lens) .result) ((c .before .before .before .before .items) .result)) (drop ((c .before .before .before .before .before .before .before .before .before .before .before .before .before .before .before .before .before .before .before .before .before .before .args) .before) ((c .before .before .before .before .before .before .before .before .before .before .before .before .before .before .before .before .before .before .before .before .before .before .args) .values .now)) ((c .before .before .before .before .before .before .before .before .before .before .before .before .before .before .before .before .before .before .before .before .before .before .args) .log .now)
@@ -52,7 +53,7 @@ abbrev size : (c : tie.At-loop Inv-loop2 μ-loop2 Inv-loop μ-loop) → ℕ
 size c = length ((c .before .before .before .before .before .before .before .before .before .before .before .before .before .before .before .before .before .before .before .before .before .before .args) .log .now)
 
 K : (c : tie.At-loop Inv-loop2 μ-loop2 Inv-loop μ-loop) → Known (S c)
-K c = record { ready = (c .before .before .before .before .before .before .before .before .before .before .before .before .before .before .before .before .before .before .before .before .before .before .pre) .0; rowed = (c .before .before .before .before .before .before .before .before .before .before .before .before .before .before .before .before .before .before .before .row) .ensures; arced = (c .before .before .before .before .before .before .before .before .before .before .before .before .before .before .before .before .before .before .arcs) .ensures; targeted = (c .before .before .before .before .before .before .before .before .before .before .before .before .before .before .before .targets) .ensures; others = leading arcNo _ _ _ _ ((c .before .before .before .before .before .before .before .before .before .before .before .before .before .before .no-arcs) .ensures) ((c .before .before .before .before .before .before .before .before .before .before .before .targets2) .ensures); caps = (c .before .before .before .before .before .before .before .before .before .before .caps) .ensures }
+K c = record { ready = (c .before .before .before .before .before .before .before .before .before .before .before .before .before .before .before .before .before .before .before .before .before .before .pre) .0; rowed = (c .before .before .before .before .before .before .before .before .before .before .before .before .before .before .before .before .before .before .before .row) .ensures; arced = (c .before .before .before .before .before .before .before .before .before .before .before .before .before .before .before .before .before .before .arcs) .ensures; targeted = leads-straight arcTo _ _ _ _ ((c .before .before .before .before .before .before .before .before .before .before .before .before .before .before .before .before .before .before .arcs) .ensures) ((c .before .before .before .before .before .before .before .before .before .before .before .before .before .before .before .targets) .ensures); targeted-no = leads-straight arcNo _ _ _ _ ((c .before .before .before .before .before .before .before .before .before .before .before .before .before .before .no-arcs) .ensures) ((c .before .before .before .before .before .before .before .before .before .before .before .targets2) .ensures); caps = (c .before .before .before .before .before .before .before .before .before .before .caps) .ensures }
 
 abbrev Now : (c : tie.At-loop Inv-loop2 μ-loop2 Inv-loop μ-loop) → Here
 Now c = record { ks = (c .loop) .rest .now; lost = (c .loop) .lost; cols = columns ((c .loop) .depth) ((c .loop) .proc) ((c .loop) .node) ((c .loop) .vars) ((c .loop) .sems) ((c .loop) .lens) ((c .loop) .rows); used = (c .loop) .used; at = (c .loop) .at; log = (c .loop) .log }
