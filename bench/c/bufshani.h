@@ -1,0 +1,41 @@
+/* The proved library for C: target/staticlib/libbufshani_c.a, made by `rt staticlib bufshani_c`.
+   A lent slice is a pointer, which is not NULL, and a length. Every call ends; it reads and writes
+   only what is lent to it. A buffer that is written overlaps no other slice of the call. */
+#ifndef BUFSHANI_H
+#define BUFSHANI_H
+
+#include <stddef.h>
+#include <stdint.h>
+
+#ifdef __cplusplus
+extern "C" {
+#endif
+
+/* 0 for an accepted text, or its refusal: the number times 2^32 plus the line. */
+uint64_t bufshani_read(const uint8_t *text, size_t text_len);
+
+/* Writes the table of a text: the length written, or the refusal of the text or of a short buffer,
+   which stays as it was. */
+uint64_t bufshani_write(const uint8_t *text, size_t text_len, uint8_t *out, size_t out_len);
+
+/* What the program `close` prints for a text, as far as the buffer reaches; gives its length, at
+   most 65,536. */
+size_t bufshani_close(const uint8_t *text, size_t text_len, uint8_t *out, size_t out_len);
+
+/* What the program `run` prints for a text, as far as the buffer reaches; gives its length. The log
+   has 8 bytes for each step. */
+size_t bufshani_run(const uint8_t *text, size_t text_len, const uint8_t *schedule,
+                    size_t schedule_len, const int32_t *values, size_t values_len, size_t most,
+                    uint8_t *log, size_t log_len, uint8_t *out, size_t out_len);
+
+/* The same run with no report: the stop number, or that of the refusal, times 2^32 plus the steps
+   completed. */
+uint64_t bufshani_steps(const uint8_t *text, size_t text_len, const uint8_t *schedule,
+                        size_t schedule_len, const int32_t *values, size_t values_len, size_t most,
+                        uint8_t *log, size_t log_len);
+
+#ifdef __cplusplus
+}
+#endif
+
+#endif
