@@ -9,7 +9,7 @@ use Rattle.labels.specs.Graph.{edgeText}
 abbrev pub edgeIf : ℕ → ℕ → List ℕ → Bool → ℕ → ℕ → Bool → List ℕ
 edgeIf p n word toss i m held = pick held (edgeText p n word toss i m) []
 
--- Places so far down that what is written from there ends at a small number: an arc, and all of a node's.
+-- Bounds of a place, so that the place after what is written there stays a small number: for an arc, and for all of a node's.
 abbrev pub ArcAt : ℕ → Type 0
 ArcAt at = at ≤ 999000000
 

@@ -8,7 +8,7 @@ use lib.IntN.{ℤ}
 use Rattle.table.specs.Mask.{pick}
 use Rattle.text.specs.Number.{bytes, allDigits, value}
 use Rattle.text.specs.Value.{same, split}
-use Rattle.machine.specs.Program.{kept}
+use Rattle.machine.specs.Program.{filtered}
 use Rattle.arguments.specs.declared.Number.{Number}
 use Rattle.arguments.specs.declared.Number.the-variants.{Is, Not}
 use Rattle.arguments.specs.declared.Value.{Value}
@@ -29,7 +29,7 @@ countOf (some xs) = Is (length xs)
 
 -- the number that digits say, if it is at most m
 unfoldable pub digitsUpTo : ℕ → List ℕ → Number
-digitsUpTo m t = numberOf (kept (λ n. leb n m) (pick (allDigits t) (some (value t)) none))
+digitsUpTo m t = numberOf (filtered (λ n. leb n m) (pick (allDigits t) (some (value t)) none))
 
 -- what the items say, before the first that says nothing
 abbrev pub before : {A : Type 0} → Option A → List A → List A

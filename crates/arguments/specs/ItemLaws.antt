@@ -17,7 +17,7 @@ use Rattle.text.specs.NumberLaws.{cases}
 use Rattle.operands.specs.declared.Operand.{Operand as Answer}
 use Rattle.operands.specs.declared.Operand.the-variants.{Is as IsOperand, Not as NotOperand}
 use Rattle.operands.specs.Answer.{OperandJudged}
-use Rattle.machine.specs.Program.{kept, saidUpTo, fitting, asValue, saidValue}
+use Rattle.machine.specs.Program.{filtered, saidUpTo, fitting, asValue, saidValue}
 use Rattle.arguments.specs.declared.Number.{Number}
 use Rattle.arguments.specs.declared.Number.the-variants.{Is, Not}
 use Rattle.arguments.specs.declared.Value.{Value}
@@ -40,16 +40,16 @@ module _ (m : ℕ) (t : List ℕ) {r : Number} (d : r ≡ numberOf (saidUpTo m t
   pub number-none : r ≡ Not → saidUpTo m t ≡ none
   number-none e = number-not (saidUpTo m t) (sym d ∙ e)
 
-kept-small : (m : ℕ) (o : Option ℕ) {k : ℕ} → kept (λ n. leb n m) o ≡ some k → k ≤ m
-kept-small m none e = absurd (let z : _≡_ {A = ℕ} 0 1 = cc in omega arith)
-kept-small m (some n) {k} e =
+filtered-small : (m : ℕ) (o : Option ℕ) {k : ℕ} → filtered (λ n. leb n m) o ≡ some k → k ≤ m
+filtered-small m none e = absurd (let z : _≡_ {A = ℕ} 0 1 = cc in omega arith)
+filtered-small m (some n) {k} e =
     cases (leb n m)
     (λ h. let q : some n ≡ some k = rw h at e in let p : n ≡ k = cc in rw (← p) (leb-true n m h))
     (λ h. absurd (let q : none ≡ some k = rw h at e in let z : _≡_ {A = ℕ} 0 1 = cc in omega arith))
 
 pub number-small : {m k : ℕ} (t : List ℕ) → saidUpTo m t ≡ some k → k ≤ m
 unfolding saidUpTo
-number-small {m} t e = kept-small m (numeral t) e
+number-small {m} t e = filtered-small m (numeral t) e
 
 -- ---- a value
 value-some : (o : Option ℤ) {z : ℤ} → valueOf o ≡ IsValue z → o ≡ some z

@@ -15,7 +15,7 @@ use Rattle.text.specs.NumberLaws.{cases}
 use Rattle.table.specs.Mask.{pick}
 use Rattle.text.specs.Number.{bytes}
 use Rattle.text.specs.Value.{same, split, each, followed}
-use Rattle.machine.specs.Program.{kept, saidItems}
+use Rattle.machine.specs.Program.{filtered, saidItems}
 use Rattle.lists.specs.Items.{CommaAt, part, more}
 use Rattle.lists.specs.ItemLaws.{comma-split}
 use Rattle.arguments.specs.declared.Number.{Number}
@@ -74,7 +74,7 @@ module _ {A : Type 0} where
     pub taking-same : length m ≡ length l
     taking-same = ap length (a .stored) ∙ length-sets l 0 (a .passed)
 
-    answer : (o : Option (List A)) → each f (split w) ≡ o → countOf (saidItems (length l) f w) ≡ countOf (kept (λ xs. leb (length xs) (length l)) o)
+    answer : (o : Option (List A)) → each f (split w) ≡ o → countOf (saidItems (length l) f w) ≡ countOf (filtered (λ xs. leb (length xs) (length l)) o)
     unfolding saidItems
     answer o e = rw (a .list, e)
 
@@ -107,7 +107,7 @@ module _ {A : Type 0} where
         pub full-answer : length l ≤ n → Not ≡ countOf (saidItems (length l) f w)
         full-answer h = sym (answer _ says-more ∙ go (each f (more w to)))
           where
-            go : (o : Option (List A)) → countOf (kept (λ xs. leb (length xs) (length l)) (prefixed (a .passed ++ (x ∷ [])) o)) ≡ Not
+            go : (o : Option (List A)) → countOf (filtered (λ xs. leb (length xs) (length l)) (prefixed (a .passed ++ (x ∷ [])) o)) ≡ Not
             go none = refl
             go (some ys) = rw (lt-leb (length ((a .passed ++ (x ∷ [])) ++ ys)) (length l) (omega (arith, length-append (a .passed ++ (x ∷ [])) ys, longer)))
 
@@ -165,9 +165,9 @@ leading-each {A} f (s ∷ ss) {xs} e = go (f s) (each f ss) (λ ys q. leading-ea
     go (some x) none h q = absurd (let z : _≡_ {A = ℕ} 0 1 = cc in omega arith)
     go (some x) (some ys) h q = let p : x ∷ ys ≡ xs = cc in ap (λ (r : List A). x ∷ r) (h ys refl) ∙ p
 
-kept-is : {A : Type 0} (m : ℕ) (o : Option (List A)) {xs : List A} → kept (λ ys. leb (length ys) m) o ≡ some xs → (o ≡ some xs) × (length xs ≤ m)
-kept-is m none e = absurd (let z : _≡_ {A = ℕ} 0 1 = cc in omega arith)
-kept-is {A} m (some ys) {xs} e =
+filtered-is : {A : Type 0} (m : ℕ) (o : Option (List A)) {xs : List A} → filtered (λ ys. leb (length ys) m) o ≡ some xs → (o ≡ some xs) × (length xs ≤ m)
+filtered-is m none e = absurd (let z : _≡_ {A = ℕ} 0 1 = cc in omega arith)
+filtered-is {A} m (some ys) {xs} e =
     cases (leb (length ys) m)
     (λ h. let q : some ys ≡ some xs = rw h at e in let p : ys ≡ xs = cc in (q, rw (← p) (leb-true (length ys) m h)))
     (λ h. absurd (let q : none ≡ some xs = rw h at e in let z : _≡_ {A = ℕ} 0 1 = cc in omega arith))
@@ -176,7 +176,7 @@ module _ {A : Type 0} (f : List ℕ → Option A) (w : List ℕ) where
   leading-said : (m : ℕ) {xs : List A} → saidItems m f w ≡ some xs → (leading f w ≡ xs) × (length xs ≤ m)
   unfolding saidItems
   leading-said m {xs} e =
-      let k = kept-is m (pick (same (bytes "none") w) (some []) (each f (split w))) e in (
+      let k = filtered-is m (pick (same (bytes "none") w) (some []) (each f (split w))) e in (
         cases (same (bytes "none") w)
             (λ h. let q : some [] ≡ some xs = rw h at (k .0) in rw h (cc))
             (λ h. let q : each f (split w) ≡ some xs = rw h at (k .0) in rw h (leading-each f (split w) q)),

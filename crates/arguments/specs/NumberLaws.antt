@@ -12,23 +12,23 @@ use lib.Seq.{drop-cons}
 use borrow.Author.Tests.{le-leb, lt-leb, ne-eqb}
 use Rattle.table.specs.Mask.{pick}
 use Rattle.text.specs.Number.{allDigits, isDigit, spelt, value, valueFrom}
-use Rattle.machine.specs.Program.{kept, saidUpTo}
+use Rattle.machine.specs.Program.{filtered, saidUpTo}
 use Rattle.arguments.specs.declared.Number.{Number}
 use Rattle.arguments.specs.declared.Number.the-variants.{Is, Not}
 use Rattle.arguments.specs.Answers.{numberOf, digitsUpTo}
 
 -- the number that digits say after those that say v, if it is at most m
 abbrev from : ℕ → ℕ → List ℕ → Number
-from m v s = numberOf (kept (λ n. leb n m) (pick (allDigits s) (some (valueFrom v s)) none))
+from m v s = numberOf (filtered (λ n. leb n m) (pick (allDigits s) (some (valueFrom v s)) none))
 
 grows : (v : ℕ) (s : List ℕ) → v ≤ valueFrom v s
 unfolding valueFrom
 grows v [] = omega arith
 grows v (b ∷ s) = omega (arith, grows (v * 10 + (b - 48)) s)
 
-kept-none : (m : ℕ) (b : Bool) (x : ℕ) → m < x → numberOf (kept (λ n. leb n m) (pick b (some x) none)) ≡ Not
-kept-none m true x h = rw (lt-leb x m h)
-kept-none m false x h = refl
+filtered-none : (m : ℕ) (b : Bool) (x : ℕ) → m < x → numberOf (filtered (λ n. leb n m) (pick b (some x) none)) ≡ Not
+filtered-none m true x h = rw (lt-leb x m h)
+filtered-none m false x h = refl
 
 -- a loop's turn, at place i
 pub record Going (m : ℕ) (t : List ℕ) (v i : ℕ) : Type 0 where
@@ -61,7 +61,7 @@ module _ {m : ℕ} {t : List ℕ} {v i : ℕ} (g : Going m t v i) where
   over : i < length t → 48 ≤ getD t i 0 → getD t i 0 ≤ 57 → m < v * 10 + (getD t i 0 - 48) → Not ≡ digitsUpTo m t
   over h l u k =
       let w = v * 10 + (getD t i 0 - 48) in
-      sym (kept-none m (allDigits (drop (i + 1) t)) (valueFrom w (drop (i + 1) t)) (omega (arith, grows w (drop (i + 1) t)))) ∙ turn h (digit l u)
+      sym (filtered-none m (allDigits (drop (i + 1) t)) (valueFrom w (drop (i + 1) t)) (omega (arith, grows w (drop (i + 1) t)))) ∙ turn h (digit l u)
 
   pub going-digit-over : i < length t → 48 ≤ getD t i 0 → getD t i 0 ≤ 57 → m < getD t i 0 - 48 → Not ≡ digitsUpTo m t
   going-digit-over h l u k = over h l u (omega arith)

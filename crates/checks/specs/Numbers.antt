@@ -3,7 +3,7 @@ use Prim.Native.Nat.{ℕ, zero, suc}
 use mathlib.Core.Path.{_≡_, refl}
 use mathlib.Core.Option.{Option, none, some}
 use Rattle.text.specs.declared.Fault.{Fault}
-use Rattle.text.specs.declared.Fault.the-variants.{Long, Form, Misspelt, Ended, Range, Index, Reference, Arguments, Closing, Unused, Short}
+use Rattle.text.specs.declared.Fault.the-variants.{Long, Form, Misspelt, Ended, Range, Index, Reference, Arguments, Unclosed, Unused, Short}
 use Rattle.text.specs.Fault.{number}
 use Rattle.text.specs.Value.{orElse}
 use Rattle.text.specs.Structure.{numbered}
@@ -27,7 +27,7 @@ numbered-else (some Range) b = refl
 numbered-else (some Index) b = refl
 numbered-else (some Reference) b = refl
 numbered-else (some Arguments) b = refl
-numbered-else (some Closing) b = refl
+numbered-else (some Unclosed) b = refl
 numbered-else (some Unused) b = refl
 numbered-else (some Short) b = refl
 

@@ -14,7 +14,7 @@ use Rattle.table.specs.declared.Table.{Table}
 
 pub data Fact : Type 0 where
   settingAt : ℕ → ℕ → Fact  -- procedure, node: what the node sets is a dirty setting
-  useAt : ℕ → ℕ → ℕ → Fact  -- procedure, node, variable: a use of the variable there is dirty
+  useAt : ℕ → ℕ → ℕ → Fact  -- procedure, node, variable: a use of the variable there is dirty, if the node has one
   dropped : ℕ → ℕ → Fact  -- procedure, parameter: it is dropped, and entry is a dirty setting of it
   blank : ℕ → Fact  -- queue
   deriving Discrete as Fact-discrete

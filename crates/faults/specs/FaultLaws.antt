@@ -6,7 +6,7 @@ use mathlib.Core.Bool.{Bool, true, false}
 use native.Mathlib.Omega.{arith}
 use Rattle.table.specs.declared.Table.{Table}
 use Rattle.text.specs.declared.Fault.{Fault}
-use Rattle.text.specs.declared.Fault.the-variants.{Long, Form, Misspelt, Ended, Range, Index, Reference, Arguments, Closing, Unused, Short}
+use Rattle.text.specs.declared.Fault.the-variants.{Long, Form, Misspelt, Ended, Range, Index, Reference, Arguments, Unclosed, Unused, Short}
 use Rattle.text.specs.Fault.{number}
 use Rattle.text.specs.Value.{orElse, unless}
 use Rattle.text.specs.Reader.{late, firstLate, good}
@@ -28,7 +28,7 @@ numbered-none none e = refl
 numbered-none (some f) e = absurd (omega (arith, pos f))
   where
     pos : (f : Fault) → 0 < number f
-    pos f = elim f [ Long ↦ omega arith | Form ↦ omega arith | Misspelt ↦ omega arith | Ended ↦ omega arith | Range ↦ omega arith | Index ↦ omega arith | Reference ↦ omega arith | Arguments ↦ omega arith | Closing ↦ omega arith | Unused ↦ omega arith | Short ↦ omega arith ]
+    pos f = elim f [ Long ↦ omega arith | Form ↦ omega arith | Misspelt ↦ omega arith | Ended ↦ omega arith | Range ↦ omega arith | Index ↦ omega arith | Reference ↦ omega arith | Arguments ↦ omega arith | Unclosed ↦ omega arith | Unused ↦ omega arith | Short ↦ omega arith ]
 
 -- the lines have a fault
 pub fault-lines : (t : Table) {r : ℕ} → r ≡ linesNumber t → (r ≡ 0 → ⊥) → r ≡ fault t

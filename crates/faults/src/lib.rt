@@ -30,7 +30,7 @@ pub fn number(f: Fault) -> u8
         Fault::Index => 4,
         Fault::Reference => 5,
         Fault::Arguments => 6,
-        Fault::Closing => 7,
+        Fault::Unclosed => 7,
         Fault::Unused => 2,
         Fault::Short => 8,
     }

@@ -51,6 +51,6 @@ nodeSays (Assert v to) = bytes "assert " ++ variableText v
 nodeSays (Out v to) = bytes "out " ++ variableText v
 nodeSays Return = bytes "return"
 
--- A place so far down that what is written from there ends at a small number.
+-- A bound of a place, so that the place after what a node says stays a small number.
 abbrev pub SaysAt : ℕ → Type 0
 SaysAt at = at ≤ 1000000300

@@ -4,7 +4,7 @@ use lib.Dec.{eqb}
 use Rattle.table.specs.Mask.{pick}
 use Rattle.table.specs.Table.{procAt}
 use Rattle.table.specs.declared.Table.{Table}
-use Rattle.text.specs.declared.Fault.the-variants.{Arguments, Closing}
+use Rattle.text.specs.declared.Fault.the-variants.{Arguments, Unclosed}
 use Rattle.text.specs.Fault.{number}
 use Rattle.text.specs.Reader.{Result, good, bad}
 use Rattle.late.specs.declared.Late.{Late}
@@ -22,4 +22,4 @@ lateIn t Good = good t
 lateIn t (Bad f l) = bad f l
 
 abbrev pub lateOf : At → Late
-lateOf a = pick (eqb (a .number) 0) Good (pick (eqb (a .number) 6) (Bad Arguments (a .line)) (Bad Closing (a .line)))
+lateOf a = pick (eqb (a .number) 0) Good (pick (eqb (a .number) 6) (Bad Arguments (a .line)) (Bad Unclosed (a .line)))

@@ -10,7 +10,7 @@ use borrow.Author.Tests.{eqb-true, eqb-false, eq-eqb, ne-eqb}
 use Rattle.table.specs.Table.{outside, procAt}
 use Rattle.table.specs.declared.Table.{Table}
 use Rattle.table.specs.declared.Proc.{Proc}
-use Rattle.text.specs.declared.Fault.the-variants.{Arguments, Closing}
+use Rattle.text.specs.declared.Fault.the-variants.{Arguments, Unclosed}
 use Rattle.text.specs.NumberLaws.{cases, byOrder}
 use Rattle.late_nodes.specs.declared.Callee.{Callee}
 use Rattle.late_lines.specs.declared.At.{At}
@@ -63,5 +63,5 @@ answer-good a e = rw (eq-eqb (a .number) 0 e)
 pub answer-arguments : (a : At) → (a .number ≡ 0 → ⊥) → a .number ≡ 6 → Bad Arguments (a .line) ≡ lateOf a
 answer-arguments a z e = rw (ne-eqb (a .number) 0 z, eq-eqb (a .number) 6 e)
 
-pub answer-closing : (a : At) → (a .number ≡ 0 → ⊥) → (a .number ≡ 6 → ⊥) → Bad Closing (a .line) ≡ lateOf a
-answer-closing a z e = rw (ne-eqb (a .number) 0 z, ne-eqb (a .number) 6 e)
+pub answer-unclosed : (a : At) → (a .number ≡ 0 → ⊥) → (a .number ≡ 6 → ⊥) → Bad Unclosed (a .line) ≡ lateOf a
+answer-unclosed a z e = rw (ne-eqb (a .number) 0 z, ne-eqb (a .number) 6 e)

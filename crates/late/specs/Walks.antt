@@ -11,7 +11,7 @@ use Rattle.table.specs.declared.Node.{Node}
 use Rattle.table.specs.declared.Proc.{Proc}
 use Rattle.table.specs.declared.Table.{Table}
 use Rattle.text.specs.declared.Fault.{Fault}
-use Rattle.text.specs.declared.Fault.the-variants.{Arguments, Closing}
+use Rattle.text.specs.declared.Fault.the-variants.{Arguments, Unclosed}
 use Rattle.text.specs.Fault.{number}
 use Rattle.text.specs.Value.{unless, orElse}
 use Rattle.text.specs.Reader.{allBelow, allPresent, countRight, removedRight, taskFault, nodeLate, procLate, concat, late, firstLate}
@@ -39,7 +39,7 @@ procs-late t {a} e z h =
 data Later : Option Fault → Type 0 where
   nothing : Later none
   arguments : Later (some Arguments)
-  closing : Later (some Closing)
+  unclosed : Later (some Unclosed)
 
 data Laters : List (Option Fault) → Type 0 where
   nil : Laters []
@@ -58,12 +58,12 @@ laters-none : (n : ℕ) → Laters (replicate n none)
 laters-none zero = nil
 laters-none (suc n) = cons nothing (laters-none n)
 
-later-closing : (b : Bool) → Later (unless b Closing)
-later-closing true = nothing
-later-closing false = closing
+later-unclosed : (b : Bool) → Later (unless b Unclosed)
+later-unclosed true = nothing
+later-unclosed false = unclosed
 
-later-either : (a b : Bool) → Later (orElse (unless a Arguments) (unless b Closing))
-later-either true b = later-closing b
+later-either : (a b : Bool) → Later (orElse (unless a Arguments) (unless b Unclosed))
+later-either true b = later-unclosed b
 later-either false b = arguments
 
 laters-pick : (b : Bool) {o : Option Fault} → Later o → Laters (pick b [] (o ∷ []))
@@ -71,7 +71,7 @@ laters-pick true h = nil
 laters-pick false h = cons h nil
 
 task-laters : (t : Table) (i : ℕ) → Laters (taskFault t i ∷ [])
-task-laters t i = let q = procAt t (taskAt t i .top) in cons (later-closing (not (t .closed) || allBelow (q .params) (λ j. bit j (q .drop)))) nil
+task-laters t i = let q = procAt t (taskAt t i .top) in cons (later-unclosed (not (t .closed) || allBelow (q .params) (λ j. bit j (q .drop)))) nil
 
 node-laters : (t : Table) (q : Proc) (x : Node) → Laters (nodeLate t q x)
 node-laters t q x = laters-pick (isAbsent x) (later-either (countRight t x) (not (t .closed) || (allPresent q (arcs x) && removedRight t x)))
@@ -89,7 +89,7 @@ unfolding firstAt firstLate number
 first-late t l fs nil = refl
 first-late t l fs (cons nothing h) = first-late t (suc l) _ h
 first-late t l fs (cons arguments h) = refl
-first-late t l fs (cons closing h) = refl
+first-late t l fs (cons unclosed h) = refl
 
 -- the answer
 pub late-found : (t : Table) {a : At} {r : Late} → a ≡ firstAt 1 (late t) → r ≡ lateOf a → lateIn t r ≡ firstLate t 1 (late t)

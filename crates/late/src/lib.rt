@@ -47,7 +47,7 @@ fn answer(a: At) -> Late
     if a.number == ARGUMENTS {
         return Late::Bad(text::Fault::Arguments, a.line);
     }
-    Late::Bad(text::Fault::Closing, a.line)
+    Late::Bad(text::Fault::Unclosed, a.line)
 }
 
 // The first fault 6 or 7 of a table, with its line.

@@ -12,7 +12,7 @@ use Rattle.table.specs.declared.Node.{Node}
 use Rattle.table.specs.declared.Proc.{Proc}
 use Rattle.table.specs.declared.Table.{Table}
 use Rattle.text.specs.declared.Fault.{Fault}
-use Rattle.text.specs.declared.Fault.the-variants.{Long, Form, Misspelt, Ended, Range, Index, Reference, Arguments, Closing, Unused, Short}
+use Rattle.text.specs.declared.Fault.the-variants.{Long, Form, Misspelt, Ended, Range, Index, Reference, Arguments, Unclosed, Unused, Short}
 use Rattle.text.specs.Fault.{number}
 use Rattle.text.specs.Value.{unless}
 use Rattle.text.specs.Reader.{allBelow, nodeFault, taskFault, nodeLate, procLate, concat}
@@ -29,7 +29,7 @@ onward (suc n) a b = a
 
 number-some : (f : Fault) (a b : At) → onward (number f) a b ≡ a
 unfolding number
-number-some f a b = elim f [ Long ↦ refl | Form ↦ refl | Misspelt ↦ refl | Ended ↦ refl | Range ↦ refl | Index ↦ refl | Reference ↦ refl | Arguments ↦ refl | Closing ↦ refl | Unused ↦ refl | Short ↦ refl ]
+number-some f a b = elim f [ Long ↦ refl | Form ↦ refl | Misspelt ↦ refl | Ended ↦ refl | Range ↦ refl | Index ↦ refl | Reference ↦ refl | Arguments ↦ refl | Unclosed ↦ refl | Unused ↦ refl | Short ↦ refl ]
 
 at-append : (l : ℕ) (xs ys : List (Option Fault)) → firstAt l (xs ++ ys) ≡ onward (firstAt l xs .number) (firstAt l xs) (firstAt (firstAt l xs .line) ys)
 unfolding firstAt
@@ -62,7 +62,7 @@ pub step-is : (l : ℕ) (b : Bool) (o : Option Fault) → firstAt l (pick b [] (
 unfolding firstAt number
 step-is l true o = let e : l ≡ l + 0 = omega arith in rw (← e)
 step-is l false none = let e : suc l ≡ l + 1 = omega arith in rw e
-step-is l false (some f) = elim f [ Long ↦ refl | Form ↦ refl | Misspelt ↦ refl | Ended ↦ refl | Range ↦ refl | Index ↦ refl | Reference ↦ refl | Arguments ↦ refl | Closing ↦ refl | Unused ↦ refl | Short ↦ refl ]
+step-is l false (some f) = elim f [ Long ↦ refl | Form ↦ refl | Misspelt ↦ refl | Ended ↦ refl | Range ↦ refl | Index ↦ refl | Reference ↦ refl | Arguments ↦ refl | Unclosed ↦ refl | Unused ↦ refl | Short ↦ refl ]
 
 pub step-good : (r k l : ℕ) → r ≡ 0 → _≡_ {A = At} (record { number = 0; line = l + k }) (stepAt r k l)
 step-good r k l e = rw e
@@ -77,7 +77,7 @@ unfolding lateNumber
 node-step t q x l p e h = (rw (p, e) at h) ∙ sym (step-is l (isAbsent x) (nodeFault t q x))
 
 -- a task
-task-number : (b a : Bool) → numbered (unless (not b || a) Closing) ≡ ifClosed b a
+task-number : (b a : Bool) → numbered (unless (not b || a) Unclosed) ≡ ifClosed b a
 unfolding number
 task-number true true = refl
 task-number true false = refl

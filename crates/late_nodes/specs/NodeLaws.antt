@@ -12,7 +12,7 @@ use Rattle.table.specs.declared.Node.{Node}
 use Rattle.table.specs.declared.Node.the-variants.{Absent, Test, Call, Return}
 use Rattle.table.specs.declared.Proc.{Proc}
 use Rattle.table.specs.declared.Table.{Table}
-use Rattle.text.specs.declared.Fault.the-variants.{Arguments, Closing}
+use Rattle.text.specs.declared.Fault.the-variants.{Arguments, Unclosed}
 use Rattle.text.specs.Fault.{number}
 use Rattle.text.specs.Value.{unless, orElse}
 use Rattle.text.specs.Reader.{allPresent, isRemoved, iff, countRight, removedRight}
@@ -21,7 +21,7 @@ use Rattle.checks.specs.Numbers.{firstNumber}
 use Rattle.late_nodes.specs.declared.Terms.{Terms}
 use Rattle.late_nodes.specs.Terms.{TermsOf, ifClosed, callIn, transferIn, lateNumber}
 
-fault-number : (k b a m : Bool) → numbered (orElse (unless k Arguments) (unless (not b || (a && m)) Closing)) ≡ firstNumber (pick k 0 6) (firstNumber (ifClosed b a) (ifClosed b m))
+fault-number : (k b a m : Bool) → numbered (orElse (unless k Arguments) (unless (not b || (a && m)) Unclosed)) ≡ firstNumber (pick k 0 6) (firstNumber (ifClosed b a) (ifClosed b m))
 unfolding number
 fault-number true true true true = refl
 fault-number true true true false = refl

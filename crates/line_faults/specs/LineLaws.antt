@@ -13,7 +13,7 @@ use Rattle.table.specs.declared.Queue.{Queue}
 use Rattle.table.specs.declared.Proc.{Proc}
 use Rattle.table.specs.declared.Table.{Table}
 use Rattle.text.specs.declared.Fault.{Fault}
-use Rattle.text.specs.declared.Fault.the-variants.{Long, Form, Misspelt, Ended, Range, Index, Reference, Arguments, Closing, Unused, Short}
+use Rattle.text.specs.declared.Fault.the-variants.{Long, Form, Misspelt, Ended, Range, Index, Reference, Arguments, Unclosed, Unused, Short}
 use Rattle.text.specs.Fault.{number}
 use Rattle.text.specs.Value.{check, choice, due, unless}
 use Rattle.text.specs.Line.{lineFault}
@@ -72,7 +72,7 @@ proc-line-is true p q = rw (due-is p) (simp (numbered-else, first-zero))
 small : (f : Option Fault) → numbered f < 255
 unfolding number
 small none = omega arith
-small (some f) = elim f [ Long ↦ omega arith | Form ↦ omega arith | Misspelt ↦ omega arith | Ended ↦ omega arith | Range ↦ omega arith | Index ↦ omega arith | Reference ↦ omega arith | Arguments ↦ omega arith | Closing ↦ omega arith | Unused ↦ omega arith | Short ↦ omega arith ]
+small (some f) = elim f [ Long ↦ omega arith | Form ↦ omega arith | Misspelt ↦ omega arith | Ended ↦ omega arith | Range ↦ omega arith | Index ↦ omega arith | Reference ↦ omega arith | Arguments ↦ omega arith | Unclosed ↦ omega arith | Unused ↦ omega arith | Short ↦ omega arith ]
 
 place-is : (c : Scope) (q : Proc) (j : ℕ) (d : Described c) → numbered (placeFault c q j d) ≡ settled (number (gap q (c .nodes - suc j) (suc j))) (placeNumber c j d)
 place-is c q j noLine = go (c .closed && ltb 0 j)

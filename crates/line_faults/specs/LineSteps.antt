@@ -9,7 +9,7 @@ use Rattle.table.specs.Table.{nodeIn, isAbsent}
 use Rattle.table.specs.declared.Proc.{Proc}
 use Rattle.table.specs.declared.Table.{Table}
 use Rattle.text.specs.declared.Fault.{Fault}
-use Rattle.text.specs.declared.Fault.the-variants.{Long, Form, Misspelt, Ended, Range, Index, Reference, Arguments, Closing, Unused, Short}
+use Rattle.text.specs.declared.Fault.the-variants.{Long, Form, Misspelt, Ended, Range, Index, Reference, Arguments, Unclosed, Unused, Short}
 use Rattle.text.specs.Fault.{number}
 use Rattle.text.specs.NumberLaws.{cases}
 use Rattle.text.specs.Format.{Scope}
@@ -60,7 +60,7 @@ settled-fault g r e = rw (ne-eqb r 255 e)
 
 number-pos : (f : Fault) → 0 < number f
 unfolding number
-number-pos f = elim f [ Long ↦ omega arith | Form ↦ omega arith | Misspelt ↦ omega arith | Ended ↦ omega arith | Range ↦ omega arith | Index ↦ omega arith | Reference ↦ omega arith | Arguments ↦ omega arith | Closing ↦ omega arith | Unused ↦ omega arith | Short ↦ omega arith ]
+number-pos f = elim f [ Long ↦ omega arith | Form ↦ omega arith | Misspelt ↦ omega arith | Ended ↦ omega arith | Range ↦ omega arith | Index ↦ omega arith | Reference ↦ omega arith | Arguments ↦ omega arith | Unclosed ↦ omega arith | Unused ↦ omega arith | Short ↦ omega arith ]
 
 abbrev pub placeAt : Scope → Proc → ℕ → ℕ
 placeAt c q j = settled (number (gap q (q .nodes - suc j) (suc j))) (nodeNumber c j (nodeIn q j))

@@ -20,13 +20,14 @@ use Rattle.machine.specs.Report.{report}
 
 -- ---- what a word says, spelt as in a table's text
 
-abbrev pub kept : {A : Type 0} → (A → Bool) → Option A → Option A
-kept f none = none
-kept f (some a) = pick (f a) (some a) none
+-- what was said, if it passes a test
+abbrev pub filtered : {A : Type 0} → (A → Bool) → Option A → Option A
+filtered f none = none
+filtered f (some a) = pick (f a) (some a) none
 
 -- a number up to m
 unfoldable pub saidUpTo : ℕ → List ℕ → Option ℕ
-saidUpTo m s = kept (λ n. leb n m) (numeral s)
+saidUpTo m s = filtered (λ n. leb n m) (numeral s)
 
 abbrev pub fitting : ℤ → Option Fault → Option ℤ
 fitting z none = some z
@@ -43,7 +44,7 @@ saidValue s = asValue (saidOperand s)
 
 -- a list of at most m items
 unfoldable pub saidItems : {A : Type 0} → ℕ → (List ℕ → Option A) → List ℕ → Option (List A)
-saidItems m f s = kept (λ xs. leb (length xs) m) (saidList f s)
+saidItems m f s = filtered (λ xs. leb (length xs) m) (saidList f s)
 
 -- ---- the words, from the left
 

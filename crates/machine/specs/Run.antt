@@ -13,9 +13,8 @@ use Rattle.table.specs.declared.Table.{Table}
 use Rattle.text.specs.Writer.{fault}
 use Rattle.machine.specs.declared.State.{State}
 use Rattle.machine.specs.declared.Running.{Running}
-use Rattle.machine.specs.State.{noState, firstState, Begun, begun, begin}
-use Rattle.machine.specs.State as First
-use Rattle.machine.specs.Step.{noTask, logFull, spent, stopNumber, Kept, keptIn, Entry, Step, stopped, stepped, step}
+use Rattle.machine.specs.State.{noState, firstState, Begun, spent, begun, begin}
+use Rattle.machine.specs.Step.{noSuchTask, logFull, valuesSpent, stopNumber, Kept, keptIn, Entry, Step, stopped, stepped, step}
 
 -- "Each completed step logs 8 bytes: task, procedure, node, flag, value as 4 bytes, lowest first. .. else zeros."
 abbrev pub word : ℕ → List ℕ
@@ -42,7 +41,7 @@ module _ (t : Table) (keep : Kept) (most : ℕ) where
   unfoldable pub turn : ℕ → ℕ → State → List ℤ → List ℕ → Step
   turn k steps s rest log = elim (ltb k (t .tasks)) [
     | true ↦ elim (ltb (length log) (8 * steps + 8)) [ true ↦ stopped logFull | false ↦ step t keep most s k rest ]
-    | false ↦ stopped noTask
+    | false ↦ stopped noSuchTask
   ]
 
   module _ (all : List ℤ) where
@@ -58,7 +57,7 @@ module _ (t : Table) (keep : Kept) (most : ℕ) where
 
 -- "15 at the start comes before every step's faults, those met before a step too, and leaves all locals 0 and 0 used"
 abbrev pub runBegun : Table → List ℕ → List ℤ → ℕ → List ℕ → Begun → Ran
-runBegun t ks vs most log First.spent = ended (stopNumber spent) vs 0 (firstState t) vs log
+runBegun t ks vs most log spent = ended (stopNumber valuesSpent) vs 0 (firstState t) vs log
 runBegun t ks vs most log (begun s rest) = runFrom t (keptIn t) most vs ks 0 s rest log
 
 -- a faulty table: "that number, 0 steps, 0 used and a state all 0"

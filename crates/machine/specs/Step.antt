@@ -24,21 +24,21 @@ use Rattle.machine.specs.State.{noFrame, openFrames, place, frameAt, top
 
 -- ---- the stops of a run, and document 01's number for each
 pub data Stop : Type 0 where
-  noTask : Stop  -- no such task
+  noSuchTask : Stop  -- no such task
   logFull : Stop  -- fewer than 8 log bytes left
   taskLost : Stop  -- task lost
   taskBlocked : Stop  -- task blocked
   tooMany : Stop  -- one dropped node more than allowed
-  spent : Stop  -- value list spent
+  valuesSpent : Stop  -- value list spent
   badToss : Stop  -- toss value below 0 or not below the arc's count
 
 unfoldable pub stopNumber : Stop → ℕ
-stopNumber noTask = 10
+stopNumber noSuchTask = 10
 stopNumber logFull = 11
 stopNumber taskLost = 12
 stopNumber taskBlocked = 13
 stopNumber tooMany = 14
-stopNumber spent = 15
+stopNumber valuesSpent = 15
 stopNumber badToss = 16
 
 -- ---- what nodes work on
@@ -82,7 +82,7 @@ pub data Did : Type 0 where
 
 -- "A read takes the next input value"
 abbrev pub readOf : ℕ → ℕ → Memory → List ℤ → Did
-readOf v to m [] = stops spent
+readOf v to m [] = stops valuesSpent
 readOf v to m (x ∷ vs) = goes to (assign v x m) vs
 
 -- A call and a return are not executed within a frame, and no task stands before a place without a node.
@@ -119,7 +119,7 @@ toss ms (negsuc i) vs = bad badToss
 abbrev pub chooseFrom : List ℕ → List ℤ → Choice
 chooseFrom [] vs = nowhere vs
 chooseFrom (m ∷ []) vs = node m vs
-chooseFrom (m ∷ m′ ∷ ms) [] = bad spent
+chooseFrom (m ∷ m′ ∷ ms) [] = bad valuesSpent
 chooseFrom (m ∷ m′ ∷ ms) (x ∷ vs) = toss (m ∷ m′ ∷ ms) x vs
 
 unfoldable pub choose : ℕ → List ℤ → Choice
@@ -280,8 +280,8 @@ called s k g = record {
 }
 
 -- the topmost frame closed
-abbrev pub closed : State → ℕ → State
-closed s k = record {
+abbrev pub returned : State → ℕ → State
+returned s k = record {
   depth = set (s .depth) k (openFrames s k - 1);
   lost = s .lost;
   frames = set (s .frames) (place k (openFrames s k - 1)) noFrame;
@@ -295,7 +295,7 @@ memory s f = record { vars = f .vars; sems = s .sems; queues = s .queues }
 -- "A return closes the frame and goes on from the caller's call arc"
 abbrev pub resumed : Table → Kept → ℕ → Entry → State → ℕ → Frame → List ℤ → Step
 resumed t keep most e s k g vs =
-    settled e (closed s k) k (openFrames s k - 2) (g .proc)
+    settled e (returned s k) k (openFrames s k - 2) (g .proc)
     (along (λ n m ws. walk t keep (g .proc) most n m ws) (memory s g) (choose (arcTo (nodeAt t (g .proc) (g .node))) vs))
 
 abbrev pub flowed : Table → Kept → ℕ → Entry → State → ℕ → Frame → Node → List ℤ → Flow → Step

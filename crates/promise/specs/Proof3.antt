@@ -22,9 +22,8 @@ use Rattle.closing.specs.Dirty.{useAt, Dirty}
 use Rattle.closing.specs.Closing.{dirty}
 use Rattle.closing.specs.Close.{useOr, closedNode, closedWith, closeTable, answer, close}
 use Rattle.machine.specs.declared.State.{State}
-use Rattle.machine.specs.State.{openFrames, topmost, varAt, standsBefore, standstill, Begun, begun, begin}
-use Rattle.machine.specs.State as First
-use Rattle.machine.specs.Step.{Kept, keptOf, keptIn, fails, failing}
+use Rattle.machine.specs.State.{openFrames, topmost, varAt, standsBefore, standstill, Begun, spent, begun, begin}
+use Rattle.machine.specs.Step.{valuesSpent, Kept, keptOf, keptIn, fails, failing}
 use Rattle.machine.specs.Run.{Ran, runFrom, runBegun, runChecked, run}
 use Rattle.machine.specs.History.{History, lastSetting, historyFrom, historyBegun, history}
 use Rattle.promise.specs.Demand3.{CleanSetting, SameState, openRun, closedRun, Demand3, SameStandstill, SameFailure}
@@ -107,7 +106,7 @@ module _ (wf : (t : Table) → close t .number ≡ 0 → Wf t) (sound : (t : Tab
     follow c = go (begin t vs) refl (begin-sim t t-wf (acc .open-form) vs)
       where
         go : (b : Begun) → begin t vs ≡ b → WhenBegun (BothBegin t t-wf) b → (ts : List ℤ) × Followed ts
-        go First.spent i q = absurd (stop-number Rattle.machine.specs.Step.spent (sym (ap (λ (r : Ran). r .answer .stop) (run-is t ks vs most log First.spent (acc .sound) i)) ∙ c))
+        go spent i q = absurd (stop-number valuesSpent (sym (ap (λ (r : Ran). r .answer .stop) (run-is t ks vs most log spent (acc .sound) i)) ∙ c))
         go (begun s rest) i q =
             let r = run-sim t t-wf most most′ vs ks 0 s (q .state′) (λ k j. []) rest log log′ (q .states) (λ j l. absurd (omega arith)) size (sym (ap (λ (z : Ran). z .answer .stop) (open-is ks s rest i)) ∙ c) in
             let ts = r .0 in

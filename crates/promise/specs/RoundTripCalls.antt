@@ -1,4 +1,5 @@
--- Both round trips for calls of the library: each premise is what the contract of a call says, as crates/bufshani states it.
+-- Both round trips for calls of the library: each premise is what the contract of a call says, as crates/bufshani states it, or `Shaped`, which
+-- holds of every value of the declared type (`shaped`, text/ShapeLaws).
 use Prim.Native.Nat.{ℕ, zero, suc, _≤_}
 use mathlib.Core.Path.{_≡_, refl, sym, _∙_, ap}
 use mathlib.Core.Bool.{Bool, true, false}

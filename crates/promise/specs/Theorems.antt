@@ -1,4 +1,4 @@
--- The promise, with no premise: what is proved of every table that the closer accepts.
+-- The promise: demand 3, which has no premise, and both round trips.
 use Prim.Native.Nat.{ℕ}
 use mathlib.Core.Path.{_≡_}
 use mathlib.Core.List.{List}

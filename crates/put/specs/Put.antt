@@ -16,8 +16,8 @@ pub record Put (k : ℕ) (before : List ℕ) (at : ℕ) (t after : List ℕ) (r 
 pub record PutField (k : ℕ) (before : List ℕ) (at : ℕ) (key value after : List ℕ) (r : ℕ) : Type 0 where
   pub put : Put k before at (key ++ value) after r
 
--- Places so far down that what is written from there ends at a small number: a byte's, a number's, a value's, a field's, a line's, some lines'
--- and a table's.
+-- Bounds of a place, so that the place after what is written there stays a small number: for a byte, a number, a value, a field, a line, some
+-- lines and a table.
 abbrev pub ByteAt : ℕ → Type 0
 ByteAt at = at ≤ 2000000000
 

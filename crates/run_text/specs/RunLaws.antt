@@ -19,9 +19,8 @@ use Rattle.text.specs.Reader.{concat}
 use Rattle.text.specs.Writer.{fault}
 use Rattle.machine.specs.declared.Frame.{Frame}
 use Rattle.machine.specs.declared.State.{State}
-use Rattle.machine.specs.State.{noState, openFrames, isLost, frameAt, topmost, blockedAt, blocked, standsBefore, firstState, firstInputs, withInputs, Begun, begun, takeInputs, begin}
-use Rattle.machine.specs.State as First
-use Rattle.machine.specs.Step.{taskLost, taskBlocked, unless, Kept, keptIn, Entry, Memory, Walk, halts, arrives, along, onward, walk, exec, choose, memory, returns, stays, flow, Step, stopped, stepped, landed, settled, closed, flowed, entryOf, stepOf, before, step}
+use Rattle.machine.specs.State.{noState, openFrames, isLost, frameAt, topmost, blockedAt, blocked, standsBefore, firstState, firstInputs, withInputs, Begun, spent, begun, takeInputs, begin}
+use Rattle.machine.specs.Step.{taskLost, taskBlocked, unless, Kept, keptIn, Entry, Memory, Walk, halts, arrives, along, onward, walk, exec, choose, memory, returns, stays, flow, Step, stopped, stepped, landed, settled, returned, flowed, entryOf, stepOf, before, step}
 use Rattle.machine.specs.Run.{Ran, entryBytes, turn, runFrom, afterStep, runBegun, runChecked, run}
 use Rattle.starts.specs.GoodLaws.{either}
 
@@ -52,8 +51,8 @@ settled-keeps : (e : Entry) (s : State) (k j p : ℕ) (w : Walk) → Few s → K
 settled-keeps e s k j p (halts c) h = tt
 settled-keeps e s k j p (arrives w m vs ns) h = landed-few s k j p w m h
 
-closed-few : (s : State) (k : ℕ) → Few s → Few (closed s k)
-closed-few s k h = record { few = λ i. either (λ (n : ℕ). n ≤ 8) (s .depth) k i (openFrames s k - 1) 0 (omega (arith, h .few k)) (h .few i) }
+returned-few : (s : State) (k : ℕ) → Few s → Few (returned s k)
+returned-few s k h = record { few = λ i. either (λ (n : ℕ). n ≤ 8) (s .depth) k i (openFrames s k - 1) 0 (omega (arith, h .few k)) (h .few i) }
 
 module _ (t : Table) (keep : Kept) (most : ℕ) where
   stays-keeps : (e : Entry) (s : State) (k : ℕ) (f : Frame) (vs : List ℤ) (x : Node) → Few s → Keeps (flowed t keep most e s k f x vs stays)
@@ -63,8 +62,8 @@ module _ (t : Table) (keep : Kept) (most : ℕ) where
   returns-keeps : (e : Entry) (s : State) (k : ℕ) (f : Frame) (vs : List ℤ) (x : Node) → Few s → Keeps (flowed t keep most e s k f x vs returns)
   returns-keeps e s k f vs x h =
       let g = frameAt s k (openFrames s k - 2) in
-      settled-keeps e (closed s k) k (openFrames s k - 2) (g .proc)
-      (along (λ n m ws. walk t keep (g .proc) most n m ws) (memory s g) (choose (arcTo (nodeAt t (g .proc) (g .node))) vs)) (closed-few s k h)
+      settled-keeps e (returned s k) k (openFrames s k - 2) (g .proc)
+      (along (λ n m ws. walk t keep (g .proc) most n m ws) (memory s g) (choose (arcTo (nodeAt t (g .proc) (g .node))) vs)) (returned-few s k h)
 
   flowed-keeps : (e : Entry) (s : State) (k : ℕ) (f : Frame) (vs : List ℤ) (x : Node) → Few s → blockedAt t s k x ≡ false → Keeps (flowed t keep most e s k f x vs (flow x))
   unfolding flow blockedAt
@@ -132,7 +131,7 @@ first-few t = record { few = go }
     go (suc (suc (suc (suc k)))) = omega arith
 
 abbrev BegunFew : Begun → Type 0
-BegunFew First.spent = Unit {0}
+BegunFew spent = Unit {0}
 BegunFew (begun s vs) = Few s
 
 take-few : (t : Table) (n i : ℕ) (s : State) (vs : List ℤ) → Few s → BegunFew (takeInputs t n i s vs)
@@ -155,7 +154,7 @@ none-few = record { few = go }
 
 module _ (t : Table) (ks : List ℕ) (vs : List ℤ) (most : ℕ) (log : List ℕ) where
   begun-sound : (b : Begun) → BegunFew b → Sound log (runBegun t ks vs most log b)
-  begun-sound First.spent h = record { few = first-few t; steps = omega arith; size = refl }
+  begun-sound spent h = record { few = first-few t; steps = omega arith; size = refl }
   begun-sound (begun s rest) h = run-sound t (keptIn t) most vs ks log 0 s rest log h (omega arith) refl
 
   checked-sound : (n : ℕ) → Sound log (runChecked t ks vs most log n)

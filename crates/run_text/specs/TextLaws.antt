@@ -90,7 +90,7 @@ module _ (t : Table) (ks : List ℕ) (vs : List ℤ) (m n : ℕ) (log : List ℕ
       length-append x (drop n log) ∙ ap (λ (k : ℕ). k + length (drop n log)) e ∙ sym (length-append (take n log) (drop n log)) ∙ ap length (take-append-drop n log)
 
   pub part-run : {out out′ : List ℕ} {r : ℕ} → Put 4400000 out 0 (runReport t ks vs m (take n log)) out′ r → PartRun t ks vs m n log (x ++ drop n log) out out′ r
-  part-run p = record { printed = p; kept = ap (λ (l : List ℕ). l ++ drop n log) d }
+  part-run p = record { printed = p; logged = ap (λ (l : List ℕ). l ++ drop n log) d }
 
 pub least-left : {n a : ℕ} (b : ℕ) → n ≡ min a b → n ≤ a
 least-left b e = omega arith
@@ -108,7 +108,7 @@ module _ (s ks : List ℕ) (vs : List ℤ) (m : ℕ) (log : List ℕ) {r : Readi
   pub run-refused : (r .number ≡ 0 → ⊥) → Put 38 out 0 (refusedLine (r .number) (r .line)) out′ k → TextRun s ks vs m log log out out′ k
   run-refused h p = record {
     printed = rw (← text-refused s ks vs m (take 524288 log) r e h) (put-more (omega arith) p);
-    kept = sym (take-append-drop 524288 log) ∙ ap (λ (l : List ℕ). l ++ drop 524288 log) (log-refused s ks vs m (take 524288 log) r e h);
+    logged = sym (take-append-drop 524288 log) ∙ ap (λ (l : List ℕ). l ++ drop 524288 log) (log-refused s ks vs m (take 524288 log) r e h);
   }
 
   pub run-whole : {n : ℕ} {log′ : List ℕ} → r .number ≡ 0 → n ≡ min (length log) 524288 → PartRun (r .table) ks vs m n log log′ out out′ k → TextRun s ks vs m log log′ out out′ k
@@ -116,7 +116,7 @@ module _ (s ks : List ℕ) (vs : List ℤ) (m : ℕ) (log : List ℕ) {r : Readi
       let w = same-part n 524288 log u in
       record {
         printed = rw (← text-run s ks vs m (take 524288 log) r e h) (rw (w .0) at (p .printed));
-        kept = p .kept ∙ ap (λ (l : List ℕ). run (r .table) ks vs m l .log ++ drop n log) (w .0)
+        logged = p .logged ∙ ap (λ (l : List ℕ). run (r .table) ks vs m l .log ++ drop n log) (w .0)
             ∙ ap (λ (l : List ℕ). run (r .table) ks vs m (take 524288 log) .log ++ l) (w .1)
             ∙ ap (λ (l : List ℕ). l ++ drop 524288 log) (log-run s ks vs m (take 524288 log) r e h);
       }

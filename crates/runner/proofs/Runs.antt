@@ -20,9 +20,8 @@ use Rattle.machine.specs.declared.Frame.{Frame}
 use Rattle.machine.specs.declared.Entries.{Entries}
 use Rattle.machine.specs.declared.State.{State}
 use Rattle.machine.specs.declared.Running.{Running}
-use Rattle.machine.specs.State.{noFrame, openFrames, isLost, place, frameAt, topmost, semCount, entriesAt, varAt, standsBefore, firstState, Begun, begun, blockedAt, blocked}
-use Rattle.machine.specs.State as First
-use Rattle.machine.specs.Step.{noTask, logFull, taskLost, taskBlocked, stopNumber, Memory, valueOf, assign, appended, oldest, shortened, Did, stops, goes, exec, keptIn, Walk, halts, arrives, onward, walk, flow, Entry, shown, Step, stopped, stepped, landed, settled, entering, called, closed, memory, flowed, entryOf, stepOf, before, step}
+use Rattle.machine.specs.State.{noFrame, openFrames, isLost, place, frameAt, topmost, semCount, entriesAt, varAt, standsBefore, firstState, Begun, spent, begun, blockedAt, blocked}
+use Rattle.machine.specs.Step.{noSuchTask, logFull, taskLost, taskBlocked, stopNumber, Memory, valueOf, assign, appended, oldest, shortened, Did, stops, goes, exec, keptIn, Walk, halts, arrives, onward, walk, flow, Entry, shown, Step, stopped, stepped, landed, settled, entering, called, returned, memory, flowed, entryOf, stepOf, before, step}
 use Rattle.machine.specs.Run.{word, flagged, entryBytes, Ran, ended, turn, afterStep, runFrom, runBegun}
 use Rattle.tosses.specs.Tosses.{stopOf}
 use Rattle.steps.specs.Cut.{Within, goesTo, haltsAt, showsTo, stuckOf, actOf, backOf, semsAfter, lensAfter, itemsAfter, flagOf, bitsOf}
@@ -201,7 +200,7 @@ unshown Return l l′ h = refl
 
 abbrev pub closes : ℕ → State → ℕ → State
 closes zero s k = s
-closes (suc n) s k = closed s k
+closes (suc n) s k = returned s k
 
 unfoldable pub opens : Node → Bool
 opens Absent = false
@@ -335,7 +334,7 @@ module _ (t : Table) (most : ℕ) (vs : List ℤ) (n : ℕ) (s : State) (used : 
   runs-turn (k ∷ ks) r h e = rw (take-all (suc (length ks) - 1) ks (omega arith)) (ap (after ks) e)
 
   module _ (k : ℕ) where
-    pub turn-none : t .tasks ≤ k → turns k ≡ stopped noTask
+    pub turn-none : t .tasks ≤ k → turns k ≡ stopped noSuchTask
     unfolding turn
     turn-none h = rw (turn, le-ltb k (t .tasks) h) refl
 
@@ -381,7 +380,7 @@ module _ (t : Table) (ks : List ℕ) (vs : List ℤ) (most : ℕ) (log : List �
   abbrev Answers : Running → List ℕ → Ran → Type 0
   Answers r l o = (r ≡ o .answer) × (l ≡ o .log)
 
-  pub begun-spent : (b : Begun) (s : State) → b ≡ First.spent → s ≡ firstState t
+  pub begun-spent : (b : Begun) (s : State) → b ≡ spent → s ≡ firstState t
       → Answers (record { steps = 0; used = 0; stop = 15; state = s }) log (runBegun t ks vs most log b)
   unfolding stopNumber
   begun-spent b s e h =

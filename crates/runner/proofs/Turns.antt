@@ -22,7 +22,7 @@ use Rattle.text.specs.Reader.{concat}
 use Rattle.machine.specs.declared.Frame.{Frame}
 use Rattle.machine.specs.declared.State.{State}
 use Rattle.machine.specs.State.{noFrame, openFrames, isLost, place, topmost, standsBefore, withFrames, blockedAt, blocked}
-use Rattle.machine.specs.Step.{noTask, logFull, taskLost, taskBlocked, stopNumber, Memory, valueOf, shown, Choice, Did, keptIn, Walk, along, onward, walk, Step, stopped, settled, called, entering, memory, entryOf}
+use Rattle.machine.specs.Step.{noSuchTask, logFull, taskLost, taskBlocked, stopNumber, Memory, valueOf, shown, Choice, Did, keptIn, Walk, along, onward, walk, Step, stopped, settled, called, entering, memory, entryOf}
 use Rattle.machine.specs.Run.{word, flagged, entryBytes, Ran, runFrom}
 use Rattle.tosses.specs.Tosses.{Named, Sound, Arrived, halting}
 use Rattle.steps.specs.Cut.{Within, goesTo, haltsAt, showsTo, stuckOf, actOf, triedOf, passOf, backOf, flagOf, bitsOf, underOf}
@@ -176,7 +176,7 @@ module _ (t : Table) (keep : List ℕ) (ready : Ready t keep) (most : ℕ) (vs :
 
     pub stop-none : (length ks ≡ 0 → ⊥) → t .tasks ≤ k → going ≡ ending 10
     unfolding stopNumber
-    stop-none h l = runs-turn t most vs n s used log ks (stopped noTask) h (turn-none t most vs n s used log k l)
+    stop-none h l = runs-turn t most vs n s used log ks (stopped noSuchTask) h (turn-none t most vs n s used log k l)
 
     pub stop-full : (length ks ≡ 0 → ⊥) → k < t .tasks → length log - 8 * n < 8 → going ≡ ending 11
     unfolding stopNumber

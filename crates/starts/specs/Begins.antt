@@ -10,8 +10,7 @@ use Rattle.table.specs.declared.Slot.{Slot}
 use Rattle.table.specs.declared.Table.{Table}
 use Rattle.machine.specs.declared.Frame.{Frame}
 use Rattle.machine.specs.declared.State.{State}
-use Rattle.machine.specs.State.{Begun, begun, firstState}
-use Rattle.machine.specs.State as First
+use Rattle.machine.specs.State.{Begun, spent, begun, firstState}
 use Rattle.starts.specs.declared.Started.{Started}
 
 -- node n of procedure p stands at place 32 p + n
@@ -31,7 +30,7 @@ pub record Good (t : Table) (s : State) : Type 0 where
   pub vars : (j : ℕ) → j < 32 → length (frameIn (s .frames) j .vars) ≡ 16
 
 abbrev pub begunOf : List ℤ → Started → Begun
-begunOf vs r = pick (r .spent) First.spent (begun (r .state) (drop (r .used) vs))
+begunOf vs r = pick (r .spent) spent (begun (r .state) (drop (r .used) vs))
 
 pub record Begins (t : Table) (vs : List ℤ) (b : Begun) (r : Started) : Type 0 where
   pub is : b ≡ begunOf vs r

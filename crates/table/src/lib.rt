@@ -19,7 +19,7 @@ pub enum Op {
     Eq,
 }
 
-// The variables that a call passes, the first `len` of four places.
+// The variables that a call passes, the first `len` of four places. No callee has more than four parameters, so a greater `len` is a fault.
 pub struct Args {
     pub len: u8,
     pub a0: u8,
@@ -116,7 +116,7 @@ pub struct Proc {
     pub slots: [Slot; 32],
 }
 
-// A table. Places at or beyond a count are unused and 0.
+// A table. Places at or beyond a count are unused, and 0 in a table without a fault.
 pub struct Table {
     pub trap: u8,
     pub closed: bool,

@@ -2,7 +2,7 @@
 -- or carried on; so does an unused place.
 use Prim.Native.Nat.{ℕ}
 use Rattle.text.specs.declared.Fault.{Fault}
-use Rattle.text.specs.declared.Fault.the-variants.{Long, Form, Misspelt, Ended, Range, Index, Reference, Arguments, Closing, Unused, Short}
+use Rattle.text.specs.declared.Fault.the-variants.{Long, Form, Misspelt, Ended, Range, Index, Reference, Arguments, Unclosed, Unused, Short}
 
 unfoldable pub number : Fault → ℕ
 number Long = 1
@@ -13,6 +13,6 @@ number Range = 3
 number Index = 4
 number Reference = 5
 number Arguments = 6
-number Closing = 7
+number Unclosed = 7
 number Unused = 2
 number Short = 8

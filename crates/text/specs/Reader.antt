@@ -18,7 +18,7 @@ use Rattle.table.specs.declared.Table.{Table}
 use Rattle.text.specs.declared.Reading.{Reading}
 use Rattle.text.specs.Number.{bytes}
 use Rattle.text.specs.declared.Fault.{Fault}
-use Rattle.text.specs.declared.Fault.the-variants.{Long, Ended, Arguments, Closing}
+use Rattle.text.specs.declared.Fault.the-variants.{Long, Ended, Arguments, Unclosed}
 use Rattle.text.specs.Fault.{number}
 use Rattle.text.specs.Value.{unless, orElse}
 use Rattle.text.specs.Line.{Vals, Outcome, took, refused, Parser, _>>=_, give, After, at, differs, broken, after, line}
@@ -168,11 +168,11 @@ removedRight t Return = true
 
 -- a node line of procedure q
 abbrev pub nodeFault : Table → Proc → Node → Option Fault
-nodeFault t q x = orElse (unless (countRight t x) Arguments) (unless (not (t .closed) || (allPresent q (arcs x) && removedRight t x)) Closing)
+nodeFault t q x = orElse (unless (countRight t x) Arguments) (unless (not (t .closed) || (allPresent q (arcs x) && removedRight t x)) Unclosed)
 
 -- "A task's top procedure there drops all parameters"
 abbrev pub taskFault : Table → ℕ → Option Fault
-taskFault t i = let q = procAt t (taskAt t i .top) in unless (not (t .closed) || allBelow (q .params) (λ j. bit j (q .drop))) Closing
+taskFault t i = let q = procAt t (taskAt t i .top) in unless (not (t .closed) || allBelow (q .params) (λ j. bit j (q .drop))) Unclosed
 
 -- what each of n things says, from i on, one list after another
 unfoldable pub concat : {A : Type 0} → (ℕ → List A) → ℕ → ℕ → List A

@@ -8,7 +8,7 @@ use lib.Dec.{ltb}
 use lib.ListN.{length}
 use Rattle.table.specs.declared.Table.{Table}
 use Rattle.text.specs.declared.Fault.{Fault}
-use Rattle.text.specs.declared.Fault.the-variants.{Long, Form, Misspelt, Ended, Range, Index, Reference, Arguments, Closing, Unused, Short}
+use Rattle.text.specs.declared.Fault.the-variants.{Long, Form, Misspelt, Ended, Range, Index, Reference, Arguments, Unclosed, Unused, Short}
 use Rattle.text.specs.Fault.{number}
 use Rattle.text.specs.NumberLaws.{cases}
 use Rattle.text.specs.Reader.{Result, good, bad, readLines, reading, read}
@@ -36,7 +36,7 @@ fault-number Range e = omega arith
 fault-number Index e = omega arith
 fault-number Reference e = omega arith
 fault-number Arguments e = omega arith
-fault-number Closing e = omega arith
+fault-number Unclosed e = omega arith
 fault-number Unused e = omega arith
 fault-number Short e = omega arith
 

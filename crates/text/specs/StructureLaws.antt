@@ -15,7 +15,7 @@ use Rattle.table.specs.declared.Node.the-variants.{Absent, Start, Set, Test, Re
 use Rattle.table.specs.declared.Proc.{Proc}
 use Rattle.table.specs.declared.Table.{Table}
 use Rattle.text.specs.declared.Fault.{Fault}
-use Rattle.text.specs.declared.Fault.the-variants.{Arguments, Closing, Unused}
+use Rattle.text.specs.declared.Fault.the-variants.{Arguments, Unclosed, Unused}
 use Rattle.text.specs.Fault.{number}
 use Rattle.text.specs.NumberLaws.{cases, byOrder}
 use Rattle.text.specs.Value.{unless, orElse}
@@ -88,10 +88,10 @@ eqb-min a k h = byOrder a 5
 -- ---- the late faults of a table that is read back
 
 fault-same : (b b′ k k′ a a′ m m′ : Bool) → b′ ≡ b → k′ ≡ k → a′ ≡ a → (b ≡ true → k ≡ true → m′ ≡ m)
-    → orElse (unless k′ Arguments) (unless (not b′ || (a′ && m′)) Closing) ≡ orElse (unless k Arguments) (unless (not b || (a && m)) Closing)
+    → orElse (unless k′ Arguments) (unless (not b′ || (a′ && m′)) Unclosed) ≡ orElse (unless k Arguments) (unless (not b || (a && m)) Unclosed)
 fault-same b b′ k k′ a a′ m m′ p q s f = rw (p, q, s) (go b k f)
   where
-    go : (b k : Bool) → (b ≡ true → k ≡ true → m′ ≡ m) → orElse (unless k Arguments) (unless (not b || (a && m′)) Closing) ≡ orElse (unless k Arguments) (unless (not b || (a && m)) Closing)
+    go : (b k : Bool) → (b ≡ true → k ≡ true → m′ ≡ m) → orElse (unless k Arguments) (unless (not b || (a && m′)) Unclosed) ≡ orElse (unless k Arguments) (unless (not b || (a && m)) Unclosed)
     go true true f = rw (f refl refl)
     go true false f = refl
     go false true f = refl

@@ -51,7 +51,7 @@ pub record ProcValid (t : Table) (p : ℕ) : Type 0 where
   pub drop : t .closed ≡ true → Within 0 (procAt t p .params) (members (procAt t p .drop))
   pub node : (n : ℕ) → n < procAt t p .nodes → NodeValid (scope t (procAt t p)) n (nodeAt t p n)
 
--- what the lines of a table say
+-- no line of a table has a fault
 pub record Lined (t : Table) : Type 0 where
   pub trap : t .trap ≡ 1
   pub tasksLow : 1 ≤ t .tasks

@@ -17,7 +17,7 @@ use Rattle.table.specs.declared.Node.the-variants.{Absent, Start, Set, Test, Re
 use Rattle.table.specs.declared.Proc.{Proc}
 use Rattle.table.specs.declared.Table.{Table}
 use Rattle.text.specs.declared.Fault.{Fault}
-use Rattle.text.specs.declared.Fault.the-variants.{Long, Form, Misspelt, Ended, Range, Index, Reference, Arguments, Closing, Unused, Short}
+use Rattle.text.specs.declared.Fault.the-variants.{Long, Form, Misspelt, Ended, Range, Index, Reference, Arguments, Unclosed, Unused, Short}
 use Rattle.text.specs.Fault.{number}
 use Rattle.text.specs.NumberLaws.{cases, byOrder, and-left, and-right}
 use Rattle.text.specs.ValueLaws.{no}
@@ -90,7 +90,7 @@ late-task t i =
     let q = procAt t (taskAt t i .top) in
     let f : ℕ → Bool = λ j. bit j (q .drop) in
     let b = allBelow (q .params) f in (
-      λ e o. below-all (q .params) f (or-is (t .closed) b .0 (unless-is (not (t .closed) || b) Closing .0 (else-is (taskFault t i) none .0 e .0)) o),
+      λ e o. below-all (q .params) f (or-is (t .closed) b .0 (unless-is (not (t .closed) || b) Unclosed .0 (else-is (taskFault t i) none .0 e .0)) o),
       λ h. rw (or-is (t .closed) b .1 (λ o. all-below (q .params) f (h o))),
     )
 
@@ -111,8 +111,8 @@ late-node t q x =
     (λ e. rw (absent-is x e) (late-absent t q))
     (λ e. rw e (
       λ z.
-          let h = else-is (unless k Arguments) (unless (not (t .closed) || (a && m)) Closing) .0 (else-is (nodeFault t q x) none .0 z .0) in
-          (unless-is k Arguments .0 (h .0), λ o. and-is a m .0 (or-is (t .closed) (a && m) .0 (unless-is _ Closing .0 (h .1)) o)),
+          let h = else-is (unless k Arguments) (unless (not (t .closed) || (a && m)) Unclosed) .0 (else-is (nodeFault t q x) none .0 z .0) in
+          (unless-is k Arguments .0 (h .0), λ o. and-is a m .0 (or-is (t .closed) (a && m) .0 (unless-is _ Unclosed .0 (h .1)) o)),
       λ v. rw (v .0, or-is (t .closed) (a && m) .1 (λ o. and-is a m .1 (v .1 o))),
     ))
 
@@ -137,7 +137,7 @@ late-parts t =
 
 number-pos : (f : Fault) → 0 < number f
 unfolding number
-number-pos f = elim f [ Long ↦ omega arith | Form ↦ omega arith | Misspelt ↦ omega arith | Ended ↦ omega arith | Range ↦ omega arith | Index ↦ omega arith | Reference ↦ omega arith | Arguments ↦ omega arith | Closing ↦ omega arith | Unused ↦ omega arith | Short ↦ omega arith ]
+number-pos f = elim f [ Long ↦ omega arith | Form ↦ omega arith | Misspelt ↦ omega arith | Ended ↦ omega arith | Range ↦ omega arith | Index ↦ omega arith | Reference ↦ omega arith | Arguments ↦ omega arith | Unclosed ↦ omega arith | Unused ↦ omega arith | Short ↦ omega arith ]
 
 numbered-none : (f : Option Fault) → numbered f ≡ 0 → f ≡ none
 numbered-none none e = refl

@@ -19,7 +19,7 @@ pub enum Fault {
     // argument count differs from the callee's
     Arguments,
     // closed: absent target, wrong `-`, top parameter not dropped
-    Closing,
+    Unclosed,
     // an unused place that isn't 0
     Unused,
     // buffer shorter than the text

@@ -17,7 +17,7 @@ use mir.Val.{SFits, ofZ}
 use borrow.Author.Tests.{leb-true, leb-false, eqb-true, eqb-false, eq-eqb, ne-eqb}
 use Rattle.table.specs.Mask.{pick, bit, also, membersFrom, members}
 use Rattle.table.specs.MaskLaws.{bit-above}
-use Rattle.machine.specs.Step.{stopNumber, spent, badToss, node, bad, tossed as tossedTo, toss, chooseFrom, choose}
+use Rattle.machine.specs.Step.{stopNumber, valuesSpent, badToss, node, bad, tossed as tossedTo, toss, chooseFrom, choose}
 use Rattle.tosses.specs.Tosses.{halting, meeting, targetAt, tossed, Arrived, oneKept, directOf}
 use Rattle.tosses.specs.declared.Chosen.{Chosen}
 
@@ -168,7 +168,7 @@ module _ (arc keep : ℕ) (vs : List ℤ) (used : ℕ) (w : used ≤ length vs) 
   Tossing r = Arrived arc keep vs used r
 
   module _ (a b : ℕ) (l : List ℕ) (two : members arc ≡ a ∷ b ∷ l) where
-    spent-is : length vs ≤ used → choose arc (drop used vs) ≡ bad spent
+    spent-is : length vs ≤ used → choose arc (drop used vs) ≡ bad valuesSpent
     unfolding choose
     spent-is h = rw (two, drop-of-length-le vs h) refl
 

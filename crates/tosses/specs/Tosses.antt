@@ -7,12 +7,12 @@ use lib.ListN.{length, getD, drop}
 use lib.Dec.{eqb, leb}
 use lib.IntN.{ℤ, pos, negsuc}
 use Rattle.table.specs.Mask.{pick, bit, members}
-use Rattle.machine.specs.Step.{Stop, tooMany, spent, badToss, stopNumber, Choice, nowhere, node, bad, choose}
+use Rattle.machine.specs.Step.{Stop, tooMany, valuesSpent, badToss, stopNumber, Choice, nowhere, node, bad, choose}
 use Rattle.tosses.specs.declared.Chosen.{Chosen}
 
 -- ---- the stop that a number stands for, of those that come within a step
 abbrev pub stopOf : ℕ → Stop
-stopOf n = pick (eqb n 14) tooMany (pick (eqb n 15) spent badToss)
+stopOf n = pick (eqb n 14) tooMany (pick (eqb n 15) valuesSpent badToss)
 
 -- n is 0 or such a number
 abbrev pub Named : ℕ → Type 0

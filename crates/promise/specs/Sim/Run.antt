@@ -13,7 +13,7 @@ use Rattle.table.specs.declared.Table.{Table}
 use Rattle.closing.specs.ReachLaws.{cases}
 use Rattle.closing.specs.Close.{closedWith, closeTable}
 use Rattle.machine.specs.declared.State.{State}
-use Rattle.machine.specs.Step.{Stop, noTask, logFull, taskLost, taskBlocked, tooMany, spent, badToss, stopNumber, Kept, Entry, Step, stopped, stepped, step}
+use Rattle.machine.specs.Step.{Stop, noSuchTask, logFull, taskLost, taskBlocked, tooMany, valuesSpent, badToss, stopNumber, Kept, Entry, Step, stopped, stepped, step}
 use Rattle.machine.specs.Run.{entryBytes, Ran, turn, afterStep, runFrom}
 use Rattle.machine.specs.History.{History, afterEntry, afterTurn, historyFrom}
 use Rattle.promise.specs.Sim.Wf.{Wf}
@@ -27,12 +27,12 @@ use Rattle.promise.specs.Sim.Log.{SameLogs, log-next}
 
 pub stop-number : (c : Stop) → stopNumber c ≡ 0 → ⊥
 unfolding stopNumber
-stop-number noTask e = absurd (omega arith)
+stop-number noSuchTask e = absurd (omega arith)
 stop-number logFull e = absurd (omega arith)
 stop-number taskLost e = absurd (omega arith)
 stop-number taskBlocked e = absurd (omega arith)
 stop-number tooMany e = absurd (omega arith)
-stop-number spent e = absurd (omega arith)
+stop-number valuesSpent e = absurd (omega arith)
 stop-number badToss e = absurd (omega arith)
 
 module _ (u : Table) (keep : Kept) (most : ℕ) (k : ℕ) (ks : List ℕ) (n : ℕ) (s : State) (rest : List ℤ) (log : List ℕ) where

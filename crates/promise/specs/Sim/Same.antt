@@ -19,7 +19,7 @@ use Rattle.closing.specs.ReachLaws.{cases}
 use Rattle.machine.specs.declared.Frame.{Frame}
 use Rattle.machine.specs.declared.State.{State}
 use Rattle.machine.specs.State.{noFrame, openFrames, isLost, place, frameAt, topmost}
-use Rattle.machine.specs.Step.{Memory, landed, called, closed}
+use Rattle.machine.specs.Step.{Memory, landed, called, returned}
 use Rattle.machine.specs.History.{History, lastSetting}
 use Rattle.promise.specs.Sim.Stores.{frame-same, frame-other}
 use Rattle.promise.specs.Sim.Locals.{Last, keptAt, Locals, Shared}
@@ -67,7 +67,7 @@ module _ (s : State) (k j : ℕ) (depths : length (s .depth) ≡ 4) (places : le
   }
 
   -- the topmost frame is closed, and the one below it goes on
-  pub return-touch : (p n : ℕ) (m : Memory) → openFrames s k ≡ suc (suc j) → suc j < 8 → Touched s (landed (closed s k) k j p (some n) m) k j (record { proc = p; node = n; vars = m .vars })
+  pub return-touch : (p n : ℕ) (m : Memory) → openFrames s k ≡ suc (suc j) → suc j < 8 → Touched s (landed (returned s k) k j p (some n) m) k j (record { proc = p; node = n; vars = m .vars })
   return-touch p n m d l′ = record {
     depths = length-set (s .depth) k _ ∙ depths;
     places = size;

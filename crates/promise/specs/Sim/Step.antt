@@ -21,7 +21,7 @@ use Rattle.closing.specs.CloseLaws.{kept-node}
 use Rattle.machine.specs.declared.Frame.{Frame}
 use Rattle.machine.specs.declared.State.{State}
 use Rattle.machine.specs.State.{openFrames, isLost, frameAt, topmost, standsBefore, blockedAt, blocked}
-use Rattle.machine.specs.Step.{Memory, Did, exec, choose, Walk, halts, arrives, along, onward, walk, calls, returns, stays, flow, Entry, Step, stopped, stepped, taskBlocked, landed, settled, entering, called, closed, memory, flowed, entryOf, stepOf, before, unless, step}
+use Rattle.machine.specs.Step.{Memory, Did, exec, choose, Walk, halts, arrives, along, onward, walk, calls, returns, stays, flow, Entry, Step, stopped, stepped, taskBlocked, landed, settled, entering, called, returned, memory, flowed, entryOf, stepOf, before, unless, step}
 use Rattle.machine.specs.History.{History, executed, entered, afterFlow, afterEntry, lastSetting}
 use Rattle.promise.specs.Sim.Wf.{Wf}
 use Rattle.promise.specs.Sim.Locals.{Last, keptAt, mark, marks, marks-append, mark-other, sets-nothing, Locals, still, move, Shared}
@@ -229,7 +229,7 @@ module _ (t : Table) (wf : Wf t) (most most′ : ℕ) (h : History) (s s′ : St
           still t p (l .to) (mark t p n la₁) la₁ (g .vars) (g′ .vars) (λ v. sym (mark-other t p n v la₁ (sets-nothing t p n v no-set))) (move t p n (l .to) la₁ (g .vars) (g′ .vars) no-set (l .into) (caller .locals))
 
       resume : List ℤ → ℕ → ℕ → Frame → ℕ → Step
-      resume us j p g a = settled e′ (closed s′ k) k j p (along (λ n m ws. walk t′ allKept p most′ n m ws) (memory s′ g) (choose a us))
+      resume us j p g a = settled e′ (returned s′ k) k j p (along (λ n m ws. walk t′ allKept p most′ n m ws) (memory s′ g) (choose a us))
 
       -- the closed run's step
       return-closes : x ≡ Return → (us : List ℤ) → stepOf t′ allKept most′ s′ k us ≡ resume us j (g .proc) g′ (arcOf t (g .proc) (arcTo (nodeOf t g)))
@@ -249,7 +249,7 @@ module _ (t : Table) (wf : Wf t) (most most′ : ℕ) (h : History) (s s′ : St
         let p = g j open-is .proc in
         let a = arcTo (nodeOf t (g j open-is)) in
         let j< : suc j < 8 = omega (arith, task .few-open) in
-        let on = settle (closed s k) (closed s′ k) j p a (memory s′ (g′ j open-is)) (la₁ j open-is) (omega arith) (omega arith)
+        let on = settle (returned s k) (returned s′ k) j p a (memory s′ (g′ j open-is)) (la₁ j open-is) (omega arith) (omega arith)
         (λ n₁ m₁. return-touch s k j (q .depths) (q .places) k<4 (omega arith) p n₁ m₁ open-is j<)
         (λ n₁ m₁. return-touch s′ k j (q .depths′) (q .places′) k<4 (omega arith) p n₁ m₁ (sym (task .depth) ∙ open-is) j<)
         (λ ns. ns)
