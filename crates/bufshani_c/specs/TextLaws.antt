@@ -32,10 +32,10 @@ module _ (s ks : List ℕ) (vs : List ℤ) (most : ℕ) (log : List ℕ) (r : Re
   unfolding stepped
   from-text = rw e
 
-  pub stepped-refused : (r .number ≡ 0 → ⊥) → (let x : Coded = record { answer = packed (r .number) 0; buffer = log } in x) ≡ stepped s ks vs most log
+  pub stepped-refused : (r .number ≡ 0 → ⊥) → (let x : Coded = record { answer = packed (r .number) (r .line); buffer = log } in x) ≡ stepped s ks vs most log
   stepped-refused h = go (r .number) h ∙ from-text
     where
-      go : (n : ℕ) → (n ≡ 0 → ⊥) → (let x : Coded = record { answer = packed n 0; buffer = log } in x) ≡ running n r ks vs most log
+      go : (n : ℕ) → (n ≡ 0 → ⊥) → (let x : Coded = record { answer = packed n (r .line); buffer = log } in x) ≡ running n r ks vs most log
       go zero k = absurd (k refl)
       go (suc n) k = refl
 

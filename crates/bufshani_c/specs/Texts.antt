@@ -23,13 +23,13 @@ rewriting (suc n) r out = record { answer = packed (suc n) (r .line); buffer = o
 unfoldable pub rewritten : List ℕ → List ℕ → Coded
 rewritten s out = let r = read s in rewriting (r .number) r out
 
--- a text's run: its stop number and the steps completed, with the log; a refused text completes no step
+-- a text's run: its stop number and the steps completed, with the log; or the number and line of the text's refusal
 abbrev pub afterRunning : Ran → Coded
 afterRunning w = record { answer = packed (w .answer .stop) (w .answer .steps); buffer = w .log }
 
 abbrev pub running : ℕ → Reading → List ℕ → List ℤ → ℕ → List ℕ → Coded
 running zero r ks vs most log = afterRunning (run (r .table) ks vs most log)
-running (suc n) r ks vs most log = record { answer = packed (suc n) 0; buffer = log }
+running (suc n) r ks vs most log = record { answer = packed (suc n) (r .line); buffer = log }
 
 unfoldable pub stepped : List ℕ → List ℕ → List ℤ → ℕ → List ℕ → Coded
 stepped s ks vs most log = let r = read s in running (r .number) r ks vs most log

@@ -1,4 +1,4 @@
-// The library for Rust and C: texts and numbers in, numbers and lent bytes out. A refusal is its number times 2^32 plus its line.
+// The library for Rust and C: texts and numbers in, numbers and lent bytes out. A refusal is its number times 2^32 plus its line (`packed`).
 use codes::pack;
 ghost use mathlib.Core.Path.{_≡_};
 ghost use Rattle.text.specs.Reader.{read};
@@ -40,7 +40,8 @@ pub extern "C" fn bufshani_close(text: &[u8], out: &mut [u8]) -> usize
     bufshani::close_text(text, out)
 }
 
-// What the program `run` prints for a text, as far as the buffer reaches, and its length.
+// What the program `run` prints for a text, as far as the buffer reaches, and its length, at most 4,400,000. Of the log buffer the first
+// 524,288 bytes are used, which is room for 65,536 steps.
 #[no_mangle]
 pub extern "C" fn bufshani_run(
     text: &[u8],
@@ -55,7 +56,8 @@ pub extern "C" fn bufshani_run(
     run_text::run_text(text, schedule, values, most, log, out)
 }
 
-// Runs the table of a text with no report: the stop number times 2^32 plus the steps completed.
+// Runs the table of a text with no report: the stop number times 2^32 plus the low 32 bits of the steps completed, or the refusal of the text. All
+// of the log buffer is used.
 #[no_mangle]
 pub extern "C" fn bufshani_steps(
     text: &[u8],
@@ -69,7 +71,7 @@ pub extern "C" fn bufshani_steps(
 {
     let r = reader::read(text);
     if r.number != 0 {
-        return pack(r.number, 0);
+        return pack(r.number, r.line);
     }
     let t = r.table;
     let a = bufshani::run(t, schedule, values, most, log);

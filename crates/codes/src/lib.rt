@@ -2,7 +2,7 @@
 ghost use mathlib.Core.Path.{_≡_};
 ghost use Rattle.codes.specs.Code.{packed};
 
-// A fault's or a stop's number above 2^32, and a line, a length or a count of steps below it.
+// A fault's or a stop's number times 2^32, plus the low 32 bits of a line, a length or a count of steps.
 pub fn pack(number: u8, low: usize) -> u64
     ensures { λ r. ⌜ r ≡ packed number low ⌝ }
 {
