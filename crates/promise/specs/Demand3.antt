@@ -3,7 +3,7 @@
 use Prim.Native.Nat.{ℕ, suc, _+_, _*_, _<_, _≤_}
 use mathlib.Core.Path.{_≡_}
 use mathlib.Core.Bool.{false}
-use mathlib.Core.List.{List}
+use mathlib.Core.List.{List, List·Memᴰ}
 use mathlib.Core.Option.{Option, none, some}
 use lib.ListN.{length, getD, take}
 use lib.IntN.{ℤ, pos}
@@ -79,13 +79,20 @@ module _ (t : Table) (vs : List ℤ) (ks : List ℕ) (most most′ : ℕ) (log l
     -- "At the start and after each step the two agree"
     pub agree : (n : ℕ) → n ≤ length ks → SameRun t (history t (take n ks) vs most log) n (openRun n) (closedRun ts n)
 
+-- "value i choosing the i-th from 0": an arc has at most 32 targets, so each toss is one of the 32-bit values that the runner takes
+abbrev pub Toss : ℤ → Type 0
+Toss z = (i : ℕ) × (z ≡ pos i) × (i < 32)
+
+abbrev pub Tosses : List ℤ → Type 0
+Tosses ts = (z : ℤ) → List·Memᴰ z ts → Toss z
+
 -- "For every table that the closer accepts, .. for every list of inputs and every list of task numbers, empty ones too: if the open run completes, .."
 abbrev pub Demand3 : Type 0
 Demand3 =
     (t : Table) → close t .number ≡ 0
     → (vs : List ℤ) (ks : List ℕ) (most most′ : ℕ) (log log′ : List ℕ) → length log′ ≡ length log
     → run t ks vs most log .answer .stop ≡ 0
-    → (ts : List ℤ) × Partner t vs ks most most′ log log′ ts
+    → (ts : List ℤ) × Tosses ts × Partner t vs ks most most′ log log′ ts
 
 -- ---- its consequences, for such a pair of runs after n steps
 

@@ -26,7 +26,7 @@ use Rattle.machine.specs.State.{openFrames, topmost, varAt, standsBefore, stand
 use Rattle.machine.specs.Step.{valuesSpent, Kept, keptOf, keptIn, fails, failing}
 use Rattle.machine.specs.Run.{Ran, runFrom, runBegun, runChecked, run}
 use Rattle.machine.specs.History.{History, lastSetting, historyFrom, historyBegun, history}
-use Rattle.promise.specs.Demand3.{CleanSetting, SameState, openRun, closedRun, Demand3, SameStandstill, SameFailure}
+use Rattle.promise.specs.Demand3.{CleanSetting, SameState, openRun, closedRun, Tosses, Demand3, SameStandstill, SameFailure}
 use Rattle.promise.specs.Sim.Wf.{Wf}
 use Rattle.promise.specs.Sim.Locals.{settingOf, D, keptAt, not-dirty}
 use Rattle.promise.specs.Sim.Exec.{closing}
@@ -89,6 +89,7 @@ module _ (wf : (t : Table) → close t .number ≡ 0 → Wf t) (sound : (t : Tab
     record Followed (ts : List ℤ) : Type 0 where
       completes : run (close t .table) ks ts most′ log′ .answer .stop ≡ 0
       used-up : run (close t .table) ks ts most′ log′ .answer .used ≡ length ts
+      small : Tosses ts
       each : (n : ℕ) → n ≤ length ks → Strong t t-wf most most′ (history t (take n ks) vs most log) n (opened n) (shut ts n)
 
     open-is : (js : List ℕ) (s : State) (rest : List ℤ) → begin t vs ≡ begun s rest → run t js vs most log ≡ runFrom t (keptAt t) most vs js 0 s rest log
@@ -115,6 +116,7 @@ module _ (wf : (t : Table) → close t .number ≡ 0 → Wf t) (sound : (t : Tab
               record {
                 completes = ap (λ (z : Ran). z .answer .stop) (shut-is ks ts (q .state′) (q .closes ts)) ∙ f .completes;
                 used-up = ap (λ (z : Ran). z .answer .used) (shut-is ks ts (q .state′) (q .closes ts)) ∙ f .used-up;
+                small = f .small;
                 each = λ n l. rw (noted-is (take n ks) s rest i, open-is (take n ks) s rest i, shut-is (take n ks) ts (q .state′) (q .closes ts)) (rw zero-add at (f .each n l));
               },
             )
@@ -126,6 +128,7 @@ module _ (wf : (t : Table) → close t .number ≡ 0 → Wf t) (sound : (t : Tab
       let r = follow t ok vs ks most most′ log log′ size c in
       let f = r .1 in (
         r .0,
+        f .small,
         record {
           completes = f .completes;
           used-up = f .used-up;

@@ -6,6 +6,7 @@ use mathlib.Core.Path.{_≡_, refl, _∙_, ap}
 use mathlib.Core.Bool.{Bool, true, false}
 use mathlib.Core.Logic.{_↔_}
 use mathlib.Core.List.{List·Memᴰ, List·Memᴰ·head, List·Memᴰ·tail, List·Memᴰ·not-nil}
+use lib.ListN.{length}
 use lib.Dec.{eqb}
 use lib.Pow.{pow-pos, pow-mono, pow-add}
 use borrow.Author.Tests.{eqb-true, eqb-false}
@@ -95,3 +96,16 @@ from-out (suc n) j k m d = go (bit j m) refl d (λ d. from-out n (suc j) k m d)
 -- a number is listed if and only if it is in the mask and has one of the 32 places
 pub members-is : (k m : ℕ) → List·Memᴰ k (members m) ↔ ((bit k m ≡ true) × (k < 32))
 members-is k m = (from-out 32 0 k m, λ h. from-in 32 0 k m (omega arith) (h .1) (h .0))
+
+-- so there are at most 32
+from-few : (n k m : ℕ) → length (membersFrom n k m) ≤ n
+unfolding membersFrom
+from-few zero k m = omega arith
+from-few (suc n) k m = go (bit k m) (from-few n (suc k) m)
+  where
+    go : (b : Bool) → length (membersFrom n (suc k) m) ≤ n → length (also b k (membersFrom n (suc k) m)) ≤ suc n
+    go true h = omega arith
+    go false h = omega arith
+
+pub members-few : (m : ℕ) → length (members m) ≤ 32
+members-few m = from-few 32 0 m

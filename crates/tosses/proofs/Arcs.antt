@@ -16,7 +16,7 @@ use mir.Syntax.{w32}
 use mir.Val.{SFits, ofZ}
 use borrow.Author.Tests.{leb-true, leb-false, eqb-true, eqb-false, eq-eqb, ne-eqb}
 use Rattle.table.specs.Mask.{pick, bit, also, membersFrom, members}
-use Rattle.table.specs.MaskLaws.{bit-above}
+use Rattle.table.specs.MaskLaws.{bit-above, members-few}
 use Rattle.machine.specs.Step.{stopNumber, valuesSpent, badToss, node, bad, tossed as tossedTo, toss, chooseFrom, choose}
 use Rattle.tosses.specs.Tosses.{halting, meeting, targetAt, tossed, Arrived, oneKept, directOf}
 use Rattle.tosses.specs.declared.Chosen.{Chosen}
@@ -124,19 +124,10 @@ elem-none (suc n) k m i d h e = go (bit k m) i e (λ i. elem-none n (suc k) m i 
     go true (suc i) e f = f i e
     go false i e f = f i e
 
-few : (n k m : ℕ) → length (membersFrom n k m) ≤ n
-unfolding membersFrom
-few zero k m = omega arith
-few (suc n) k m = go (bit k m) (few n (suc k) m)
-  where
-    go : (b : Bool) → length (membersFrom n (suc k) m) ≤ n → length (also b k (membersFrom n (suc k) m)) ≤ suc n
-    go true h = omega arith
-    go false h = omega arith
-
 -- a negative value is past every target when its bits are taken
 pub target-is : (m : ℕ) (x : ℤ) → SFits w32 x → getD (members m) (ofZ w32 x) 32 ≡ targetAt (members m) x
 target-is m (pos i) f = refl
-target-is m (negsuc i) f = List·getD-eq-default (members m) 32 (omega (arith, few 32 0 m, f .sfits))
+target-is m (negsuc i) f = List·getD-eq-default (members m) 32 (omega (arith, members-few m, f .sfits))
 
 -- ---- what an arc's answers say
 

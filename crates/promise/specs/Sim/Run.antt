@@ -11,11 +11,13 @@ use lib.IntN.{ℤ}
 use borrow.Author.Tests.{ltb-true, ltb-false, lt-ltb, le-ltb}
 use Rattle.table.specs.declared.Table.{Table}
 use Rattle.closing.specs.ReachLaws.{cases}
+use Rattle.closing.specs.ListLaws.{all-nil, all-append}
 use Rattle.closing.specs.Close.{closedWith, closeTable}
 use Rattle.machine.specs.declared.State.{State}
 use Rattle.machine.specs.Step.{Stop, noSuchTask, logFull, taskLost, taskBlocked, tooMany, valuesSpent, badToss, stopNumber, Kept, Entry, Step, stopped, stepped, step}
 use Rattle.machine.specs.Run.{entryBytes, Ran, turn, afterStep, runFrom}
 use Rattle.machine.specs.History.{History, afterEntry, afterTurn, historyFrom}
+use Rattle.promise.specs.Demand3.{Toss, Tosses}
 use Rattle.promise.specs.Sim.Wf.{Wf}
 use Rattle.promise.specs.Sim.Locals.{keptAt}
 use Rattle.promise.specs.Sim.Walk.{allKept}
@@ -55,6 +57,7 @@ module _ (t : Table) (wf : Wf t) (most most′ : ℕ) where
     entry′ : Entry
     state′ : State
     tosses : List ℤ
+    small : Tosses tosses
     closes : (ws : List ℤ) → turn t′ allKept most′ k n s′ (tosses ++ ws) log′ ≡ stepped entry′ [] state′ ws
     entries : SameEntry e entry′
     states : Same t (afterEntry t s e ns h) s₁ state′
@@ -75,6 +78,7 @@ module _ (t : Table) (wf : Wf t) (most most′ : ℕ) where
     entry′ = d .entry′;
     state′ = d .state′;
     tosses = d .tosses;
+    small = d .small;
     closes = λ ws. turn-is t′ allKept most′ k n s′ (d .tosses ++ ws) log′ (rw same-tasks k<) (omega arith) ∙ d .closes ws;
     entries = d .entries;
     states = d .states;
@@ -114,6 +118,7 @@ module _ (t : Table) (wf : Wf t) (most most′ : ℕ) where
     pub record Follows (ks : List ℕ) (n : ℕ) (s s′ : State) (h : History) (rest : List ℤ) (log log′ : List ℕ) (ts all′ : List ℤ) : Type 0 where
       pub completes : closes all′ ks n s′ ts log′ .answer .stop ≡ 0
       pub used-up : closes all′ ks n s′ ts log′ .answer .used ≡ length all′
+      pub small : Tosses ts
       pub each : (m : ℕ) → m ≤ length ks → Strong (noted (take m ks) n s rest log h) (n + m) (opens (take m ks) n s rest log) (closes all′ (take m ks) n s′ ts log′)
 
     -- before any step
@@ -131,6 +136,7 @@ module _ (t : Table) (wf : Wf t) (most most′ : ℕ) where
     one-more k ks n s s′ h rest log log′ e ns s₁ vs ts all′ q l i d f = record {
       completes = rw (closed-is ks) (f .completes);
       used-up = rw (closed-is ks) (f .used-up);
+      small = all-append Toss (d .tosses) ts (d .small) (f .small);
       each = each;
     }
       where
@@ -147,7 +153,7 @@ module _ (t : Table) (wf : Wf t) (most most′ : ℕ) where
     pub run-sim : (ks : List ℕ) (n : ℕ) (s s′ : State) (h : History) (rest : List ℤ) (log log′ : List ℕ) → Same t h s s′ → SameLogs n log log′ → length log′ ≡ length log
         → opens ks n s rest log .answer .stop ≡ 0 → (ts : List ℤ) × ((all′ : List ℤ) → Follows ks n s s′ h rest log log′ ts all′)
     unfolding runFrom
-    run-sim [] n s s′ h rest log log′ q l size c = ([], λ all′. record { completes = refl; used-up = sub-zero (length all′); each = each all′ })
+    run-sim [] n s s′ h rest log log′ q l size c = ([], λ all′. record { completes = refl; used-up = sub-zero (length all′); small = all-nil Toss; each = each all′ })
       where
         each : (all′ : List ℤ) (m : ℕ) → m ≤ 0 → Strong (noted (take m []) n s rest log h) (n + m) (opens (take m []) n s rest log) (closes all′ (take m []) n s′ [] log′)
         each all′ zero a = none-yet n s s′ h rest log log′ [] all′ q l

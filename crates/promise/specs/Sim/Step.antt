@@ -15,6 +15,7 @@ use Rattle.table.specs.declared.Node.{Node}
 use Rattle.table.specs.declared.Node.the-variants.{Absent, Start, Set, Test, Read, Call, Wait, Signal, Send, Recv, Assert, Out, Return}
 use Rattle.table.specs.declared.Table.{Table}
 use Rattle.closing.specs.ReachLaws.{cases}
+use Rattle.closing.specs.ListLaws.{all-nil}
 use Rattle.closing.specs.Closing.{dirty}
 use Rattle.closing.specs.Close.{argsOr, closedNode, closeTable}
 use Rattle.closing.specs.CloseLaws.{kept-node}
@@ -23,6 +24,7 @@ use Rattle.machine.specs.declared.State.{State}
 use Rattle.machine.specs.State.{openFrames, isLost, frameAt, topmost, standsBefore, blockedAt, blocked}
 use Rattle.machine.specs.Step.{Memory, Did, exec, choose, Walk, halts, arrives, along, onward, walk, calls, returns, stays, flow, Entry, Step, stopped, stepped, taskBlocked, landed, settled, entering, called, returned, memory, flowed, entryOf, stepOf, before, unless, step}
 use Rattle.machine.specs.History.{History, executed, entered, afterFlow, afterEntry, lastSetting}
+use Rattle.promise.specs.Demand3.{Toss, Tosses}
 use Rattle.promise.specs.Sim.Wf.{Wf}
 use Rattle.promise.specs.Sim.Locals.{Last, keptAt, mark, marks, marks-append, mark-other, sets-nothing, Locals, still, move, Shared}
 use Rattle.promise.specs.Sim.Exec.{SameValue, arcOf, closing, Leading, by-to, Matched, exec-sim, log-sim}
@@ -74,6 +76,7 @@ module _ (t : Table) (wf : Wf t) (most most′ : ℕ) (h : History) (s s′ : St
     pub entry′ : Entry
     pub state′ : State
     pub tosses : List ℤ
+    pub small : Tosses tosses
     pub closes : (ws : List ℤ) → step t′ allKept most′ s′ k (tosses ++ ws) ≡ stepped entry′ [] state′ ws
     pub entries : SameEntry e entry′
     pub states : Same t (afterEntry t s e ns h) s₁ state′
@@ -161,6 +164,7 @@ module _ (t : Table) (wf : Wf t) (most most′ : ℕ) (h : History) (s s′ : St
         entry′ = e′;
         state′ = landed s₀′ k j p (some (r .at)) g;
         tosses = r .tosses;
+        small = r .small;
         closes = λ ws. step-is (r .tosses ++ ws) ∙ closes (r .tosses ++ ws) ∙ ap (settled e′ s₀′ k j p) (r .closes ws);
         entries = same-entry;
         states = rw (hist ns) (settle-states (r .at) m ns (r .keeps) (r .locals) (r .shared));
@@ -280,6 +284,7 @@ module _ (t : Table) (wf : Wf t) (most most′ : ℕ) (h : History) (s s′ : St
           entry′ = e′;
           state′ = called s′ k (entering (f′ .vars) c xs′);
           tosses = [];
+          small = all-nil Toss;
           closes = λ ws. step-is ws ∙ ap (λ (z : Node). flowed t′ allKept most′ e′ s′ k f′ z ws (flow z)) (x′-is ∙ ap (closing t (f .proc) (f .node)) i);
           entries = same-entry;
           states = subst (λ (h₁ : History). Same t h₁ (called s k (entering (f .vars) c xs)) (called s′ k (entering (f′ .vars) c xs′)))

@@ -3,8 +3,8 @@ use Prim.Native.Nat.{ℕ, zero, suc}
 use mathlib.Core.Path.{_≡_, refl, _∙_, ap}
 use mathlib.Core.Bool.{true, false}
 use mathlib.Core.Option.{Option, some}
-use mathlib.Core.List.{List, [], _∷_, _++_, List·Memᴰ, List·Memᴰ·head}
-use lib.IntN.{ℤ}
+use mathlib.Core.List.{List, [], _∷_, _++_, map, List·Memᴰ, List·Memᴰ·head}
+use lib.IntN.{ℤ, pos}
 use Rattle.table.specs.Mask.{members}
 use Rattle.table.specs.MaskLaws.{members-is}
 use Rattle.table.specs.Table.{nodeAt, isAbsent}
@@ -13,10 +13,12 @@ use Rattle.closing.specs.ReachLaws.{cases}
 use Rattle.closing.specs.Dirty.{Leads, target, through}
 use Rattle.closing.specs.Close.{closeTable}
 use Rattle.closing.specs.KeptLaws.{unkept-is}
+use Rattle.closing.specs.ListLaws.{all-map}
 use Rattle.closing.specs.ArcLaws.{leads-below, arc-is}
 use Rattle.machine.specs.Step.{Memory, Did, stops, goes, exec, choose, Kept, Walk, halts, arrives, along, onward, noting, walk}
 use Rattle.machine.specs.StepLaws.{choose-one, choose-some}
 use Rattle.machine.specs.History.{lastSetting}
+use Rattle.promise.specs.Demand3.{Toss, Tosses}
 use Rattle.promise.specs.Sim.Wf.{Wf}
 use Rattle.promise.specs.Sim.Locals.{Last, keptAt, mark, marks, Locals, Shared}
 use Rattle.promise.specs.Sim.Exec.{WhenGoes, arcOf, Leading, Passed, dropped-sim}
@@ -94,6 +96,7 @@ module _ (t : Table) (wf : Wf t) (p : ℕ) where
     pub is : w ≡ some at
     pub keeps : keptAt t p at ≡ true
     pub tosses : List ℤ
+    pub small : Tosses tosses
     pub closes : (ws : List ℤ) → along (λ k x us. walk (closeTable t) allKept p most′ k x us) g (choose (arcOf t p a) (tosses ++ ws)) ≡ arrives (some at) g ws []
     pub locals : Locals t p at (marks t p la ns) (m .vars) (g .vars)
     pub shared : Shared t (m .sems) (m .queues) (g .sems) (g .queues)
@@ -106,8 +109,9 @@ module _ (t : Table) (wf : Wf t) (p : ℕ) where
         at = r .at;
         is = r .is;
         keeps = r .keeps;
-        tosses = c .0;
-        closes = λ ws. ap (along (λ k x us. walk (closeTable t) allKept p most′ k x us) g) (c .1 ws) ∙ closed-walk (closeTable t) p most′ (r .at) g ws;
+        tosses = map pos (c .0);
+        small = all-map Toss pos (c .0) (λ i m. (i, refl, c .1 i m));
+        closes = λ ws. ap (along (λ k x us. walk (closeTable t) allKept p most′ k x us) g) (c .2 ws) ∙ closed-walk (closeTable t) p most′ (r .at) g ws;
         locals = r .locals;
         shared = r .shared;
       }
