@@ -16,7 +16,7 @@ use Rattle.text.specs.NumberLaws.{cases, byOrder}
 use Rattle.text.specs.Reader.{countRight}
 use Rattle.text.specs.Writer.{scope, fault}
 use Rattle.text.specs.Right.{OperandIn}
-use Rattle.text.specs.TableLaws.{Shaped}
+use Rattle.table.specs.Shape.{Shaped}
 use Rattle.text.specs.Valid.{Valid, NodeValid, Named}
 use Rattle.text.specs.ValidLaws.{valid-of, absent-is, far-empty, inside-of, named-open}
 use Rattle.analysis.specs.Ready.{One, FitsOperand, FitsNode, Ready}

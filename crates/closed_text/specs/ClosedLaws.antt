@@ -9,7 +9,7 @@ use Rattle.table.specs.declared.Queue.{Queue}
 use Rattle.table.specs.declared.Proc.{Proc}
 use Rattle.table.specs.declared.Table.{Table}
 use Rattle.text.specs.Writer.{text, fault}
-use Rattle.text.specs.TableLaws.{Shaped}
+use Rattle.table.specs.Shape.{Shaped}
 use Rattle.closing.specs.Close.{closedWith, closeTable}
 use Rattle.closing.specs.CloseLaws.{close-proc}
 use Rattle.closing.specs.ClosedValid.{closed-fault}

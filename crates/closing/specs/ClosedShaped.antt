@@ -12,7 +12,7 @@ use Rattle.table.specs.declared.Node.{Node}
 use Rattle.table.specs.declared.Node.the-variants.{Absent, Start, Set, Test, Read, Call, Wait, Signal, Send, Recv, Assert, Out, Return}
 use Rattle.table.specs.declared.Proc.{Proc}
 use Rattle.table.specs.declared.Table.{Table}
-use Rattle.text.specs.TableLaws.{Shaped}
+use Rattle.table.specs.Shape.{Shaped}
 use Rattle.closing.specs.ReachLaws.{cases}
 use Rattle.closing.specs.Closing.{dirty, kept}
 use Rattle.closing.specs.Close.{mapFrom, unkeptArcs, keptAmong, newArc, closedNode, closedProc, closedWith, closeTable}

@@ -8,6 +8,7 @@ use native.Mathlib.Omega.{arith}
 use borrow.Author.Tests.{le-ltb}
 use lib.Dec.{ltb}
 use lib.ListN.{length, take, drop}
+use Rattle.table.specs.Shape.{Shaped}
 use Rattle.table.specs.declared.Table.{Table}
 use Rattle.text.specs.declared.Reading.{Reading}
 use Rattle.text.specs.declared.Writing.{Writing}
@@ -15,7 +16,7 @@ use Rattle.text.specs.declared.Fault.the-variants.{Short}
 use Rattle.text.specs.Fault.{number}
 use Rattle.text.specs.Reader.{read}
 use Rattle.text.specs.Writer.{text, fault, Written, unwritten, whole, fitted, unlessFault, writeTo}
-use Rattle.text.specs.RoundTrip.{Shaped, read-good, read-fault}
+use Rattle.text.specs.RoundTrip.{read-good, read-fault}
 use Rattle.promise.specs.Theorems.{written-read, read-written}
 
 -- `write(t, out)` answered w and left the buffer so

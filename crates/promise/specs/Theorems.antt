@@ -2,10 +2,11 @@
 use Prim.Native.Nat.{ℕ}
 use mathlib.Core.Path.{_≡_}
 use mathlib.Core.List.{List}
+use Rattle.table.specs.Shape.{Shaped}
 use Rattle.table.specs.declared.Table.{Table}
 use Rattle.text.specs.Reader.{read}
 use Rattle.text.specs.Writer.{text, fault}
-use Rattle.text.specs.RoundTrip.{Shaped, read-text}
+use Rattle.text.specs.RoundTrip.{read-text}
 use Rattle.text.specs.TextLength.{write-read-whole}
 use Rattle.closing.specs.Close.{close}
 use Rattle.closing.specs.ClosedValid.{closed-fault}

@@ -14,7 +14,7 @@ use Rattle.table.specs.declared.Table.{Table}
 use Rattle.text.specs.NumberLaws.{cases, byOrder, and-left}
 use Rattle.text.specs.Reader.{countRight}
 use Rattle.text.specs.Writer.{scope, fault, queueEmpty, isZero}
-use Rattle.text.specs.TableLaws.{Shaped}
+use Rattle.table.specs.Shape.{Shaped}
 use Rattle.text.specs.Valid.{Valid, NodeValid}
 use Rattle.text.specs.ValidLaws.{valid-of, absent-is, far-empty, inside-of, tidy-parts, all-behind}
 use Rattle.machine.specs.Step.{keptIn}

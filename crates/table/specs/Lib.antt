@@ -2,4 +2,5 @@ pub mod Mask
 pub mod MaskLaws
 pub mod Values
 pub mod Table
+pub mod Shape
 pub mod Computing

@@ -6,6 +6,7 @@ use mathlib.Core.Bool.{true}
 use native.Mathlib.Omega.{arith}
 use lib.Dec.{ltb}
 use lib.ListN.{length}
+use Rattle.table.specs.Shape.{Shaped}
 use Rattle.table.specs.declared.Table.{Table}
 use Rattle.text.specs.declared.Fault.{Fault}
 use Rattle.text.specs.declared.Fault.the-variants.{Long, Form, Misspelt, Ended, Range, Index, Reference, Arguments, Unclosed, Unused, Short}
@@ -14,7 +15,6 @@ use Rattle.text.specs.NumberLaws.{cases}
 use Rattle.text.specs.Reader.{Result, good, bad, readLines, reading, read}
 use Rattle.text.specs.Writer.{text, tidy, faultIn, fault}
 use Rattle.text.specs.TableLaws.{Lines, accepted}
-pub use Rattle.text.specs.TableLaws.{Shaped}
 
 -- an accepted text, read and written, is the same text
 pub read-write : (s : List ℕ) (t : Table) → readLines s ≡ good t → text t ≡ s

@@ -25,7 +25,7 @@ use Rattle.table.specs.declared.Node.{Node}
 use Rattle.table.specs.declared.Node.the-variants.{Absent, Start, Set, Test, Read, Call, Wait, Signal, Send, Recv, Assert, Out, Return}
 use Rattle.table.specs.declared.Proc.{Proc}
 use Rattle.table.specs.declared.Table.{Table}
-use Rattle.text.specs.TableLaws.{Shaped}
+use Rattle.table.specs.Shape.{Shaped}
 
 -- x is a value of the type: some machine values are its
 abbrev pub Of : (F : Field) → F .Value → Type 0

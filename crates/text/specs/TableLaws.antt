@@ -9,6 +9,7 @@ use lib.ListN.{length, getD, drop, replicate, getD-replicate, List·getD-eq-defa
 use lib.Seq.{getD-drop}
 use borrow.Author.Tests.{eqb-true, not-true}
 use Rattle.table.specs.Table.{noSlot, noTask, noSem, noQueue, noProc, noSlots, outside, taskAt, semAt, queueAt, procAt, nodeIn, nodeAt, arcTo, arcNo, isAbsent}
+use Rattle.table.specs.Shape.{Shaped}
 use Rattle.table.specs.declared.Node.{Node}
 use Rattle.table.specs.declared.Node.the-variants.{Absent, Start, Set, Test, Read, Call, Wait, Signal, Send, Recv, Assert, Out, Return}
 use Rattle.table.specs.declared.Slot.{Slot}
@@ -244,16 +245,6 @@ proc-row t closed procs sems queues i l s a l′ r e =
     })))
 
 -- ---- tables
-
--- a value of the declared type: the lengths of its arrays, and masks of 32 places
-pub record Shaped (t : Table) : Type 0 where
-  pub tasks : length (t .task) ≡ 4
-  pub sems : length (t .sem) ≡ 8
-  pub queues : length (t .queue) ≡ 8
-  pub procs : length (t .proc) ≡ 8
-  pub slots : (p : ℕ) → p < 8 → length (procAt t p .slots) ≡ 32
-  pub drops : (p : ℕ) → procAt t p .drop < 2 ^ 32
-  pub arcs : (p n : ℕ) → (arcTo (nodeAt t p n) < 2 ^ 32) × (arcNo (nodeAt t p n) < 2 ^ 32)
 
 -- every call passes as many arguments as its callee has parameters, at most four
 abbrev pub Fitting : Table → Type 0

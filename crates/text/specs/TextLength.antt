@@ -10,6 +10,7 @@ use lib.IntN.{pos, negsuc}
 use lib.ListN.{length, take, length-append, length-take, length-map}
 use borrow.Author.Tests.{ltb-true, leb-true, le-ltb}
 use Rattle.table.specs.Table.{taskAt, semAt, queueAt, procAt, nodeIn}
+use Rattle.table.specs.Shape.{Shaped}
 use Rattle.table.specs.declared.Operand.{Operand}
 use Rattle.table.specs.declared.Operand.the-variants.{Var, Const}
 use Rattle.table.specs.declared.Op.the-variants.{Add, Sub, And, Or, Xor, Shr, Lt, Eq}
@@ -28,7 +29,7 @@ use Rattle.text.specs.Writer.{queueVals, procVals, nodeText, scope, proc
 use Rattle.text.specs.RowLaws.{Faultless, or-right, unless-none}
 use Rattle.text.specs.NodeLaws.{number-fact, list-fact, FitsIn, few, FaultlessNode}
 use Rattle.text.specs.TableLaws.{Lines, proc-bounds}
-use Rattle.text.specs.RoundTrip.{Shaped, read-write, read-lines, fault-none, write-read}
+use Rattle.text.specs.RoundTrip.{read-write, read-lines, fault-none, write-read}
 
 -- ---- values
 
