@@ -22,14 +22,14 @@ uint64_t bufshani_write(const uint8_t *text, size_t text_len, uint8_t *out, size
    most 65,536. */
 size_t bufshani_close(const uint8_t *text, size_t text_len, uint8_t *out, size_t out_len);
 
-/* What the program `run` prints for a text, as far as the buffer reaches; gives its length. The log
-   has 8 bytes for each step. */
+/* What the program `run` prints for a text, as far as the buffer reaches; gives its length, at most
+   4,400,000. The log has 8 bytes for each step; its first 524,288 bytes are used. */
 size_t bufshani_run(const uint8_t *text, size_t text_len, const uint8_t *schedule,
                     size_t schedule_len, const int32_t *values, size_t values_len, size_t most,
                     uint8_t *log, size_t log_len, uint8_t *out, size_t out_len);
 
-/* The same run with no report: the stop number, or that of the refusal, times 2^32 plus the steps
-   completed. */
+/* The run with no report, in all of the log: the stop number times 2^32 plus the steps completed,
+   modulo 2^32; or the refusal of the text. */
 uint64_t bufshani_steps(const uint8_t *text, size_t text_len, const uint8_t *schedule,
                         size_t schedule_len, const int32_t *values, size_t values_len, size_t most,
                         uint8_t *log, size_t log_len);

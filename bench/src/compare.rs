@@ -1,12 +1,15 @@
 //! Comparison of the proved library with the plain implementation on generated cases.
 
-use crate::generate::{self, Case, Kind, KINDS};
-use crate::plain::programs::{close_text, run_text, write_text};
+use crate::generate::{self, extremes, Case, Kind, KINDS};
+use crate::plain::programs::{close_text, run_text, steps_text, write_text, LOG};
 use crate::plain::read::read;
+use crate::plain::run::ENTRY;
 use crate::plain::table::Table;
 use crate::plain::Refusal;
 use crate::proved;
 use crate::random::Random;
+use crate::vectors::Words;
+use std::panic::{catch_unwind, AssertUnwindSafe};
 use std::time::Instant;
 
 /// How many differences are named.
@@ -14,6 +17,12 @@ const NAMED: usize = 10;
 
 /// What unused bytes of a buffer hold.
 const FILL: u8 = 0xa5;
+
+/// How many bytes a buffer has behind what is printed, mostly.
+const BEHIND: usize = 16;
+
+/// The steps of a run that fills the longest log.
+const STEPS: usize = 66_000;
 
 /// The count of cases, of numbers met, and the seeds of cases that differ.
 #[derive(Default)]
@@ -36,22 +45,25 @@ struct Buffers {
 }
 
 impl Buffers {
-    fn new() -> Self {
+    /// Buffers with room for reports of so many bytes.
+    fn new(room: usize) -> Self {
         Buffers {
             table: Table::default(),
-            out: [vec![FILL; 1 << 18], vec![FILL; 1 << 18]],
+            out: [vec![FILL; room], vec![FILL; room]],
             log: [Vec::new(), Vec::new()],
         }
     }
 }
 
-/// Compares so many cases from a seed on, and all cuts of a few texts; whether nothing differs.
+/// Compares so many cases from a seed on, all cuts of a few texts, and the extremes; whether nothing
+/// differs.
 pub fn compare(cases: u64, seed: u64) -> bool {
     let start = Instant::now();
     let threads = std::thread::available_parallelism().map_or(1, usize::from) as u64;
     let mut tally = Tally::default();
     if cases > 1 {
         every_cut(seed, &mut tally);
+        every_extreme(seed, &mut tally);
     }
     let parts = std::thread::scope(|scope| {
         let handles: Vec<_> = (0..threads)
@@ -72,12 +84,17 @@ pub fn compare(cases: u64, seed: u64) -> bool {
 /// The cases of one thread.
 fn stride(cases: u64, seed: u64, part: u64, threads: u64) -> Tally {
     let mut tally = Tally::default();
-    let mut buffers = Buffers::new();
+    let mut buffers = Buffers::new(1 << 18);
     let mut i = part;
     while i < cases {
         let case_seed = seed.wrapping_add(i);
-        let case = generate::case(case_seed);
-        tally.case(&case, &mut buffers, || format!("seed {case_seed}"));
+        let one = AssertUnwindSafe(|| {
+            let case = generate::case(case_seed);
+            tally.case(&case, &mut buffers, || format!("seed {case_seed}"));
+        });
+        if catch_unwind(one).is_err() {
+            tally.differs(format!("seed {case_seed} (panic)"));
+        }
         i += threads;
     }
     tally
@@ -86,7 +103,7 @@ fn stride(cases: u64, seed: u64, part: u64, threads: u64) -> Tally {
 /// Every cut of a few texts, open and closed.
 fn every_cut(seed: u64, tally: &mut Tally) {
     let mut r = Random::new(seed);
-    let mut buffers = Buffers::new();
+    let mut buffers = Buffers::new(1 << 18);
     use generate::tables::{closed, closing, open, Size};
     let tables = [
         open(Size::Small, &mut r),
@@ -100,6 +117,40 @@ fn every_cut(seed: u64, tally: &mut Tally) {
             let case = generate::with_run(Kind::Cut, text[..len].to_vec(), &mut r);
             tally.case(&case, &mut buffers, || {
                 format!("text {i} of seed {seed} cut at {len}")
+            });
+        }
+    }
+}
+
+/// The longest texts, the tables that are hard to close, and runs that fill the longest log, one byte
+/// less, and a longer one.
+fn every_extreme(seed: u64, tally: &mut Tally) {
+    let mut r = Random::new(seed);
+    let mut buffers = Buffers::new(1 << 23);
+    let mut tables = extremes::hard();
+    tables.push(("the longest open text", extremes::longest_open()));
+    tables.push(("the longest closed text", extremes::longest_closed()));
+    for (name, table) in tables {
+        let case = generate::with_run(Kind::Full, generate::lines_of(&table), &mut r);
+        tally.case(&case, &mut buffers, || format!("{name}, seed {seed}"));
+    }
+    for run in extremes::long_runs(STEPS) {
+        let text = generate::lines_of(&run.table);
+        let mut case = Case {
+            kind: Kind::Full,
+            room: text.len(),
+            text,
+            words: Words {
+                schedule: run.schedule,
+                values: run.values,
+                most: extremes::MOST,
+                log: LOG,
+            },
+        };
+        for len in [LOG - 1, LOG, STEPS * ENTRY] {
+            case.words.log = len;
+            tally.case(&case, &mut buffers, || {
+                format!("long run: {}, log of {len} bytes", run.name)
             });
         }
     }
@@ -139,7 +190,7 @@ pub fn show(seed: u64) {
     }
 }
 
-type Run = fn(&[u8], &[u8], &[i32], u32, &mut [u8], &mut [u8]) -> usize;
+type Run = fn(&[u8], &[u8], &[i32], usize, &mut [u8], &mut [u8]) -> usize;
 
 impl Tally {
     /// Compares one case and counts it.
@@ -162,15 +213,18 @@ impl Tally {
         if !self.close_same(case, buffers) {
             wrong.push("close");
         }
-        if !self.run_same(case, expected.is_ok(), buffers) {
+        if !self.run_same(case, expected, buffers) {
             wrong.push("run");
         }
         if !wrong.is_empty() {
-            self.differ += 1;
-            if self.named.len() < NAMED {
-                self.named
-                    .push(format!("{} ({})", name(), wrong.join(", ")));
-            }
+            self.differs(format!("{} ({})", name(), wrong.join(", ")));
+        }
+    }
+
+    fn differs(&mut self, name: String) {
+        self.differ += 1;
+        if self.named.len() < NAMED {
+            self.named.push(name);
         }
     }
 
@@ -196,44 +250,56 @@ impl Tally {
         proved::write(&case.text, other) == expected && mine == other
     }
 
+    /// What is printed as far as the buffer reaches, and the bytes behind it.
     fn close_same(&mut self, case: &Case, buffers: &mut Buffers) -> bool {
         let [mine, other] = &mut buffers.out;
         let len = close_text(&case.text, mine);
         if mine[..len].starts_with(b"refused=9 ") {
             self.count(9);
         }
-        let other_len = proved::close(&case.text, other);
-        len == other_len && mine[..len] == other[..len]
+        let other = &mut other[..room_for(len, case.room)];
+        other.fill(FILL);
+        proved::close(&case.text, other) == len && holds(other, &mine[..len])
     }
 
-    /// The report and the whole log.
-    fn run_same(&mut self, case: &Case, accepted: bool, buffers: &mut Buffers) -> bool {
-        let words = &case.words;
-        let Buffers { out, log, .. } = buffers;
-        for log in log.iter_mut() {
+    /// The report as far as the buffer reaches, the bytes behind it and the whole log; then the
+    /// same run with no report.
+    fn run_same(
+        &mut self,
+        case: &Case,
+        outcome: Result<(), Refusal>,
+        buffers: &mut Buffers,
+    ) -> bool {
+        let Words {
+            schedule,
+            values,
+            most,
+            log: log_len,
+        } = &case.words;
+        let [mine, other] = &mut buffers.out;
+        let [log, other_log] = &mut buffers.log;
+        for log in [&mut *log, &mut *other_log] {
             log.clear();
-            log.resize(words.log, FILL);
+            log.resize(*log_len, FILL);
         }
-        let mut lens = [0; 2];
-        for (i, run) in [run_text as Run, proved::run].into_iter().enumerate() {
-            lens[i] = run(
-                &case.text,
-                &words.schedule,
-                &words.values,
-                words.most,
-                &mut log[i],
-                &mut out[i],
-            );
-        }
-        let report = &out[0][..lens[0]];
-        if accepted {
+        let len = run_text(&case.text, schedule, values, *most, log, mine);
+        let report = &mine[..len];
+        let other = &mut other[..room_for(len, case.room)];
+        other.fill(FILL);
+        let other_len = proved::run(&case.text, schedule, values, *most, other_log, other);
+        let same = other_len == len && holds(other, report) && log == other_log;
+        if outcome.is_ok() {
             let [steps, _, stop] = first_line(report);
             self.runs += 1;
             self.completed += (stop == 0) as u64;
             self.steps += steps;
             self.count(stop as u8);
         }
-        lens[0] == lens[1] && *report == out[1][..lens[1]] && log[0] == log[1]
+        log.fill(FILL);
+        other_log.fill(FILL);
+        let expected = steps_text(&case.text, schedule, values, *most, log);
+        let steps = proved::steps(&case.text, schedule, values, *most, other_log);
+        same && steps == expected.map(|answer| (answer.steps, answer.stop)) && log == other_log
     }
 
     fn add(&mut self, other: Tally) {
@@ -275,6 +341,24 @@ impl Tally {
         let cases: u64 = self.kinds.iter().sum();
         println!("cases={cases} differ={} seconds={seconds:.1}", self.differ);
     }
+}
+
+/// The length of a buffer for so many bytes: mostly enough, else one short, cut anywhere or none.
+/// The plain side, where it stands in, needs enough.
+fn room_for(len: usize, any: usize) -> usize {
+    match any % 8 {
+        0 if proved::LINKED => len.saturating_sub(1),
+        1 if proved::LINKED => any / 8 % (len + 1),
+        2 if proved::LINKED => 0,
+        3 => len,
+        _ => len + BEHIND,
+    }
+}
+
+/// Whether a buffer holds the bytes as far as it reaches, and behind them what it held before.
+fn holds(buffer: &[u8], bytes: &[u8]) -> bool {
+    let (front, behind) = buffer.split_at(bytes.len().min(buffer.len()));
+    bytes.starts_with(front) && behind.iter().all(|&b| b == FILL)
 }
 
 fn number_of(outcome: &Result<(), Refusal>) -> u8 {

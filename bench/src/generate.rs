@@ -30,7 +30,7 @@ pub enum Kind {
     Values,
     /// Lines swapped, doubled, removed or moved.
     Lines,
-    /// Argument counts, targets and `-` that break the rules 6 and 7.
+    /// Argument counts, targets and `-` changed, so that four in ten break the rules 6 and 7.
     Rules,
     /// Bytes after the end, up to over 65,536 bytes.
     Tail,

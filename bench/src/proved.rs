@@ -29,7 +29,7 @@ mod ffi {
             out_len: usize,
         ) -> usize;
 
-        /// The length of the report that the `run` program prints.
+        /// The length of the report that the `run` program prints, in the log's first 524,288 bytes.
         pub fn bufshani_run(
             text: *const u8,
             text_len: usize,
@@ -44,7 +44,8 @@ mod ffi {
             out_len: usize,
         ) -> usize;
 
-        /// A run with no report: the stop number times 2^32 plus the steps completed.
+        /// A run with no report: the stop number times 2^32 plus the steps completed, modulo 2^32; on
+        /// refusal as `bufshani_read`.
         pub fn bufshani_steps(
             text: *const u8,
             text_len: usize,
@@ -59,20 +60,24 @@ mod ffi {
     }
 }
 
-/// The refusal that a number stands for, if it is one.
+/// The refusal that an answer stands for, if it is one; a run's stop is none.
 #[cfg(proved)]
 fn refusal(answer: u64) -> Option<Refusal> {
     let number = (answer >> 32) as u8;
     let line = answer as u32;
-    (number != 0).then_some(Refusal { number, line })
+    (1..=8)
+        .contains(&number)
+        .then_some(Refusal { number, line })
 }
 
+/// Reads a text.
 #[cfg(proved)]
 pub fn read(text: &[u8]) -> Result<(), Refusal> {
     let answer = unsafe { ffi::bufshani_read(text.as_ptr(), text.len()) };
     refusal(answer).map_or(Ok(()), Err)
 }
 
+/// Reads a text and writes its table; the length written.
 #[cfg(proved)]
 pub fn write(text: &[u8], out: &mut [u8]) -> Result<usize, Refusal> {
     let answer =
@@ -80,17 +85,19 @@ pub fn write(text: &[u8], out: &mut [u8]) -> Result<usize, Refusal> {
     refusal(answer).map_or(Ok(answer as usize), Err)
 }
 
+/// Writes what the closing program prints, as far as the buffer reaches; its whole length.
 #[cfg(proved)]
 pub fn close(text: &[u8], out: &mut [u8]) -> usize {
     unsafe { ffi::bufshani_close(text.as_ptr(), text.len(), out.as_mut_ptr(), out.len()) }
 }
 
+/// Writes what the `run` program prints, as far as the buffer reaches; its whole length.
 #[cfg(proved)]
 pub fn run(
     text: &[u8],
     schedule: &[u8],
     values: &[i32],
-    most: u32,
+    most: usize,
     log: &mut [u8],
     out: &mut [u8],
 ) -> usize {
@@ -102,7 +109,7 @@ pub fn run(
             schedule.len(),
             values.as_ptr(),
             values.len(),
-            most as usize,
+            most,
             log.as_mut_ptr(),
             log.len(),
             out.as_mut_ptr(),
@@ -111,15 +118,15 @@ pub fn run(
     }
 }
 
-/// The steps completed and the stop number of a run with no report.
+/// The steps completed, of less than 2^32, and the stop number of a run with no report.
 #[cfg(proved)]
 pub fn steps(
     text: &[u8],
     schedule: &[u8],
     values: &[i32],
-    most: u32,
+    most: usize,
     log: &mut [u8],
-) -> (usize, u8) {
+) -> Result<(usize, u8), Refusal> {
     let answer = unsafe {
         ffi::bufshani_steps(
             text.as_ptr(),
@@ -128,12 +135,13 @@ pub fn steps(
             schedule.len(),
             values.as_ptr(),
             values.len(),
-            most as usize,
+            most,
             log.as_mut_ptr(),
             log.len(),
         )
     };
-    (answer as u32 as usize, (answer >> 32) as u8)
+    let ran = (answer as u32 as usize, (answer >> 32) as u8);
+    refusal(answer).map_or(Ok(ran), Err)
 }
 
 #[cfg(not(proved))]
@@ -141,7 +149,7 @@ pub use stand_in::*;
 
 #[cfg(not(proved))]
 mod stand_in {
-    use crate::plain::programs;
+    use crate::plain::{programs, Refusal};
 
     pub use programs::{
         close_text as close, read_text as read, run_text as run, write_text as write,
@@ -151,12 +159,10 @@ mod stand_in {
         text: &[u8],
         schedule: &[u8],
         values: &[i32],
-        most: u32,
+        most: usize,
         log: &mut [u8],
-    ) -> (usize, u8) {
-        match programs::steps_text(text, schedule, values, most, log) {
-            Ok(answer) => (answer.steps, answer.stop),
-            Err(refusal) => (0, refusal.number),
-        }
+    ) -> Result<(usize, u8), Refusal> {
+        let answer = programs::steps_text(text, schedule, values, most, log)?;
+        Ok((answer.steps, answer.stop))
     }
 }

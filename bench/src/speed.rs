@@ -128,9 +128,9 @@ fn steps(run: &LongRun) {
     };
     for _ in 0..ROUNDS {
         let start = Instant::now();
-        let (done, stop) = proved::steps(&text, &run.schedule, &run.values, MOST, &mut log);
+        let answer = proved::steps(&text, &run.schedule, &run.values, MOST, &mut log);
         best.proved = best.proved.min(start.elapsed().as_secs_f64());
-        assert_eq!((done, stop), (STEPS, 0), "the proved run completes");
+        assert_eq!(answer, Ok((STEPS, 0)), "the proved run completes");
         let start = Instant::now();
         let answer = steps_text(&text, &run.schedule, &run.values, MOST, &mut log);
         best.plain = best.plain.min(start.elapsed().as_secs_f64());

@@ -60,7 +60,7 @@ fn with(old: &str, new: &str) -> String {
     OPEN.replacen(old, new, 1)
 }
 
-/// A procedure with one test of v0 after a read, and so many nodes declared.
+/// A text up to the start of a procedure with so many nodes declared.
 fn small(nodes: &str) -> String {
     format!(
         "trap=1 form=open\ntasks=1 procs=1 sems=0 queues=0\ntask=0 top=0\n\

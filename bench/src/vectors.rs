@@ -8,7 +8,7 @@ use std::path::{Path, PathBuf};
 pub struct Words {
     pub schedule: Vec<u8>,
     pub values: Vec<i32>,
-    pub most: u32,
+    pub most: usize,
     pub log: usize,
 }
 

@@ -168,7 +168,7 @@ pub fn values(text: &mut Vec<u8>, r: &mut Random) {
         }
         let (start, end) = r.pick(&places);
         let mut value = text[start..end].to_vec();
-        match r.below(10) {
+        match r.below(11) {
             0 => value.insert(0, r.pick(b"0-v1")),
             1 => value.extend_from_slice(
                 r.pick(&[",1", ",31", ",32", "0", ",0", ",-", "9", " "])
@@ -185,10 +185,18 @@ pub fn values(text: &mut Vec<u8>, r: &mut Random) {
                 digits.extend((0..r.below(45)).map(|_| b'0' + r.below(10) as u8));
                 value = digits;
             }
+            7 => value = long_list(r),
             _ => value = r.pick(VALUES).as_bytes().to_vec(),
         }
         text.splice(start..end, value);
     }
+}
+
+/// A list of one item many times, about 256 times too.
+fn long_list(r: &mut Random) -> Vec<u8> {
+    let item = r.pick(&["0", "1", "-"]);
+    let len = r.pick(&[5, 9, 16, 255, 256, 257, 258, 260, 1000]);
+    vec![item; len].join(",").into_bytes()
 }
 
 /// The extents of the values of a text.
@@ -322,7 +330,7 @@ pub fn noise(r: &mut Random) -> Vec<u8> {
     text
 }
 
-/// Breaks, most often, a rule that is judged after all lines.
+/// Changes what the rules judged after all lines are about; four tables in ten then break one.
 pub fn break_rules(t: &mut Table, r: &mut Random) {
     for _ in 0..r.pick(&[1, 1, 2, 3]) {
         let i = r.below(t.proc_count as usize);

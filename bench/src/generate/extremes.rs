@@ -251,7 +251,7 @@ pub struct LongRun {
 }
 
 /// The most dropped nodes per step in a long run.
-pub const MOST: u32 = 100;
+pub const MOST: usize = 100;
 
 /// Open and closed runs of so many steps.
 pub fn long_runs(steps: usize) -> Vec<LongRun> {
@@ -310,7 +310,7 @@ fn walk<const CLOSED: bool>(mut m: Machine<CLOSED>, table: &Table, steps: usize)
     schedule
 }
 
-/// Two tasks with all kinds of nodes.
+/// Three tasks with all kinds of nodes.
 const MIXED: &str = "\
 trap=1 form=open
 tasks=3 procs=4 sems=2 queues=2

@@ -12,18 +12,23 @@ pub fn any(r: &mut Random) -> Words {
     Words {
         schedule: (0..len).map(|_| r.below(5) as u8).collect(),
         values: (0..r.below(6)).map(|_| value(r)).collect(),
-        most: r.below(4) as u32,
+        most: r.below(4),
         log: r.below(64),
     }
 }
 
 /// Words of a run that mostly goes on.
 pub fn live(table: &Table, r: &mut Random) -> Words {
+    let wide = r.once_in(8);
     let values: Vec<i32> = match table.closed {
+        true if wide => (0..r.below(60)).map(|_| r.below(32) as i32).collect(),
         true => (0..r.below(60)).map(|_| toss(r)).collect(),
         false => (0..r.below(60)).map(|_| value(r)).collect(),
     };
-    let most = r.pick(&[0, 1, 2, 3, 5, 8, 31, 100, 1000]);
+    let most = match table.closed {
+        true => r.pick(&[0, 1, 31, usize::MAX]),
+        false => r.pick(&[0, 1, 2, 3, 5, 8, 31, 100, 256, 1000]),
+    };
     let wanted = match r.below(8) {
         0 => 0,
         1 => r.below(4),

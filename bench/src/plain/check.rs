@@ -135,16 +135,13 @@ fn procedure(t: &Table, p: &Proc) -> Result<(), u8> {
 
 /// The fields of a node, left to right.
 fn fields(t: &Table, p: &Proc, node: &Node) -> Result<(), u8> {
-    let variable = |v: u8| require(v != GONE, 2).and_then(|()| require(v < p.vars, 5));
-    let maybe = |v: u8| {
-        if t.closed && v == GONE {
-            Ok(())
-        } else {
-            variable(v)
-        }
+    let variable = |v: u8| require(v < p.vars, 5);
+    let maybe = |v: u8| match v {
+        GONE => require(t.closed, 2),
+        _ => variable(v),
     };
     let operand = |o: Operand| match o {
-        Operand::Var(v) => require(v < p.vars, 5),
+        Operand::Var(v) => variable(v),
         Operand::Const(_) => Ok(()),
     };
     let arc = |to: Arc| {
@@ -182,6 +179,10 @@ fn fields(t: &Table, p: &Proc, node: &Node) -> Result<(), u8> {
             require(t.closed || given.iter().all(|&v| v != GONE), 2)?;
             for &v in given {
                 maybe(v)?;
+            }
+            // arguments behind the fourth are variable 0
+            if count as usize > PARAMS {
+                variable(0)?;
             }
             arc(to)
         }

@@ -33,7 +33,7 @@ pub fn steps_text(
     text: &[u8],
     schedule: &[u8],
     values: &[i32],
-    most: u32,
+    most: usize,
     log: &mut [u8],
 ) -> Result<Answer, Refusal> {
     let (mut table, mut state) = (Table::default(), State::default());
@@ -41,12 +41,15 @@ pub fn steps_text(
     Ok(run_valid(&table, schedule, values, most, log, &mut state))
 }
 
+/// The bytes of a log that a run with a report uses.
+pub const LOG: usize = 524_288;
+
 /// What the `run` program prints for a text, and its length.
 pub fn run_text(
     text: &[u8],
     schedule: &[u8],
     values: &[i32],
-    most: u32,
+    most: usize,
     log: &mut [u8],
     out: &mut [u8],
 ) -> usize {
@@ -54,6 +57,8 @@ pub fn run_text(
     if let Err(refusal) = read(text, &mut table) {
         return print_refusal(refusal, out);
     }
+    let used = log.len().min(LOG);
+    let log = &mut log[..used];
     let answer = run_valid(&table, schedule, values, most, log, &mut state);
     let mut s = Buffer { out, len: 0 };
     print_answer(&answer, log, &mut s);

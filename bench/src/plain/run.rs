@@ -55,7 +55,7 @@ pub fn run(
     table: &Table,
     schedule: &[u8],
     values: &[i32],
-    most: u32,
+    most: usize,
     log: &mut [u8],
     state: &mut State,
 ) -> Answer {
@@ -74,7 +74,7 @@ pub fn run_valid(
     table: &Table,
     schedule: &[u8],
     values: &[i32],
-    most: u32,
+    most: usize,
     log: &mut [u8],
     state: &mut State,
 ) -> Answer {
@@ -114,12 +114,12 @@ pub struct Machine<'a, const CLOSED: bool> {
     table: &'a Table,
     kept: [u32; PROCS],
     values: &'a [i32],
-    most: u32,
+    most: usize,
     pub used: usize,
 }
 
 impl<'a, const CLOSED: bool> Machine<'a, CLOSED> {
-    pub fn new(table: &'a Table, values: &'a [i32], most: u32) -> Self {
+    pub fn new(table: &'a Table, values: &'a [i32], most: usize) -> Self {
         Machine {
             table,
             kept: if CLOSED {

@@ -169,7 +169,7 @@ fn node(n: &Node, s: &mut impl Sink) {
         Node::Absent => {}
         Node::Start { to } => list(s, b" kind=start to=", to),
         Node::Set { var, op, a, b, to } => {
-            variable(s, b" kind=set var=", var);
+            pair(s, b" kind=set var=", var);
             op_name(s, op);
             operand(s, b" a=", a);
             operand(s, b" b=", b);
@@ -184,7 +184,7 @@ fn node(n: &Node, s: &mut impl Sink) {
             list(s, b" no=", no);
         }
         Node::Read { var, to } => {
-            variable(s, b" kind=read var=", var);
+            pair(s, b" kind=read var=", var);
             list(s, b" to=", to);
         }
         Node::Call {
