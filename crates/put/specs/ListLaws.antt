@@ -5,82 +5,21 @@ use mathlib.Core.Bool.{Bool, true, false}
 use mathlib.Core.List.{List, [], _∷_, _++_, map, append-nil, append-assoc}
 use native.Mathlib.Numerals.{add-one}
 use native.Mathlib.Omega.{arith}
-use native.Mathlib.Nat.{pow-suc, div-div-eq-div-mul, add-zero, mul-assoc, suc-add}
+use native.Mathlib.Nat.{pow-suc, div-div-eq-div-mul, mul-assoc, suc-add}
 use lib.Dec.{eqb}
 use lib.ListN.{length, length-append}
-use lib.Bits.{bitAnd, and-step, and-self, and-le-l, and-le-r}
+use lib.Bits.{bitAnd, and-le-l, and-le-r}
 use lib.Count.{trailingZeros, under}
 use borrow.Author.Tests.{eq-eqb, ne-eqb}
-use Rattle.table.specs.Mask.{bit, also, membersFrom, members}
+use Rattle.table.specs.Mask.{also, members}
+use Rattle.masks.specs.Lowest.{above, members-above, above-none, above-held, above-left, above-lowest}
 use Rattle.text.specs.Number.{bytes, digits}
 use Rattle.text.specs.NumberLaws.{digits-small, digits-large, byOrder}
-use Rattle.text.specs.Value.{spellVariable, spellList, commas}
+use Rattle.text.specs.Value.{spellVariable, commas}
 use Rattle.text.specs.Format.{nameOf}
 use Rattle.put.specs.Put.{Put}
 use Rattle.put.specs.PutLaws.{put-after, put-more}
-use Rattle.put.specs.Lists.{above, further, tenOf, itemsText, listText}
-
--- ---- a mask, bit by bit
-
-from-above : (n k m : ℕ) → membersFrom n k m ≡ above n k (m / 2 ^ k)
-unfolding membersFrom above bit
-from-above zero k m = refl
-from-above (suc n) k m =
-    let e : m / 2 ^ suc k ≡ m / 2 ^ k / 2 = ap (λ (x : ℕ). m / x) (pow-suc 2 k) ∙ sym (div-div-eq-div-mul m (2 ^ k) 2) in
-    ap (also (eqb (m / 2 ^ k % 2) 1) k) (from-above n (suc k) m ∙ ap (above n (suc k)) e)
-
-members-above : (m : ℕ) → members m ≡ above 32 0 m
-members-above m = from-above 32 0 m ∙ ap (above 32 0) (omega arith)
-
-above-none : (n k : ℕ) → above n k 0 ≡ []
-unfolding above
-above-none zero k = refl
-above-none (suc n) k = above-none n (suc k)
-
-above-held : (n k r : ℕ) → r % 2 ≡ 1 → above (suc n) k r ≡ k ∷ above n (suc k) (r / 2)
-unfolding above
-above-held n k r h = rw h
-
-above-left : (n k r : ℕ) → r % 2 ≡ 0 → above (suc n) k r ≡ above n (suc k) (r / 2)
-unfolding above
-above-left n k r h = rw h
-
--- the lowest number taken out of a mask
-lowest-odd : (m : ℕ) → m % 2 ≡ 1 → bitAnd m (m - 1) ≡ m / 2 * 2
-lowest-odd m h =
-    let a : (m - 1) / 2 ≡ m / 2 = omega arith in
-    let b : (m - 1) % 2 ≡ 0 = omega arith in
-    and-step m (m - 1) ∙ rw (a, b, h, and-self (m / 2)) (add-zero (m / 2 * 2))
-
-lowest-even : (m : ℕ) → m % 2 ≡ 0 → (m ≡ 0 → ⊥) → bitAnd m (m - 1) ≡ bitAnd (m / 2) (m / 2 - 1) * 2
-lowest-even m h z =
-    let a : (m - 1) / 2 ≡ m / 2 - 1 = omega arith in
-    let b : (m - 1) % 2 ≡ 1 = omega arith in
-    and-step m (m - 1) ∙ rw (a, b, h) (add-zero (bitAnd (m / 2) (m / 2 - 1) * 2))
-
-above-twice : (n k q : ℕ) → above (suc n) k (q * 2) ≡ above n (suc k) q
-above-twice n k q =
-    let e : q * 2 / 2 ≡ q = omega arith in
-    above-left n k (q * 2) (omega arith) ∙ ap (above n (suc k)) e
-
-above-lowest : (n k m : ℕ) → m < 2 ^ n → (m ≡ 0 → ⊥) → (trailingZeros n m < n) × (above n k m ≡ (k + trailingZeros n m) ∷ above n k (bitAnd m (m - 1)))
-unfolding trailingZeros
-above-lowest zero k m h z = absurd (z (omega arith))
-above-lowest (suc n) k m h z = go (m % 2) refl (λ (e : m % 2 ≡ 0). above-lowest n (suc k) (m / 2) (let g : m < 2 ^ n * 2 = rw pow-suc at h in omega arith) (λ y. z (omega arith)))
-  where
-    go : (r : ℕ) → m % 2 ≡ r
-        → (m % 2 ≡ 0 → (trailingZeros n (m / 2) < n) × (above n (suc k) (m / 2) ≡ (suc k + trailingZeros n (m / 2)) ∷ above n (suc k) (bitAnd (m / 2) (m / 2 - 1))))
-        → (under r (trailingZeros n (m / 2)) < suc n) × (above (suc n) k m ≡ (k + under r (trailingZeros n (m / 2))) ∷ above (suc n) k (bitAnd m (m - 1)))
-    go zero e ih =
-        let i = ih e in
-        let a : suc k + trailingZeros n (m / 2) ≡ k + suc (trailingZeros n (m / 2)) = omega arith in
-        let b : above n (suc k) (bitAnd (m / 2) (m / 2 - 1)) ≡ above (suc n) k (bitAnd m (m - 1)) = sym (ap (above (suc n) k) (lowest-even m e z) ∙ above-twice n k _) in
-        (omega (arith, i .0), above-left n k m e ∙ i .1 ∙ (λ j. a j ∷ b j))
-    go (suc r) e ih =
-        let o : m % 2 ≡ 1 = omega arith in
-        let a : k ≡ k + 0 = omega arith in
-        let b : above n (suc k) (m / 2) ≡ above (suc n) k (bitAnd m (m - 1)) = sym (ap (above (suc n) k) (lowest-odd m o) ∙ above-twice n k _) in
-        (omega arith, above-held n k m o ∙ (λ j. a j ∷ b j))
+use Rattle.put.specs.Lists.{further, tenOf, itemsText, listText}
 
 -- ---- items
 

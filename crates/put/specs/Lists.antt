@@ -1,15 +1,10 @@
 -- How a list is written, item by item.
-use Prim.Native.Nat.{ℕ, zero, suc, _*_, _/_, _%_}
+use Prim.Native.Nat.{ℕ, _*_}
 use mathlib.Core.List.{List, [], _∷_, _++_, map}
-use lib.Dec.{eqb}
-use Rattle.table.specs.Mask.{also, members}
+use Rattle.table.specs.Mask.{members}
+use Rattle.masks.specs.Lowest.{above}
 use Rattle.text.specs.Number.{digits}
 use Rattle.text.specs.Value.{spellList, commas}
-
--- of the n numbers from k on those whose bits are in r, of which the lowest bit is k's
-unfoldable pub above : ℕ → ℕ → ℕ → List ℕ
-above zero k r = []
-above (suc n) k r = also (eqb (r % 2) 1) k (above n (suc k) (r / 2))
 
 -- the numbers in a mask, with commas between, and as a list is spelt
 abbrev pub itemsText : ℕ → List ℕ

@@ -8,7 +8,8 @@ ghost use Rattle.text.specs.Number.{digits};
 ghost use Rattle.text.specs.Value.{spellVariable};
 ghost use Rattle.text.specs.Format.{nameOf};
 ghost use Rattle.put.specs.Put.{Put, ByteAt, DigitsAt};
-ghost use Rattle.put.specs.Lists.{above, further, tenOf, itemsText, listText};
+ghost use Rattle.masks.specs.Lowest.{above};
+ghost use Rattle.put.specs.Lists.{further, tenOf, itemsText, listText};
 
 pub fn put_byte(out: &mut [u8], at: usize, b: u8) -> usize
     requires { ⌜ ByteAt at ⌝ }

@@ -347,7 +347,7 @@ pub fn top_of(i: usize, depth: u8) -> usize
     requires { ⌜ (i < 4) × ((0 < depth) × (depth ≤ 8)) ⌝ }
     ensures { λ r. ⌜ r ≡ 8 * i + (depth - 1) ⌝ }
 {
-    8 * i + ((depth - 1) as usize)
+    8 * i + (depth as usize) - 1
 }
 
 // The place of the frame that goes on, the topmost's being f.

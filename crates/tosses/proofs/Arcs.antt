@@ -1,13 +1,12 @@
 -- The targets of an arc: the lowest by its trailing zeros, and whether there are more.
-use mathlib.Core.Path.{_≡_, refl, sym, _∙_, ap, subst}
+use mathlib.Core.Path.{_≡_, refl, sym, _∙_, ap}
 use mathlib.Core.Bool.{Bool, true, false}
 use mathlib.Core.List.{List, [], _∷_}
 use mathlib.Core.Option.{Option, none, some}
 use Prim.Native.Nat.{ℕ, zero, suc, _+_, _-_, _/_, _%_, _^_, _<_, _≤_}
 use native.Mathlib.Omega.{arith}
-use native.Mathlib.Nat.{pow-suc, div-lt-iff-lt-mul, div-div-eq-div-mul, div-one}
-use lib.Count.{trailingZeros, under}
-use lib.Pow.{pow-pos, shr-lt}
+use lib.Bits.{bitAnd, and-le-l}
+use lib.Count.{trailingZeros}
 use lib.ListN.{length, getD, getElem?, drop, drop-of-length-le, List·getD-eq-default}
 use lib.Seq.{drop-cons}
 use lib.Dec.{eqb, leb}
@@ -16,82 +15,32 @@ use mir.Syntax.{w32}
 use mir.Val.{SFits, ofZ}
 use borrow.Author.Tests.{leb-true, leb-false, eqb-true, eqb-false, eq-eqb, ne-eqb}
 use Rattle.table.specs.Mask.{pick, bit, also, membersFrom, members}
-use Rattle.table.specs.MaskLaws.{bit-above, members-few}
+use Rattle.table.specs.MaskLaws.{members-few}
+use Rattle.masks.specs.Lowest.{members-none, members-lowest}
 use Rattle.machine.specs.Step.{stopNumber, valuesSpent, badToss, node, bad, tossed as tossedTo, toss, chooseFrom, choose}
 use Rattle.tosses.specs.Tosses.{halting, meeting, targetAt, tossed, Arrived, oneKept, directOf}
 use Rattle.tosses.specs.declared.Chosen.{Chosen}
-
-half : (m k : ℕ) → m / 2 ^ suc k ≡ m / 2 ^ k / 2
-half m k = ap (λ (x : ℕ). m / x) (pow-suc 2 k) ∙ sym (div-div-eq-div-mul m (2 ^ k) 2)
-
--- the lowest of the n numbers from k on that are in m, and what is listed after it
-pub lowest : (n k m : ℕ) → let z = trailingZeros n (m / 2 ^ k) in z < n
-    → (membersFrom n k m ≡ (k + z) ∷ membersFrom (n - suc z) (suc (k + z)) m) × (m / 2 ^ (k + z) % 2 ≡ 1)
-unfolding trailingZeros membersFrom bit
-lowest zero k m h = absurd (omega arith)
-lowest (suc n) k m h = go (m / 2 ^ k % 2) (trailingZeros n (m / 2 ^ k / 2)) (trailingZeros n (m / 2 ^ suc k)) refl (ap (trailingZeros n) (half m k)) h (λ j. lowest n (suc k) m j)
-  where
-    go : (b z y : ℕ) → m / 2 ^ k % 2 ≡ b → y ≡ z → under b z < suc n
-        → (y < n → (membersFrom n (suc k) m ≡ (suc k + y) ∷ membersFrom (n - suc y) (suc (suc k + y)) m) × (m / 2 ^ (suc k + y) % 2 ≡ 1))
-        → (also (eqb (m / 2 ^ k % 2) 1) k (membersFrom n (suc k) m) ≡ (k + under b z) ∷ membersFrom (suc n - suc (under b z)) (suc (k + under b z)) m) × (m / 2 ^ (k + under b z) % 2 ≡ 1)
-    go zero z y e ez l f =
-        let r = f (omega arith) in
-        let a : suc k + y ≡ k + suc z = omega arith in
-        let b : n - suc y ≡ suc n - suc (suc z) = omega arith in
-        (ap (λ (x : ℕ). also (eqb x 1) k (membersFrom n (suc k) m)) e ∙ r .0 ∙ (λ i. a i ∷ membersFrom (b i) (suc (a i)) m), rw a at (r .1))
-    go (suc b) z y e ez l f =
-        let o : m / 2 ^ k % 2 ≡ 1 = omega arith in
-        let a : k + 0 ≡ k = omega arith in
-        let d : suc n - 1 ≡ n = omega arith in
-        (rw (a, d) (ap (λ (x : Bool). also x k (membersFrom n (suc k) m)) (eq-eqb (m / 2 ^ k % 2) 1 o)), rw a o)
-
--- a number that is not 0 has a lowest digit
-pub trailing-lt : (n q : ℕ) → q < 2 ^ n → (q ≡ 0 → ⊥) → trailingZeros n q < n
-unfolding trailingZeros
-trailing-lt zero q l h = absurd (h (omega arith))
-trailing-lt (suc n) q l h = go (q % 2) refl (λ a b. trailing-lt n (q / 2) a b)
-  where
-    go : (b : ℕ) → q % 2 ≡ b → (q / 2 < 2 ^ n → (q / 2 ≡ 0 → ⊥) → trailingZeros n (q / 2) < n) → under b (trailingZeros n (q / 2)) < suc n
-    go zero e f = omega (arith, f (omega (arith, pow-suc 2 n)) (λ z. h (omega arith)))
-    go (suc b) e f = omega arith
-
--- none from k on where all is below
-none-above : (n k m : ℕ) → m < 2 ^ k → membersFrom n k m ≡ []
-unfolding membersFrom
-none-above zero k m h = refl
-none-above (suc n) k m h = rw (bit-above k m h) (none-above n (suc k) m (omega (arith, pow-suc 2 k)))
 
 module _ (m : ℕ) (fits : m < 4294967296) (some-in : m ≡ 0 → ⊥) where
   abbrev low : ℕ
   low = trailingZeros 32 m
 
-  at-start : trailingZeros 32 (m / 2 ^ 0) ≡ low
-  at-start = ap (trailingZeros 32) (div-one m)
+  abbrev others : ℕ
+  others = bitAnd m (m - 1)
 
   pub low-lt : low < 32
-  low-lt = trailing-lt 32 m fits some-in
+  low-lt = members-lowest m fits some-in .0
 
-  low-is : (members m ≡ low ∷ membersFrom (32 - suc low) (suc low) m) × (m / 2 ^ low % 2 ≡ 1)
-  low-is =
-      let r = lowest 32 0 m (omega (arith, at-start, low-lt)) in
-      let a : 0 + trailingZeros 32 (m / 2 ^ 0) ≡ low = omega (arith, at-start) in
-      (r .0 ∙ (λ i. a i ∷ membersFrom (32 - suc (at-start i)) (suc (a i)) m), rw a at (r .1))
+  low-is : members m ≡ low ∷ members others
+  low-is = members-lowest m fits some-in .1
 
-  pub one-target : m / 2 ^ low ≡ 1 → members m ≡ low ∷ []
-  one-target h =
-      let l : m < 2 ^ suc low = subst (λ (x : ℕ). m < x) (ap (λ (x : ℕ). x) (omega (arith, pow-suc 2 low))) (div-lt-iff-lt-mul {k = 2 ^ low} {x = m} {y = 2} (pow-pos low) .0 (omega arith)) in
-      low-is .0 ∙ ap (λ (l : List ℕ). low ∷ l) (none-above (32 - suc low) (suc low) m l)
+  pub one-target : others ≡ 0 → members m ≡ low ∷ []
+  one-target h = low-is ∙ ap (λ (k : ℕ). low ∷ members k) h ∙ ap (λ (l : List ℕ). low ∷ l) members-none
 
-  pub more-targets : (m / 2 ^ low ≡ 1 → ⊥) → (a b : ℕ) × (l : List ℕ) × (members m ≡ a ∷ b ∷ l)
+  pub more-targets : (others ≡ 0 → ⊥) → (a b : ℕ) × (l : List ℕ) × (members m ≡ a ∷ b ∷ l)
   more-targets h =
-      let q = m / 2 ^ suc low in
-      let n = 32 - suc low in
-      let e : q ≡ m / 2 ^ low / 2 = half m low in
-      let nz : q ≡ 0 → ⊥ = λ z. omega (arith, e, low-is .1, h (omega (arith, e, low-is .1))) in
-      let u : n + suc low ≡ 32 = omega (arith, low-lt) in
-      let b : q < 2 ^ n = shr-lt n (suc low) (rw u fits) in
-      let r = lowest n (suc low) m (trailing-lt n q b nz) .0 in
-      (low, suc low + trailingZeros n q, membersFrom (n - suc (trailingZeros n q)) (suc (suc low + trailingZeros n q)) m, low-is .0 ∙ ap (λ (l : List ℕ). low ∷ l) r)
+      let next = members-lowest others (omega (arith, and-le-l m (m - 1))) h .1 in
+      (low, trailingZeros 32 others, members (bitAnd others (others - 1)), low-is ∙ ap (λ (l : List ℕ). low ∷ l) next)
 
 -- ---- the i-th target
 
@@ -187,7 +136,7 @@ module _ (arc keep : ℕ) (vs : List ℤ) (used : ℕ) (w : used ≤ length vs) 
 
 module _ (arc keep : ℕ) where
   pub direct-none : arc ≡ 0 → 32 ≡ directOf arc keep
-  direct-none z = sym (ap (oneKept keep) (ap members z ∙ none-above 32 0 0 (omega arith)))
+  direct-none z = sym (ap (oneKept keep) (ap members z ∙ members-none))
 
   pub direct-more : (a b : ℕ) (l : List ℕ) → members arc ≡ a ∷ b ∷ l → 32 ≡ directOf arc keep
   direct-more a b l e = sym (ap (oneKept keep) e)

@@ -1,40 +1,27 @@
 -- The members of a mask, and a toss among them.
-use mathlib.Core.Path.{_≡_, refl, ap}
-use mathlib.Core.Bool.{Bool}
-use mathlib.Core.List.{List, _∷_}
-use Prim.Native.Nat.{ℕ, suc, _+_, _-_, _/_, _%_, _^_, _<_, _≤_}
-use native.Mathlib.Omega.{arith}
-use native.Mathlib.Numerals.{add-one}
+use mathlib.Core.Path.{_≡_, refl, sym, ap}
+use mathlib.Core.List.{List}
+use Prim.Native.Nat.{ℕ, suc, _+_, _-_, _<_, _≤_}
 use lib.ListN.{length, getD}
+use lib.Bits.{bitAnd}
+use lib.Count.{trailingZeros}
 use lib.IntN.{ℤ, pos}
-use borrow.Author.Tests.{le-leb, lt-leb, eq-eqb, ne-eqb}
-use Rattle.table.specs.Mask.{bit, also, membersFrom, members}
+use borrow.Author.Tests.{le-leb, lt-leb, ne-eqb}
+use Rattle.table.specs.Mask.{members}
+use Rattle.masks.specs.Lowest.{members-none, members-lowest}
 use Rattle.tosses.specs.Tosses.{halting, meeting, targetAt, tossed}
 
--- ---- the numbers in a mask from j on: j is one, or not
-from-at : (d j m : ℕ) → m / 2 ^ j % 2 ≡ 1 → membersFrom (suc d) j m ≡ j ∷ membersFrom d (suc j) m
-unfolding membersFrom bit
-from-at d j m h = ap (λ (b : Bool). also b j (membersFrom d (suc j) m)) (eq-eqb (m / 2 ^ j % 2) 1 h)
+-- ---- the numbers in a mask: none, or the lowest and then the others
 
-from-off : (d j m : ℕ) → (m / 2 ^ j % 2 ≡ 1 → ⊥) → membersFrom (suc d) j m ≡ membersFrom d (suc j) m
-unfolding membersFrom bit
-from-off d j m h = ap (λ (b : Bool). also b j (membersFrom d (suc j) m)) (ne-eqb (m / 2 ^ j % 2) 1 h)
+pub nth-none : (i : ℕ) → getD (members 0) i 32 ≡ 32
+nth-none i = ap (λ (l : List ℕ). getD l i 32) members-none
 
-left-of : (j : ℕ) → j < 32 → (d : ℕ) × (32 - j ≡ suc d) × (32 - (j + 1) ≡ d)
-left-of j h = (31 - j, omega arith, omega arith)
+module _ (m : ℕ) (fits : m < 4294967296) (some-in : m ≡ 0 → ⊥) where
+  pub nth-lowest : trailingZeros 32 m ≡ getD (members m) 0 32
+  nth-lowest = sym (ap (λ (l : List ℕ). getD l 0 32) (members-lowest m fits some-in .1))
 
-pub bit-here : (m j : ℕ) → j < 32 → m / 2 ^ j % 2 ≡ 1 → getD (membersFrom (32 - j) j m) 0 32 ≡ j
-bit-here m j h e = let d = left-of j h in rw (d .1, from-at (d .0) j m e) refl
-
-pub bit-past : (m j i : ℕ) → j < 32 → m / 2 ^ j % 2 ≡ 1 → getD (membersFrom (32 - j) j m) (suc i) 32 ≡ getD (membersFrom (32 - (j + 1)) (j + 1) m) i 32
-bit-past m j i h e = let d = left-of j h in rw (d .1, d .2, from-at (d .0) j m e, add-one) refl
-
-pub bit-off : (m j i : ℕ) → j < 32 → (m / 2 ^ j % 2 ≡ 1 → ⊥) → getD (membersFrom (32 - j) j m) i 32 ≡ getD (membersFrom (32 - (j + 1)) (j + 1) m) i 32
-bit-off m j i h e = let d = left-of j h in rw (d .1, d .2, from-off (d .0) j m e, add-one) refl
-
-pub bit-none : (m j i : ℕ) → 32 ≤ j → getD (membersFrom (32 - j) j m) i 32 ≡ 32
-unfolding membersFrom
-bit-none m j i h = let e : 32 - j ≡ 0 = omega arith in rw e refl
+  pub nth-others : (i : ℕ) → getD (members m) (suc i) 32 ≡ getD (members (bitAnd m (m - 1))) i 32
+  nth-others i = ap (λ (l : List ℕ). getD l (suc i) 32) (members-lowest m fits some-in .1)
 
 -- ---- a toss
 abbrev nthOf : ℕ → List ℤ → ℕ → ℕ

@@ -18,16 +18,14 @@ pub struct Chosen {
 fn nth(m: u32, i: u32) -> u8
     ensures { λ r. ⌜ r ≡ getD (members m) i 32 ⌝ }
 {
+    let mut rest = m;
     let mut left = i;
-    let mut j: u32 = 0;
-    while j < 32 {
-        if (m >> j) % 2 == 1 {
-            if left == 0 {
-                return j as u8;
-            }
-            left = left - 1;
+    while rest != 0 {
+        if left == 0 {
+            return u32::trailing_zeros(rest) as u8;
         }
-        j = j + 1;
+        rest = rest & (rest - 1);
+        left = left - 1;
     }
     32
 }
@@ -87,9 +85,8 @@ pub fn arrive(arc: u32, keep: u32, values: &[i32], used: usize) -> Chosen
             used,
         };
     }
-    let j = u32::trailing_zeros(arc);
-    if arc >> j == 1 {
-        return meets(j as u8, keep, used);
+    if arc & (arc - 1) == 0 {
+        return meets(u32::trailing_zeros(arc) as u8, keep, used);
     }
     toss(arc, keep, values, used)
 }
@@ -101,10 +98,10 @@ pub fn direct_target(arc: u32, keep: u32) -> u8
     if arc == 0 {
         return 32;
     }
-    let low = u32::trailing_zeros(arc);
-    if arc >> low != 1 {
+    if arc & (arc - 1) != 0 {
         return 32;
     }
+    let low = u32::trailing_zeros(arc);
     if (keep >> low) % 2 == 1 {
         low as u8
     } else {

@@ -7,8 +7,8 @@ use Rattle.tosses.proofs.arrive.Tie as tie
 returns : tie.Need-returns
 returns c = nowhere-arrived (c .before .args .arc) (c .before .args .keep) (c .before .args .values .now) (c .before .args .used) (c .before .pre) (c .if1 .taken)
 
-shr-if2 : tie.Need-shr-if2
-shr-if2 c = low-lt (c .before .args .arc) (omega (arith, c .before .fits .arc .fits)) (c .if1 .left)
+sub-if2 : tie.Need-sub-if2
+sub-if2 c = search needs
 
 cast-meets : tie.Need-cast-meets
 cast-meets c = record { fits = omega (arith, low-lt (c .before .before .args .arc) (omega (arith, c .before .before .fits .arc .fits)) (c .before .if1 .left)) }
@@ -28,4 +28,4 @@ returns-3 c = let m = more-targets (c .before .before .before .args .arc) (omega
 pub arrive-spec : {M : Type 1} → statement M
 arrive-spec =
     tie.close
-    (tie.spec returns shr-if2 cast-meets meets-requires returns-2 toss-requires returns-3)
+    (tie.spec returns sub-if2 cast-meets meets-requires returns-2 toss-requires returns-3)

@@ -1,3 +1,4 @@
+use borrow.Author.Needs.{needs}
 use native.Mathlib.Omega.{arith}
 use Rattle.tosses.proofs.Arcs.{low-lt, one-target, more-targets, direct-none, direct-more, direct-kept, direct-dropped}
 use Rattle.tosses.proofs.direct_target.Statement.{statement}
@@ -6,8 +7,8 @@ use Rattle.tosses.proofs.direct_target.Tie as tie
 returns : tie.Need-returns
 returns c = direct-none ((c .before .args) .arc) ((c .before .args) .keep) ((c .if1) .taken)
 
-shr-if2 : tie.Need-shr-if2
-shr-if2 c = low-lt ((c .before .args) .arc) (omega (arith, (c .before .fits) .arc .fits)) ((c .if1) .left)
+sub-if2 : tie.Need-sub-if2
+sub-if2 c = search needs
 
 returns-2 : tie.Need-returns-2
 returns-2 c = let m = more-targets ((c .before .before .args) .arc) (omega (arith, (c .before .before .fits) .arc .fits)) ((c .before .if1) .left) ((c .if2) .taken) in direct-more ((c .before .before .args) .arc) ((c .before .before .args) .keep) (m .0) (m .1) (m .2) (m .3)
@@ -27,4 +28,4 @@ returns-4 c = direct-dropped ((c .before .before .before .args) .arc) ((c .befor
 pub direct-target-spec : {M : Type 1} → statement M
 direct-target-spec =
     tie.close
-    (tie.spec returns shr-if2 returns-2 shr-if3 cast-result returns-3 returns-4)
+    (tie.spec returns sub-if2 returns-2 shr-if3 cast-result returns-3 returns-4)
