@@ -68,3 +68,17 @@ lead-step {s} {at} {v} {i} {d} m h k f l =
     let e = f k in
     let q : v * 10 + d ≡ capped (v * 10 + (getD s i 0 - 48)) = omega arith in
     lead-turn m h k f q
+
+lead-next : {s : List ℕ} {at v i d w j : ℕ} → LeadAt s at v i → i < length s → d ≤ 9 → (d ≤ 9 → d + 48 ≡ getD s i 0) → v < 429496729
+    → w ≡ v * 10 + d → j ≡ i + 1 → LeadAt s at w j
+lead-next m h k f l p q = rw (p, q) (lead-step m h k f l)
+
+pub lead-four : {s : List ℕ} {at v i a b c d w : ℕ} → w ≡ a * 1000 + b * 100 + c * 10 + d → LeadAt s at v i → v ≤ 9999 → 4 ≤ length s - i
+    → a ≤ 9 → (a ≤ 9 → a + 48 ≡ getD s i 0) → b ≤ 9 → (b ≤ 9 → b + 48 ≡ getD s (i + 1) 0)
+    → c ≤ 9 → (c ≤ 9 → c + 48 ≡ getD s (i + 2) 0) → d ≤ 9 → (d ≤ 9 → d + 48 ≡ getD s (i + 3) 0)
+    → LeadAt s at (v * 10000 + w) (i + 4)
+lead-four {s} {at} {v} {i} {a} {b} {c} {d} e m l h ka fa kb fb kc fc kd fd =
+    let p : LeadAt s at (v * 10 + a) (i + 1) = lead-step m (omega arith) ka fa (omega arith) in
+    let q : LeadAt s at (v * 100 + a * 10 + b) (i + 2) = lead-next p (omega arith) kb fb (omega arith) (omega arith) (omega arith) in
+    let r : LeadAt s at (v * 1000 + a * 100 + b * 10 + c) (i + 3) = lead-next q (omega arith) kc fc (omega arith) (omega arith) (omega arith) in
+    lead-next r (omega arith) kd fd (omega arith) (omega arith) (omega arith)

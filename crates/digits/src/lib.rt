@@ -74,13 +74,68 @@ fn further_digits(s: &[u8], at: usize, from: usize, first: u64) -> Lead
     Lead { value: v, end: i }
 }
 
+// The number that four digits say.
+fn joined(a: u8, b: u8, c: u8, d: u8) -> u64
+    requires { ⌜ (a ≤ 9) × (b ≤ 9) × (c ≤ 9) × (d ≤ 9) ⌝ }
+    ensures { λ r. ⌜ r ≡ a * 1000 + b * 100 + c * 10 + d ⌝ }
+{
+    (a as u64) * 1000 + (b as u64) * 100 + (c as u64) * 10 + (d as u64)
+}
+
+// Four digits more, if there are four. All are read before one is judged, so that they can be judged at once.
+fn four_more(s: &[u8], at: usize, from: usize, first: u64) -> Lead
+    requires { ⌜ LeadAt (now s) at first from × (first ≤ 9999) ⌝ }
+    ensures { λ r. ⌜ LeadAt (now (s .entry)) at (r .value) (r .end) × (r .value ≤ first * 10000 + 9999) ⌝ }
+{
+    let none = Lead {
+        value: first,
+        end: from,
+    };
+    if s.len() - from < 4 {
+        return none;
+    }
+    let a = digit(s[from]);
+    let b = digit(s[from + 1]);
+    let c = digit(s[from + 2]);
+    let d = digit(s[from + 3]);
+    if 9 < a {
+        return none;
+    }
+    if 9 < b {
+        return none;
+    }
+    if 9 < c {
+        return none;
+    }
+    if 9 < d {
+        return none;
+    }
+    Lead {
+        value: first * 10000 + joined(a, b, c, d),
+        end: from + 4,
+    }
+}
+
+// None, four or eight digits at a place.
+fn first_digits(s: &[u8], at: usize) -> Lead
+    requires { ⌜ at ≤ length (now s) ⌝ }
+    ensures { λ r. ⌜ LeadAt (now (s .entry)) at (r .value) (r .end) ⌝ }
+{
+    let four = four_more(s, at, at, 0);
+    if four.end == at {
+        return four;
+    }
+    four_more(s, at, four.end, four.value)
+}
+
 // The digits at a place. One digit more keeps a number below 429,496,729 within 2^32.
 pub fn digits_at(s: &[u8], at: usize) -> Lead
     requires { ⌜ at ≤ length (now s) ⌝ }
     ensures { λ r. ⌜ LeadAt (now (s .entry)) at (r .value) (r .end) ⌝ }
 {
-    let mut v: u64 = 0;
-    let mut i = at;
+    let lead = first_digits(s, at);
+    let mut v = lead.value;
+    let mut i = lead.end;
     while i < s.len() {
         let b = s[i];
         let d = digit(b);

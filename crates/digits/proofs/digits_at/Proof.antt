@@ -1,7 +1,7 @@
 use Prim.Native.Nat.{_-_}
 use lib.ListN.{length}
 use Rattle.digits.specs.Read.{LeadAt}
-use Rattle.digits.specs.LeadLaws.{lead-start, lead-small, lead-step}
+use Rattle.digits.specs.LeadLaws.{lead-small, lead-step}
 use borrow.Author.Needs.{needs}
 use Rattle.digits.proofs.digits_at.Statement.{statement}
 use Rattle.digits.proofs.digits_at.Tie as tie
@@ -12,8 +12,11 @@ Inv-loop s at v₀ i₀ v i = LeadAt s at v i
 abbrev μ-loop : tie.MeasureT-loop
 μ-loop s at v₀ i₀ v i = length s - i
 
+first-digits-requires : tie.Need-first-digits-requires Inv-loop μ-loop
+first-digits-requires c κs = search needs
+
 loop-holds : tie.Need-loop-holds Inv-loop μ-loop
-loop-holds c = search (needs, lead-start)
+loop-holds c = search needs
 
 shared-slice-read-b : tie.Need-shared-slice-read-b Inv-loop μ-loop
 shared-slice-read-b c = search needs
@@ -57,6 +60,7 @@ digits-at-spec =
     (tie.spec
     Inv-loop
     μ-loop
+    first-digits-requires
     loop-holds
     shared-slice-read-b
     digit-requires
