@@ -33,6 +33,7 @@ use Rattle.runner.proofs.Walks.{met, metOf, heading, withVars, tried-wi
 use Rattle.runner.proofs.Runs.{opens, stopsAt, answered, at-end}
 use Rattle.runner.proofs.Turns.{within, at-below, Ends, ends-over, ends-spent, ends-halts, goes-on, stop-none, stop-full, stop-lost, Standing, node-is, placed, under-le, freed, acted, logs, stop-tried, stop-acting, stop-walking, whole, turn-walks, stored-good, under-less, back-below}
 use Rattle.runner.proofs.Stores.{proc-in, node-in, vars-in, shape-after, onTop, Closed, top-none, top-good, vars-still, frames-after, shape-closed}
+use Rattle.runner.proofs.Decoded.{bare, bare-placed}
 use Rattle.runner.proofs.Directs.{LeadsStraight, stateIn, Shaped, Goes, left-same, left-opens, Done, led, called, returned, done-by, goes-straight}
 use Rattle.runner.proofs.Returns.{goes-call, goes-return}
 
@@ -231,9 +232,9 @@ module _ (S : Setting) (whole-run : Ran) (size : ℕ) where
       pub x-placed : Placed x
       x-placed = placed (S .t) (S .keep) (K .ready) (S .most) (S .vs) (v .ks) (h .n) (state v) (v .used) (v .log) f x (m .lens) (m .items) (S .cs) is-standing
 
-      pub stood : Stood x i f d (m .procs) (m .nodes) (m .vars) (m .items)
+      pub stood : Stood (bare x) i f d (m .procs) (m .nodes) (m .vars) (m .items)
       stood = record {
-        placed = x-placed;
+        placed = bare-placed x x-placed;
         task = task-low;
         frame = f-low;
         above = λ l. omega (arith, l, st .at, task-low, opened);
@@ -298,8 +299,8 @@ module _ (S : Setting) (whole-run : Ran) (size : ℕ) where
               go (called q xs to c l ans aft) = goes-call (S .t) (S .keep) (K .ready) (S .most) (S .vs) (v .ks) (h .n) (v .lost) m (v .used) (v .log) f x (S .cs) is-standing (h .shape) e m′ ans log′ puts-n q xs to c l aft
               go (returned c l there ans aft) = goes-return (S .t) (S .keep) (K .ready) (S .most) (S .vs) (v .ks) (h .n) (v .lost) m (v .used) (v .log) f x (S .cs) is-standing (h .shape) e m′ ans log′ puts-n (h .within) (S .row) (K .rowed) (S .ts) (K .targeted) c l there aft
 
-          pub done-next : (used : ℕ) → used ≡ v .used → Held (stepped v (v .lost) m′ used log′)
-          done-next used z = rw z (next (v .lost) m′ (v .used) log′ (ap length puts ∙ length-sets (v .log) (v .at) (i ∷ getD (m .procs) f 0 ∷ getD (m .nodes) f 0 ∷ e .flag ∷ word (e .bits))) (goes .ran) (goes .good) (goes .shape) (h .within))
+          pub done-next : Held (stepped v (v .lost) m′ (v .used) log′)
+          done-next = next (v .lost) m′ (v .used) log′ (ap length puts ∙ length-sets (v .log) (v .at) (i ∷ getD (m .procs) f 0 ∷ getD (m .nodes) f 0 ∷ e .flag ∷ word (e .bits))) (goes .ran) (goes .good) (goes .shape) (h .within)
 
     -- ---- a node executed in the frame at place g, or blocked
 

@@ -284,17 +284,6 @@ pub fn settle(vars: &mut [i32; 16], far: bool, w: &[i32; 16], v: u8, x: i32)
     set_var(vars, v, x);
 }
 
-// ---- values
-
-// A count, at most n. The compiler does not see that it stays as it is: else it makes the steps that use no value a loop of their own,
-// and every other step enters that loop anew.
-pub fn at_most(used: usize, n: usize) -> usize
-    requires { ⌜ used ≤ n ⌝ }
-    ensures { λ r. ⌜ r ≡ used ⌝ }
-{
-    if used < n { used } else { n }
-}
-
 // ---- frames
 
 pub fn no_frame() -> machine::Frame

@@ -6,15 +6,14 @@ use mathlib.Core.Option.{Option, none, some}
 use Prim.Native.Nat.{ℕ, _+_, _-_, _*_, _<_, _≤_}
 use native.Mathlib.Omega.{arith}
 use lib.ListN.{length, getD, set}
-use lib.Seq.{set-getD, set-out, getD-set-same, getD-set-other}
+use lib.Seq.{set-getD, set-out}
 use lib.Dec.{eqb}
 use lib.IntN.{ℤ, pos}
 use mir.Syntax.{w32}
 use mir.Val.{ofZ}
-use borrow.Author.Tests.{eqb-true, eqb-false, eq-eqb, ne-eqb, le-leb, lt-leb}
+use borrow.Author.Tests.{eq-eqb, ne-eqb, le-leb, lt-leb}
 use Rattle.table.specs.Mask.{pick}
 use Rattle.table.specs.declared.Args.{Args}
-use Rattle.masks.specs.Cells.{Filled}
 use Rattle.machine.specs.State.{noVars}
 use Rattle.machine.specs.Step.{entering}
 use Rattle.steps.specs.Cut.{doesTo, goesTo, showsTo, unless, semsAfter, lensAfter, itemsAfter}
@@ -130,15 +129,3 @@ pub landed-as : (i f g back : ℕ) (o : Acted) (node : ℕ) (far : Bool) (w : Li
 landed-as i f g back o node far w m a b c d e h k n =
     let u = e ∙ ap (λ (vs : List (List ℤ)). pick far w (set (getD vs g []) (o .var) (o .value))) d in
     λ j. columns (a j) (b j) (set (c j) g node) (set (d j) g (u j)) (h j) (k j) (n j)
-
--- ---- one place more
-
-pub filled-set : (g : ℕ → ℕ) (l : List ℕ) (n : ℕ) {x : ℕ} → n < length l → x ≡ g n → Filled g n l → Filled g (n + 1) (set l n x)
-filled-set g l n {x} h e f a b = go (eqb a n) refl
-  where
-    below : (a ≡ n → ⊥) → a < n
-    below z = omega arith
-
-    go : (t : Bool) → eqb a n ≡ t → getD (set l n x) a 0 ≡ g a
-    go true q = let z : a ≡ n = eqb-true a n q in rw z (getD-set-same l n x 0 h ∙ e)
-    go false q = getD-set-other l n a x 0 (eqb-false a n q) ∙ f a (below (eqb-false a n q))

@@ -9,10 +9,10 @@ ghost use lib.IntN.{pos};
 ghost use Rattle.table.specs.Mask.{pick};
 ghost use Rattle.table.specs.Values.{apply, holds};
 ghost use Rattle.machine.specs.Step.{operandIn};
+ghost use Rattle.decoding.specs.Decoding.{operandOf};
 ghost use Rattle.steps.specs.Cut.{doesTo, goesTo, showsTo, unless};
 ghost use Rattle.straight.specs.Turns.{notDone, doneAs, Framed, onNodes, onVars, onSems, onQueues, Moves, Queued};
 use table::Op;
-use table::Operand;
 
 // A step tried at once: whether it is completed, and what the log shows of it.
 pub struct Tried {
@@ -57,6 +57,15 @@ pub fn go(nodes: &mut [u8; 32], f: usize, j: u8) -> Tried
     done()
 }
 
+// An operand by its variable's number and its constant.
+fn term(vars: &[i32; 16], v: u8, c: i32) -> i32
+    requires { ⌜ length (now vars) ≡ 16 ⌝ }
+    ensures { λ r. ⌜ r ≡ operandIn (now (vars .entry)) (operandOf v c) ⌝ }
+{
+    let k = v as usize;
+    if k < 16 { vars[k] } else { c }
+}
+
 pub fn set_step<'a>(
     nodes: &'a mut [u8; 32],
     vars: &'a mut [[i32; 16]; 32],
@@ -64,17 +73,19 @@ pub fn set_step<'a>(
     j: u8,
     var: u8,
     op: Op,
-    a: Operand,
-    b: Operand,
+    va: u8,
+    a: i32,
+    vb: u8,
+    b: i32,
 ) -> Tried
     requires { ⌜ Framed f (now vars) ⌝ }
-    ensures { λ r. ⌜ Moves j (λ m. goesTo var (apply op (operandIn (getD (now (vars .entry)) f []) a) (operandIn (getD (now (vars .entry)) f []) b)) 0 0) f r (λ m. onNodes (now (nodes .entry)) (onVars (now (vars .entry)) m)) (λ m. onNodes (now (nodes .exit)) (onVars (now (vars .exit)) m)) ⌝ }
+    ensures { λ r. ⌜ Moves j (λ m. goesTo var (apply op (operandIn (getD (now (vars .entry)) f []) (operandOf va a)) (operandIn (getD (now (vars .entry)) f []) (operandOf vb b))) 0 0) f r (λ m. onNodes (now (nodes .entry)) (onVars (now (vars .entry)) m)) (λ m. onNodes (now (nodes .exit)) (onVars (now (vars .exit)) m)) ⌝ }
 {
     if j == 32 {
         return not_done();
     }
-    let p = steps::operand(&vars[f], a);
-    let q = steps::operand(&vars[f], b);
+    let p = term(&vars[f], va, a);
+    let q = term(&vars[f], vb, b);
     steps::set_var(&mut vars[f], var, values::apply(op, p, q));
     nodes[f] = j;
     done()
@@ -88,12 +99,12 @@ fn arm(z: i32, yes: u8, no: u8) -> u8
 }
 
 // The target of a test, by its operands.
-pub fn tested(vars: &[i32; 16], op: Op, a: Operand, b: Operand, yes: u8, no: u8) -> u8
+pub fn tested(vars: &[i32; 16], op: Op, va: u8, a: i32, vb: u8, b: i32, yes: u8, no: u8) -> u8
     requires { ⌜ length (now vars) ≡ 16 ⌝ }
-    ensures { λ r. ⌜ r ≡ pick (holds (apply op (operandIn (now (vars .entry)) a) (operandIn (now (vars .entry)) b))) yes no ⌝ }
+    ensures { λ r. ⌜ r ≡ pick (holds (apply op (operandIn (now (vars .entry)) (operandOf va a)) (operandIn (now (vars .entry)) (operandOf vb b)))) yes no ⌝ }
 {
-    let p = steps::operand(vars, a);
-    let q = steps::operand(vars, b);
+    let p = term(vars, va, a);
+    let q = term(vars, vb, b);
     arm(values::apply(op, p, q), yes, no)
 }
 

@@ -1,9 +1,13 @@
 // A step tried at once, and where the arcs lead straight to.
 ghost use mathlib.Core.Path.{_≡_};
+ghost use mathlib.Core.List.{[]};
+ghost use Prim.Native.Nat.{_<_};
+ghost use lib.ListN.{getD};
 ghost use Rattle.table.specs.Table.{arcTo, arcNo};
+ghost use Rattle.decoding.specs.Decoding.{bareOf};
 ghost use Rattle.straight.specs.Turns.{Stood, columns, turn, triedTurn, Arcs, Targets};
+use decoding::Kind;
 use straight::Tried;
-use table::Node;
 use table::Slot;
 
 // ---- arcs
@@ -54,10 +58,13 @@ pub fn targets(arcs: &[u32; 256], keep: &[u32; 8]) -> [u8; 256]
 
 // ---- steps
 
-// A step tried at once. j is the kept node that the arc of x leads straight to, k the one that a test's arc at `no` does; `targets` has j for every
-// place.
+// A step tried at once, of the node that is decoded at place p. j is the kept node that its arc leads straight to, k the one that a test's arc at
+// `no` does; `targets` has j for every place.
 pub fn direct<'a>(
-    x: Node,
+    kind: Kind,
+    numbers: &'a [[u8; 8]; 256],
+    consts: &'a [[i32; 2]; 256],
+    p: usize,
     j: u8,
     k: u8,
     targets: &'a [u8; 256],
@@ -73,35 +80,34 @@ pub fn direct<'a>(
     caps: &'a [u8; 8],
     items: &'a mut [[i32; 8]; 8],
 ) -> Tried
-    requires { ⌜ Stood x i f d (now procs) (now nodes) (now vars) (now items) ⌝ }
-    ensures { λ r. ⌜ turn r (columns (now (depth .exit)) (now (procs .exit)) (now (nodes .exit)) (now (vars .exit)) (now (sems .exit)) (now (lens .exit)) (now (items .exit))) ≡ triedTurn x j k (now (targets .entry)) (now (caps .entry)) i f d (columns (now (depth .entry)) (now (procs .entry)) (now (nodes .entry)) (now (vars .entry)) (now (sems .entry)) (now (lens .entry)) (now (items .entry))) ⌝ }
+    requires { ⌜ (p < 256) × Stood (bareOf kind (getD (now numbers) p []) (getD (now consts) p [])) i f d (now procs) (now nodes) (now vars) (now items) ⌝ }
+    ensures { λ r. ⌜ turn r (columns (now (depth .exit)) (now (procs .exit)) (now (nodes .exit)) (now (vars .exit)) (now (sems .exit)) (now (lens .exit)) (now (items .exit))) ≡ triedTurn (bareOf kind (getD (now (numbers .entry)) p []) (getD (now (consts .entry)) p [])) j k (now (targets .entry)) (now (caps .entry)) i f d (columns (now (depth .entry)) (now (procs .entry)) (now (nodes .entry)) (now (vars .entry)) (now (sems .entry)) (now (lens .entry)) (now (items .entry))) ⌝ }
 {
-    match x {
-        Node::Absent => straight::not_done(),
-        Node::Start { to: _ } => straight::go(nodes, f, j),
-        Node::Set {
-            var,
+    match kind {
+        Kind::Absent => straight::not_done(),
+        Kind::Start => straight::go(nodes, f, j),
+        Kind::Set(op) => straight::set_step(
+            nodes,
+            vars,
+            f,
+            j,
+            numbers[p][0],
             op,
-            a,
-            b,
-            to: _,
-        } => straight::set_step(nodes, vars, f, j, var, op, a, b),
-        Node::Test {
-            op,
-            a,
-            b,
-            yes: _,
-            no: _,
-        } => {
-            let n = straight::tested(&vars[f], op, a, b, j, k);
+            numbers[p][1],
+            consts[p][0],
+            numbers[p][2],
+            consts[p][1],
+        ),
+        Kind::Test(op) => {
+            let va = numbers[p][0];
+            let a = consts[p][0];
+            let vb = numbers[p][1];
+            let b = consts[p][1];
+            let n = straight::tested(&vars[f], op, va, a, vb, b, j, k);
             straight::go(nodes, f, n)
         }
-        Node::Read { var: _, to: _ } => straight::not_done(),
-        Node::Call {
-            callee,
-            args,
-            to: _,
-        } => frames::call_step(
+        Kind::Read => straight::not_done(),
+        Kind::Call => frames::call_step(
             depth,
             procs,
             nodes,
@@ -109,37 +115,40 @@ pub fn direct<'a>(
             i,
             f,
             d,
-            callee,
-            args.len,
-            args.a0,
-            args.a1,
-            args.a2,
-            args.a3,
+            numbers[p][0],
+            numbers[p][1],
+            numbers[p][2],
+            numbers[p][3],
+            numbers[p][4],
+            numbers[p][5],
         ),
-        Node::Wait { sem, to: _ } => straight::wait_step(nodes, sems, f, j, sem),
-        Node::Signal { sem, to: _ } => straight::signal_step(nodes, sems, f, j, sem),
-        Node::Send { queue, var, to: _ } => {
-            let v = steps::var_at(&vars[f], var);
-            straight::send_step(nodes, lens, caps, items, f, j, queue, v)
+        Kind::Wait => straight::wait_step(nodes, sems, f, j, numbers[p][0]),
+        Kind::Signal => straight::signal_step(nodes, sems, f, j, numbers[p][0]),
+        Kind::Send => {
+            let v = numbers[p][1];
+            let x = steps::var_at(&vars[f], v);
+            straight::send_step(nodes, lens, caps, items, f, j, numbers[p][0], x)
         }
-        Node::Recv { queue, var, to: _ } => straight::receive_step(
+        Kind::Recv => straight::receive_step(
             nodes,
             vars,
             lens,
             items,
             f,
             j,
-            queue,
-            var,
+            numbers[p][0],
+            numbers[p][1],
         ),
-        Node::Assert { var, to: _ } => {
-            let v = steps::var_at(&vars[f], var);
-            straight::show_step(nodes, f, j, var, v)
+        Kind::Assert => {
+            let v = numbers[p][0];
+            let x = steps::var_at(&vars[f], v);
+            straight::show_step(nodes, f, j, v, x)
         }
-        Node::Out { var, to: _ } => {
-            let v = steps::var_at(&vars[f], var);
-            straight::show_step(nodes, f, j, var, v)
+        Kind::Out => {
+            let v = numbers[p][0];
+            let x = steps::var_at(&vars[f], v);
+            straight::show_step(nodes, f, j, v, x)
         }
-        Node::Return => frames::return_step(depth, procs, nodes, vars, targets, i, f, d),
+        Kind::Return => frames::return_step(depth, procs, nodes, vars, targets, i, f, d),
     }
 }

@@ -2,8 +2,11 @@ use borrow.Author.Needs.{needs}
 use mathlib.Core.Path.{refl, ap, _∙_}
 use mathlib.Core.List.{[]}
 use lib.ListN.{getD, set}
+use lib.IntN.{ℤ}
 use Rattle.table.specs.Values.{apply}
 use Rattle.steps.specs.Cut.{goesTo}
+use Rattle.machine.specs.Step.{operandIn}
+use Rattle.decoding.specs.Decoding.{operandOf}
 use Rattle.values.proofs.Again.{again, twice}
 use Rattle.straight.specs.Turns.{onNodes, onVars}
 use Rattle.straight.proofs.Laws.{stays, moves, none-there, one-there}
@@ -16,23 +19,23 @@ not-done-requires c κs = search needs
 returns : tie.Need-returns
 returns c = λ m h. stays ((c .before .before .args) .j) ((c .before .before .args) .f) _ (onNodes ((c .before .before .args) .nodes .now) (onVars ((c .before .before .args) .vars .now) m)) (none-there ((c .before .if1) .taken)) ((c .not-done) .ensures)
 
-mul-operand : tie.Need-mul-operand
-mul-operand c = search needs
+mul-term : tie.Need-mul-term
+mul-term c = search needs
 
-index-1-operand : tie.Need-index-1-operand
-index-1-operand c = (c .before .pre) .0
+index-1-term : tie.Need-index-1-term
+index-1-term c = (c .before .pre) .0
 
-operand-requires : tie.Need-operand-requires
-operand-requires c κs = (c .before .before .pre) .1
+term-requires : tie.Need-term-requires
+term-requires c κs = (c .before .before .pre) .1
 
-mul-operand-2 : tie.Need-mul-operand-2
-mul-operand-2 c = search needs
+mul-term-2 : tie.Need-mul-term-2
+mul-term-2 c = search needs
 
-index-1-operand-2 : tie.Need-index-1-operand-2
-index-1-operand-2 c = (c .before .before .before .pre) .0
+index-1-term-2 : tie.Need-index-1-term-2
+index-1-term-2 c = (c .before .before .before .pre) .0
 
-operand-requires-2 : tie.Need-operand-requires-2
-operand-requires-2 c κs = (c .before .before .before .before .pre) .1
+term-requires-2 : tie.Need-term-requires-2
+term-requires-2 c κs = (c .before .before .before .before .pre) .1
 
 mul-set-var : tie.Need-mul-set-var
 mul-set-var c = search needs
@@ -53,7 +56,7 @@ done-requires : tie.Need-done-requires
 done-requires c κs = search needs
 
 returns-2 : tie.Need-returns-2
-returns-2 c = λ m h. moves ((c .before .before .before .before .before .before .before .before .before .args) .j) ((c .before .before .before .before .before .before .before .before .before .args) .f) (goesTo ((c .before .before .before .before .before .before .before .before .before .args) .var) _ 0 0) (onNodes ((c .before .before .before .before .before .before .before .before .before .args) .nodes .now) (onVars ((c .before .before .before .before .before .before .before .before .before .args) .vars .now) m)) (one-there ((c .before .before .before .before .before .before .before .before .if1) .left)) ((c .done) .ensures) (ap (set ((c .before .before .before .before .before .before .before .before .before .args) .vars .now) ((c .before .before .before .before .before .before .before .before .before .args) .f)) ((c .before .set-var) .ensures ∙ ap (set (getD ((c .before .before .before .before .before .before .before .before .before .args) .vars .now) ((c .before .before .before .before .before .before .before .before .before .args) .f) []) ((c .before .before .before .before .before .before .before .before .before .args) .var)) (again ((c .before .before .apply) .result) (record { sfits = (c .before .before .apply) .ok }) ∙ (c .before .before .apply) .ensures ∙ twice (apply ((c .before .before .before .before .before .before .before .before .before .args) .op)) ((c .before .before .before .before .before .before .operand) .result) ((c .before .before .before .before .operand2) .result) (record { sfits = (c .before .before .before .before .before .before .operand) .ok }) (record { sfits = (c .before .before .before .before .operand2) .ok }) ((c .before .before .before .before .before .before .operand) .ensures) ((c .before .before .before .before .operand2) .ensures)))) refl refl refl
+returns-2 c = λ m h. moves ((c .before .before .before .before .before .before .before .before .before .args) .j) ((c .before .before .before .before .before .before .before .before .before .args) .f) (goesTo ((c .before .before .before .before .before .before .before .before .before .args) .var) _ 0 0) (onNodes ((c .before .before .before .before .before .before .before .before .before .args) .nodes .now) (onVars ((c .before .before .before .before .before .before .before .before .before .args) .vars .now) m)) (one-there ((c .before .before .before .before .before .before .before .before .if1) .left)) ((c .done) .ensures) (ap (set ((c .before .before .before .before .before .before .before .before .before .args) .vars .now) ((c .before .before .before .before .before .before .before .before .before .args) .f)) ((c .before .set-var) .ensures ∙ ap (set (getD ((c .before .before .before .before .before .before .before .before .before .args) .vars .now) ((c .before .before .before .before .before .before .before .before .before .args) .f) []) ((c .before .before .before .before .before .before .before .before .before .args) .var)) (again ((c .before .before .apply) .result) (record { sfits = (c .before .before .apply) .ok }) ∙ (c .before .before .apply) .ensures ∙ twice (apply ((c .before .before .before .before .before .before .before .before .before .args) .op)) ((c .before .before .before .before .before .before .term) .result) ((c .before .before .before .before .term2) .result) (record { sfits = (c .before .before .before .before .before .before .term) .ok }) (record { sfits = (c .before .before .before .before .term2) .ok }) ((c .before .before .before .before .before .before .term) .ensures ∙ ap (λ (z : ℤ). operandIn (getD ((c .before .before .before .before .before .before .before .before .before .args) .vars .now) ((c .before .before .before .before .before .before .before .before .before .args) .f) []) (operandOf ((c .before .before .before .before .before .before .before .before .before .args) .va) z)) (again ((c .before .before .before .before .before .before .before .before .before .args) .a) ((c .before .before .before .before .before .before .before .before .before .fits) .a))) ((c .before .before .before .before .term2) .ensures ∙ ap (λ (z : ℤ). operandIn (getD ((c .before .before .before .before .before .before .before .before .before .args) .vars .now) ((c .before .before .before .before .before .before .before .before .before .args) .f) []) (operandOf ((c .before .before .before .before .before .before .before .before .before .args) .vb) z)) (again ((c .before .before .before .before .before .before .before .before .before .args) .b) ((c .before .before .before .before .before .before .before .before .before .fits) .b)))))) refl refl refl
 
 pub set-step-spec : {M : Type 1} → statement M
 set-step-spec =
@@ -61,12 +64,12 @@ set-step-spec =
     (tie.spec
     not-done-requires
     returns
-    mul-operand
-    index-1-operand
-    operand-requires
-    mul-operand-2
-    index-1-operand-2
-    operand-requires-2
+    mul-term
+    index-1-term
+    term-requires
+    mul-term-2
+    index-1-term-2
+    term-requires-2
     mul-set-var
     index-1-set-var
     apply-requires

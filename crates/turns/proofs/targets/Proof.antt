@@ -3,9 +3,8 @@ use native.Mathlib.Omega.{arith}
 use mathlib.Core.Path.{_≡_, refl}
 use Prim.Native.Nat.{_-_, _/_, _≤_}
 use lib.ListN.{length, getD, length-set}
-use Rattle.masks.specs.Cells.{Filled}
+use Rattle.masks.specs.Cells.{Filled, set-more}
 use Rattle.tosses.specs.Tosses.{directOf}
-use Rattle.straight.proofs.Laws.{filled-set}
 use Rattle.turns.proofs.targets.Statement.{statement}
 use Rattle.turns.proofs.targets.Tie as tie
 
@@ -43,7 +42,7 @@ loop-less : tie.Need-loop-less Inv-loop μ-loop
 loop-less c = search needs
 
 loop-again : tie.Need-loop-again Inv-loop μ-loop
-loop-again c = (omega arith, (simp length-set ((c .before .before .before .before .loop) .inv .1 .0), filled-set (λ k. directOf (getD ((c .before .before .before .before .before .args) .arcs .now) k 0) (getD ((c .before .before .before .before .before .args) .keep .now) (k / 32) 0)) ((c .before .before .before .before .loop) .r) ((c .before .before .before .before .loop) .a) (omega (arith, (c .before .before .before .before .loop) .inv .1 .0)) ((c .direct-target) .ensures) ((c .before .before .before .before .loop) .inv .1 .1)))
+loop-again c = (omega arith, (simp length-set ((c .before .before .before .before .loop) .inv .1 .0), set-more 0 (λ k. directOf (getD ((c .before .before .before .before .before .args) .arcs .now) k 0) (getD ((c .before .before .before .before .before .args) .keep .now) (k / 32) 0)) ((c .before .before .before .before .loop) .a) _ ((c .before .before .before .before .loop) .r) (omega (arith, (c .before .before .before .before .loop) .inv .1 .0)) ((c .direct-target) .ensures) ((c .before .before .before .before .loop) .inv .1 .1)))
 
 returns : tie.Need-returns Inv-loop μ-loop
 returns c = record { targets = λ k h. (c .before .loop) .inv .1 .1 k (omega arith) }

@@ -1,0 +1,72 @@
+-- A decoded node stands for its node: it leads to the same turn.
+use mathlib.Core.Path.{_≡_, refl, sym, ap}
+use mathlib.Core.Bool.{Bool, true, false}
+use mathlib.Core.List.{List, []}
+use Prim.Native.Nat.{ℕ}
+use lib.ListN.{length, getD, List·getD-eq-default}
+use lib.Dec.{leb}
+use lib.IntN.{ℤ, pos}
+use borrow.Author.Tests.{leb-true}
+use native.Mathlib.Omega.{arith}
+use Rattle.table.specs.Mask.{pick}
+use Rattle.table.specs.Values.{apply, holds}
+use Rattle.table.specs.declared.Op.{Op}
+use Rattle.table.specs.declared.Operand.{Operand}
+use Rattle.table.specs.declared.Operand.the-variants.{Var, Const}
+use Rattle.table.specs.declared.Node.{Node}
+use Rattle.table.specs.declared.Node.the-variants.{Absent, Start, Set, Test, Read, Call, Wait, Signal, Send, Recv, Assert, Out, Return}
+use Rattle.machine.specs.State.{varAt}
+use Rattle.machine.specs.Step.{operandIn}
+use Rattle.decoding.specs.Decoding.{varOf, constOf, operandOf, kindOf, numbersOf, constsOf, bareOf}
+use Rattle.steps.specs.Cut.{goesTo}
+use Rattle.starts.specs.Ready.{Placed}
+use Rattle.straight.specs.Turns.{Columns, straight, triedTurn}
+
+-- the node that is decoded, with no arcs
+abbrev pub bare : Node → Node
+bare x = bareOf (kindOf x) (numbersOf x) (constsOf x)
+
+operand-same : (l : List ℤ) (o : Operand) → length l ≡ 16 → operandIn l (operandOf (varOf o) (constOf o)) ≡ operandIn l o
+operand-same l (Const c) h = refl
+operand-same l (Var v) h = go (leb 16 v) refl
+  where
+    go : (b : Bool) → leb 16 v ≡ b → operandIn l (pick b (Const (pos 0)) (Var v)) ≡ varAt l v
+    go true e = sym (List·getD-eq-default l (pos 0) {n = v} (omega (arith, h, leb-true 16 v e)))
+    go false e = refl
+
+applied-same : (l : List ℤ) (o : Op) (a b : Operand) → length l ≡ 16
+    → apply o (operandIn l (operandOf (varOf a) (constOf a))) (operandIn l (operandOf (varOf b) (constOf b))) ≡ apply o (operandIn l a) (operandIn l b)
+applied-same l o a b h = λ i. apply o (operand-same l a h i) (operand-same l b h i)
+
+module _ (j k : ℕ) (ts cs : List ℕ) (i f d : ℕ) (m : Columns) (h : length (getD (m .vars) f []) ≡ 16) where
+  pub bare-turn : (x : Node) → triedTurn (bare x) j k ts cs i f d m ≡ triedTurn x j k ts cs i f d m
+  unfolding triedTurn kindOf numbersOf constsOf bareOf
+  bare-turn Absent = refl
+  bare-turn (Start to) = refl
+  bare-turn (Set v o a b to) = ap (λ (z : ℤ). straight j (goesTo v z 0 0) f m) (applied-same (getD (m .vars) f []) o a b h)
+  bare-turn (Test o a b y n) = ap (λ (z : ℤ). straight (pick (holds z) j k) (goesTo 255 (pos 0) 0 0) f m) (applied-same (getD (m .vars) f []) o a b h)
+  bare-turn (Read v to) = refl
+  bare-turn (Call q xs to) = refl
+  bare-turn (Wait s to) = refl
+  bare-turn (Signal s to) = refl
+  bare-turn (Send q v to) = refl
+  bare-turn (Recv q v to) = refl
+  bare-turn (Assert v to) = refl
+  bare-turn (Out v to) = refl
+  bare-turn Return = refl
+
+pub bare-placed : (x : Node) → Placed x → Placed (bare x)
+unfolding kindOf numbersOf constsOf bareOf
+bare-placed Absent h = h
+bare-placed (Start to) h = h
+bare-placed (Set v o a b to) h = h
+bare-placed (Test o a b y n) h = h
+bare-placed (Read v to) h = h
+bare-placed (Call q xs to) h = h
+bare-placed (Wait i to) h = h
+bare-placed (Signal i to) h = h
+bare-placed (Send q v to) h = h
+bare-placed (Recv q v to) h = h
+bare-placed (Assert v to) h = h
+bare-placed (Out v to) h = h
+bare-placed Return h = h
