@@ -173,9 +173,9 @@ pub record OpIn (x : Bool) (s : List ℕ) (at : ℕ) (r : Operation) : Type 0 wh
   pub same : (l : ℕ) → opIn l s r ≡ valueOf (operation x) l (drop at s)
   pub within : opWithin s r
 
--- a calculation whose word stands at a place
+-- an operation whose word stands at a place
 abbrev pub opStands : List ℕ → ℕ → QuickOp → Type 0
-opStands s at (IsQuickOp o e) = WordTo s at e (opWord o) × (calculates o ≡ true)
+opStands s at (IsQuickOp o e) = WordTo s at e (opWord o)
 opStands s at NotQuickOp = Unit {0}
 
 pub record OpStands (s : List ℕ) (at : ℕ) (r : QuickOp) : Type 0 where

@@ -51,6 +51,13 @@ module _ {s : List ℕ} {at r : ℕ} (m : QuadAt s at r) (h : 4 ≤ length s - a
   parts : drop at s ≡ a ∷ b ∷ c ∷ d ∷ drop (at + 4) s
   parts = let z = quad-bytes m w (e ∙ g) in rw (z .0, z .1, z .2, z .3) (four-part s at h)
 
+  two-letters : c ≡ 32 → stops a ≡ false → stops b ≡ false → WordTo s at (at + 2) (a ∷ b ∷ [])
+  two-letters q u v =
+      let k : count (a ∷ b ∷ c ∷ d ∷ drop (at + 4) s) ≡ 2 = count-more a _ u ∙ ap suc (count-more b _ v ∙ ap suc (count-none c _ (rw q))) in
+      let z : count (drop at s) ≡ 2 = ap count parts ∙ k in
+      let n : at + 2 - at ≡ 2 = omega arith in
+      record { run = record { same = omega (arith, z); from = omega arith; within = omega arith }; inside = omega arith; same = rw (n, parts) }
+
   three-letters : d ≡ 32 → stops a ≡ false → stops b ≡ false → stops c ≡ false → WordTo s at (at + 3) (a ∷ b ∷ c ∷ [])
   three-letters q u v t =
       let k : count (a ∷ b ∷ c ∷ d ∷ drop (at + 4) s) ≡ 3 =
@@ -323,42 +330,47 @@ named-op Shr = refl
 named-op Lt = refl
 named-op Eq = refl
 
-module _ {s : List ℕ} {at : ℕ} {r : QuickOp} (m : OpStands s at r) {o : Op} {e : ℕ} (q : r ≡ IsQuickOp o e) where
-  quick-op : WordTo s at e (opWord o) × (calculates o ≡ true)
-  quick-op = rw q at (m .is)
+-- an operation whose word stands at a place
+op-stands : {s : List ℕ} {at e : ℕ} {o : Op} → WordTo s at e (opWord o) → {x : Bool} {v : Operation} → OpJudged x o e v → OpIn x s at v
+unfolding said
+op-stands {s} {at} {e} {o} w {x} {v} d =
+    let z : named opWord ops (take (e - at) (drop at s)) ≡ some o = rw (w .same) (named-op o) in
+    record { same = λ l. d .same l s ∙ (rw z at (value-ends (w .run) (w .inside) .same (operation x) l)); within = reach v (d .ends) }
+  where
+    reach : (v : Operation) → opEnds e v → opWithin s v
+    reach (IsOp v p) h = rw h (w .inside)
+    reach (NotOp f) h = tt
 
-  pub quick-calculates : calculates o ≡ true
-  quick-calculates = quick-op .1
-
-  pub quick-operation : {x : Bool} {v : Operation} → OpJudged x o e v → OpIn x s at v
-  unfolding said
-  quick-operation {x} {v} d =
-      let w = quick-op .0 in
-      let z : named opWord ops (take (e - at) (drop at s)) ≡ some o = rw (w .same) (named-op o) in
-      record { same = λ l. d .same l s ∙ (rw z at (value-ends (w .run) (w .inside) .same (operation x) l)); within = reach v (d .ends) }
-    where
-      reach : (v : Operation) → opEnds e v → opWithin s v
-      reach (IsOp v p) h = rw h (quick-op .0 .inside)
-      reach (NotOp f) h = tt
+pub quick-operation : {s : List ℕ} {at : ℕ} {r : QuickOp} → OpStands s at r → {o : Op} {e : ℕ} → r ≡ IsQuickOp o e → {x : Bool} {v : Operation} → OpJudged x o e v → OpIn x s at v
+quick-operation m q = op-stands (rw q at (m .is))
 
 pub quick-no-op : (s : List ℕ) (at : ℕ) → OpStands s at NotQuickOp
 quick-no-op s at = record { is = tt }
 
 module _ {s : List ℕ} {at r x : ℕ} (m : QuadAt s at r) (h : 4 ≤ length s - at) where
   pub quick-add : Bytes 97 100 100 32 → x ≡ quadNumber 97 100 100 32 → r ≡ x → OpStands s at (IsQuickOp Add (at + 3))
-  quick-add b g e = record { is = (three-letters m h b g e refl refl refl refl, refl) }
+  quick-add b g e = record { is = three-letters m h b g e refl refl refl refl }
 
   pub quick-sub : Bytes 115 117 98 32 → x ≡ quadNumber 115 117 98 32 → r ≡ x → OpStands s at (IsQuickOp Sub (at + 3))
-  quick-sub b g e = record { is = (three-letters m h b g e refl refl refl refl, refl) }
+  quick-sub b g e = record { is = three-letters m h b g e refl refl refl refl }
 
   pub quick-and : Bytes 97 110 100 32 → x ≡ quadNumber 97 110 100 32 → r ≡ x → OpStands s at (IsQuickOp And (at + 3))
-  quick-and b g e = record { is = (three-letters m h b g e refl refl refl refl, refl) }
+  quick-and b g e = record { is = three-letters m h b g e refl refl refl refl }
 
   pub quick-xor : Bytes 120 111 114 32 → x ≡ quadNumber 120 111 114 32 → r ≡ x → OpStands s at (IsQuickOp Xor (at + 3))
-  quick-xor b g e = record { is = (three-letters m h b g e refl refl refl refl, refl) }
+  quick-xor b g e = record { is = three-letters m h b g e refl refl refl refl }
 
   pub quick-shr : Bytes 115 104 114 32 → x ≡ quadNumber 115 104 114 32 → r ≡ x → OpStands s at (IsQuickOp Shr (at + 3))
-  quick-shr b g e = record { is = (three-letters m h b g e refl refl refl refl, refl) }
+  quick-shr b g e = record { is = three-letters m h b g e refl refl refl refl }
+
+  pub quick-less : Bytes 108 116 32 97 → x ≡ quadNumber 108 116 32 97 → r ≡ x → OpIn true s at (IsOp Lt (at + 2))
+  quick-less b g e = op-stands (two-letters m h b g e refl refl refl) (op-less true (at + 2))
+
+  pub quick-equal : Bytes 101 113 32 97 → x ≡ quadNumber 101 113 32 97 → r ≡ x → OpIn true s at (IsOp Eq (at + 2))
+  quick-equal b g e = op-stands (two-letters m h b g e refl refl refl) (op-equal true (at + 2))
+
+pub in-test : {x : Bool} {s : List ℕ} {at : ℕ} {v : Operation} → x ≡ true → OpIn true s at v → OpIn x s at v
+in-test h m = rw h m
 
 pub ruleset kind-laws = (kind-hit, kind-later, kind-miss, kind-none)
 

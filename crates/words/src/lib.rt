@@ -312,16 +312,37 @@ fn quick_operation(s: &[u8], at: usize) -> QuickOp
     QuickOp::Not
 }
 
+// A test's operation, `lt` and `eq` told by their bytes and the first of the next field.
+fn comparison_at(s: &[u8], at: usize) -> Operation
+    requires { ⌜ at ≤ length (now s) ⌝ }
+    ensures { λ r. ⌜ OpIn true (now (s .entry)) at r ⌝ }
+{
+    if s.len() - at < 4 {
+        return any_operation(s, at, true);
+    }
+    let w = scan::quad(s, at);
+    if w == scan::quad_of(108, 116, 32, 97) {
+        return Operation::Is(table::Op::Lt, at + 2);
+    }
+    if w == scan::quad_of(101, 113, 32, 97) {
+        return Operation::Is(table::Op::Eq, at + 2);
+    }
+    any_operation(s, at, true)
+}
+
 // The frequent operations first.
 fn operation_at(s: &[u8], at: usize, test: bool) -> Operation
     requires { ⌜ at ≤ length (now s) ⌝ }
     ensures { λ r. ⌜ OpIn test (now (s .entry)) at r ⌝ }
 {
+    if test {
+        return comparison_at(s, at);
+    }
     let quick = quick_operation(s, at);
     let QuickOp::Is(o, e) = quick else {
         return any_operation(s, at, test);
     };
-    calculation(o, e, test)
+    Operation::Is(o, e)
 }
 
 // An operation; in a test or not.
