@@ -3,12 +3,12 @@
 use crate::generate::extremes::{self, LongRun, MOST};
 use crate::generate::lines_of;
 use crate::plain::programs::{close_text, read_text, steps_text, write_text};
+use crate::plain::table::Table;
 use crate::proved;
 use std::hint::black_box;
 use std::time::{Duration, Instant};
 
-/// How often all rows are gone through. A row's rounds are spread so over the whole run, and a neighbour on the same
-/// core, who comes and goes, does not have all of them.
+/// How often all rows are gone through, so that a neighbour that slows the core for a while can't slow all rounds of a row.
 const PASSES: usize = 8;
 
 /// How often each side of a row is measured in a pass; the best of all counts.
@@ -20,13 +20,14 @@ const LASTS: Duration = Duration::from_millis(5);
 /// The steps of a long run.
 const STEPS: usize = 1_000_000;
 
-/// What is measured on both sides, each by a call that gives its seconds, and the best so far.
+/// What is measured: the seconds that one side takes, the proved one or plain Rust, and the best so far. Both sides work on the
+/// same text and buffer.
 struct Row<'a> {
     name: String,
     unit: &'static str,
-    shown: Box<dyn Fn(f64) -> f64>,
-    proved: Box<dyn FnMut() -> f64 + 'a>,
-    plain: Box<dyn FnMut() -> f64 + 'a>,
+    shown: fn(f64, usize) -> f64,
+    size: usize,
+    seconds: Box<dyn FnMut(bool) -> f64 + 'a>,
     best_proved: f64,
     best_plain: f64,
 }
@@ -51,11 +52,7 @@ pub fn speed(word: &str) {
         }
     }
     if "close".starts_with(word) {
-        for (name, table) in extremes::hard() {
-            rows.push(closing(name, lines_of(&table)));
-        }
-        let longest = extremes::longest_open();
-        rows.push(closing("the longest open text", lines_of(&longest)));
+        rows.extend(closings().map(|(name, table)| closing(name, lines_of(&table))));
     }
     rows.extend(runs.iter().map(steps));
     for _ in 0..PASSES {
@@ -78,7 +75,7 @@ pub fn once(by_proved: bool, word: &str) {
         }
     }
     if "close".starts_with(word) {
-        for (_, table) in extremes::hard() {
+        for (_, table) in closings() {
             let text = lines_of(&table);
             match by_proved {
                 true => _ = black_box(proved::close(&text, &mut out)),
@@ -99,79 +96,101 @@ pub fn once(by_proved: bool, word: &str) {
     }
 }
 
+/// The tables that are closed, with their names.
+fn closings() -> impl Iterator<Item = (&'static str, Table)> {
+    let longest = ("the longest open text", extremes::longest_open());
+    extremes::hard().into_iter().chain([longest])
+}
+
 /// Reading a text.
 fn reading(name: &str, text: Vec<u8>) -> Row<'static> {
-    let (len, other) = (text.len(), text.clone());
-    Row::of_calls(
-        format!("read {name}, {len} bytes"),
-        ("MB/s", move |s| len as f64 / s / 1e6),
-        move || _ = black_box(proved::read(black_box(&text))),
-        move || _ = black_box(read_text(black_box(&other))),
-    )
+    let size = text.len();
+    let name = format!("read {name}, {size} bytes");
+    Row::of_calls(name, "MB/s", megabytes, size, move |by_proved| {
+        let text = black_box(&text);
+        match by_proved {
+            true => _ = black_box(proved::read(text)),
+            false => _ = black_box(read_text(text)),
+        }
+    })
 }
 
 /// Reading a text and writing its table.
 fn writing(name: &str, text: Vec<u8>) -> Row<'static> {
-    let (len, other) = (text.len(), text.clone());
-    let [mut mine, mut out] = [vec![0; 1 << 16], vec![0; 1 << 16]];
-    Row::of_calls(
-        format!("read and write {name}, {len} bytes"),
-        ("MB/s", move |s| len as f64 / s / 1e6),
-        move || _ = black_box(proved::write(black_box(&text), &mut mine)),
-        move || _ = black_box(write_text(black_box(&other), &mut out)),
-    )
+    let size = text.len();
+    let name = format!("read and write {name}, {size} bytes");
+    let mut out = vec![0; 1 << 16];
+    Row::of_calls(name, "MB/s", megabytes, size, move |by_proved| {
+        let text = black_box(&text);
+        match by_proved {
+            true => _ = black_box(proved::write(text, &mut out)),
+            false => _ = black_box(write_text(text, &mut out)),
+        }
+    })
 }
 
 /// Closing, from text to text.
 fn closing(name: &str, text: Vec<u8>) -> Row<'static> {
-    let other = text.clone();
-    let [mut mine, mut out] = [vec![0; 1 << 16], vec![0; 1 << 16]];
+    let name = format!("close {name}");
+    let mut out = vec![0; 1 << 16];
     Row::of_calls(
-        format!("close {name}"),
-        ("µs", |s| s * 1e6),
-        move || _ = black_box(proved::close(black_box(&text), &mut mine)),
-        move || _ = black_box(close_text(black_box(&other), &mut out)),
+        name,
+        "µs",
+        |s, _| s * 1e6,
+        1,
+        move |by_proved| {
+            let text = black_box(&text);
+            match by_proved {
+                true => _ = black_box(proved::close(text, &mut out)),
+                false => _ = black_box(close_text(text, &mut out)),
+            }
+        },
     )
 }
 
 /// The steps of a long run.
 fn steps(run: &LongRun) -> Row<'_> {
     let text = lines_of(&run.table);
-    let other = text.clone();
-    let [mut mine, mut log] = [vec![0; STEPS * 8], vec![0; STEPS * 8]];
+    let mut log = vec![0; STEPS * 8];
+    let name = format!("step, {}", run.name);
     Row::new(
-        format!("step, {}", run.name),
-        ("ns", |s| s * 1e9 / STEPS as f64),
-        move || {
+        name,
+        "ns",
+        |s, n| s * 1e9 / n as f64,
+        STEPS,
+        move |by_proved| {
+            let (schedule, values) = (&run.schedule, &run.values);
             let start = Instant::now();
-            let answer = proved::steps(&text, &run.schedule, &run.values, MOST, &mut mine);
+            let completed = match by_proved {
+                true => proved::steps(&text, schedule, values, MOST, &mut log) == Ok((STEPS, 0)),
+                false => steps_text(&text, schedule, values, MOST, &mut log)
+                    .is_ok_and(|a| a.steps == STEPS && a.stop == 0),
+            };
             let seconds = start.elapsed().as_secs_f64();
-            assert_eq!(answer, Ok((STEPS, 0)), "the proved run completes");
-            seconds
-        },
-        move || {
-            let start = Instant::now();
-            let answer = steps_text(&other, &run.schedule, &run.values, MOST, &mut log);
-            let seconds = start.elapsed().as_secs_f64();
-            assert!(answer.is_ok_and(|a| a.steps == STEPS && a.stop == 0));
+            assert!(completed, "the run completes");
             seconds
         },
     )
 }
 
+fn megabytes(seconds: f64, bytes: usize) -> f64 {
+    bytes as f64 / seconds / 1e6
+}
+
 impl<'a> Row<'a> {
     fn new(
         name: String,
-        (unit, shown): (&'static str, impl Fn(f64) -> f64 + 'static),
-        proved: impl FnMut() -> f64 + 'a,
-        plain: impl FnMut() -> f64 + 'a,
+        unit: &'static str,
+        shown: fn(f64, usize) -> f64,
+        size: usize,
+        seconds: impl FnMut(bool) -> f64 + 'a,
     ) -> Self {
         Row {
             name,
             unit,
-            shown: Box::new(shown),
-            proved: Box::new(proved),
-            plain: Box::new(plain),
+            shown,
+            size,
+            seconds: Box::new(seconds),
             best_proved: f64::MAX,
             best_plain: f64::MAX,
         }
@@ -180,30 +199,31 @@ impl<'a> Row<'a> {
     /// A row of short calls, of which as many are made as last long enough to be measured.
     fn of_calls(
         name: String,
-        shown: (&'static str, impl Fn(f64) -> f64 + 'static),
-        mut proved: impl FnMut() + 'a,
-        mut plain: impl FnMut() + 'a,
+        unit: &'static str,
+        shown: fn(f64, usize) -> f64,
+        size: usize,
+        mut call: impl FnMut(bool) + 'a,
     ) -> Self {
-        let calls = calls_lasting(&mut plain);
-        let by_proved = move || time(calls, &mut proved);
-        let by_plain = move || time(calls, &mut plain);
-        Self::new(name, shown, by_proved, by_plain)
+        let calls = calls_lasting(&mut || call(false));
+        let seconds = move |by_proved| time(calls, &mut || call(by_proved));
+        Self::new(name, unit, shown, size, seconds)
     }
 
     /// Measures the two sides in turn.
     fn measure(&mut self) {
         for _ in 0..ROUNDS {
-            self.best_proved = self.best_proved.min((self.proved)());
-            self.best_plain = self.best_plain.min((self.plain)());
+            self.best_proved = self.best_proved.min((self.seconds)(true));
+            self.best_plain = self.best_plain.min((self.seconds)(false));
         }
     }
 
     fn print(&self) {
+        let shown = |s| format!("{:.1} {}", (self.shown)(s, self.size), self.unit);
         println!(
             "{:<44}{:>12}{:>12}{:>8.2}",
             self.name,
-            format!("{:.1} {}", (self.shown)(self.best_proved), self.unit),
-            format!("{:.1} {}", (self.shown)(self.best_plain), self.unit),
+            shown(self.best_proved),
+            shown(self.best_plain),
             self.best_proved / self.best_plain
         );
     }

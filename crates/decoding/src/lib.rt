@@ -1,17 +1,17 @@
-// Nodes decoded for a run: a kind, numbers and constants, which stand in arrays of their own, so that a step loads only what it needs.
+// Nodes decoded for a run: opcodes, numbers and constants, which stand in arrays of their own, so that a step loads only what it needs.
 ghost use mathlib.Core.Path.{_≡_};
 ghost use mathlib.Core.List.{[]};
 ghost use Prim.Native.Nat.{ℕ, _<_};
 ghost use lib.ListN.{getD};
 ghost use Rattle.table.specs.Table.{noSlot};
-ghost use Rattle.decoding.specs.Decoding.{noPlace, kindOf, numbersOf, constsOf, varOf, constOf};
+ghost use Rattle.decoding.specs.Decoding.{noOpcode, opcodeOf, numbersOf, constsOf, varOf, constOf};
 use table::Node;
 use table::Op;
 use table::Operand;
 use table::Slot;
 
 // A node's kind, and of a set or a test its operation.
-pub enum Kind {
+pub enum Opcode {
     Absent,
     Start,
     Set(Op),
@@ -27,9 +27,9 @@ pub enum Kind {
     Return,
 }
 
-// A place for a kind.
-pub struct Place {
-    pub kind: Kind,
+// A place for an opcode.
+pub struct OpcodeSlot {
+    pub opcode: Opcode,
 }
 
 // The variable that an operand is, 255 if it is a constant.
@@ -54,52 +54,52 @@ fn constant(o: Operand) -> i32
 
 // ---- a node
 
-pub fn kind_of(x: Node) -> Kind
-    ensures { λ r. ⌜ r ≡ kindOf x ⌝ }
+fn opcode_of(x: Node) -> Opcode
+    ensures { λ r. ⌜ r ≡ opcodeOf x ⌝ }
 {
     match x {
-        Node::Absent => Kind::Absent,
-        Node::Start { to: _ } => Kind::Start,
+        Node::Absent => Opcode::Absent,
+        Node::Start { to: _ } => Opcode::Start,
         Node::Set {
             var: _,
             op,
             a: _,
             b: _,
             to: _,
-        } => Kind::Set(op),
+        } => Opcode::Set(op),
         Node::Test {
             op,
             a: _,
             b: _,
             yes: _,
             no: _,
-        } => Kind::Test(op),
-        Node::Read { var: _, to: _ } => Kind::Read,
+        } => Opcode::Test(op),
+        Node::Read { var: _, to: _ } => Opcode::Read,
         Node::Call {
             callee: _,
             args: _,
             to: _,
-        } => Kind::Call,
-        Node::Wait { sem: _, to: _ } => Kind::Wait,
-        Node::Signal { sem: _, to: _ } => Kind::Signal,
+        } => Opcode::Call,
+        Node::Wait { sem: _, to: _ } => Opcode::Wait,
+        Node::Signal { sem: _, to: _ } => Opcode::Signal,
         Node::Send {
             queue: _,
             var: _,
             to: _,
-        } => Kind::Send,
+        } => Opcode::Send,
         Node::Recv {
             queue: _,
             var: _,
             to: _,
-        } => Kind::Recv,
-        Node::Assert { var: _, to: _ } => Kind::Assert,
-        Node::Out { var: _, to: _ } => Kind::Out,
-        Node::Return => Kind::Return,
+        } => Opcode::Recv,
+        Node::Assert { var: _, to: _ } => Opcode::Assert,
+        Node::Out { var: _, to: _ } => Opcode::Out,
+        Node::Return => Opcode::Return,
     }
 }
 
-// A node's numbers in the order in which its line has them, operands by `var`; of a call the count of its arguments stands before them.
-pub fn numbers_of(x: Node) -> [u8; 8]
+// A node's numbers but for its arcs, in the order in which its line has them, operands by `var`; a call's arguments stand behind their count.
+fn numbers_of(x: Node) -> [u8; 8]
     ensures { λ r. ⌜ r ≡ numbersOf x ⌝ }
 {
     match x {
@@ -127,7 +127,7 @@ pub fn numbers_of(x: Node) -> [u8; 8]
             let q = var(b);
             [p, q, 0, 0, 0, 0, 0, 0]
         }
-        Node::Read { var: _, to: _ } => [0, 0, 0, 0, 0, 0, 0, 0],
+        Node::Read { var: v, to: _ } => [v, 0, 0, 0, 0, 0, 0, 0],
         Node::Call {
             callee,
             args,
@@ -152,7 +152,7 @@ pub fn numbers_of(x: Node) -> [u8; 8]
 }
 
 // The constants of a set's or a test's operands; 0 for every other node.
-pub fn consts_of(x: Node) -> [i32; 2]
+fn consts_of(x: Node) -> [i32; 2]
     ensures { λ r. ⌜ r ≡ constsOf x ⌝ }
 {
     match x {
@@ -206,17 +206,19 @@ pub fn consts_of(x: Node) -> [i32; 2]
 
 // ---- the nodes of a row
 
-pub fn kinds(row: [Slot; 256]) -> [Place; 256]
-    ensures { λ r. ⌜ ((a : ℕ) → a < 256 → getD r a noPlace .kind ≡ kindOf (getD row a noSlot .node)) ⌝ }
+pub fn opcodes(row: [Slot; 256]) -> [OpcodeSlot; 256]
+    ensures { λ r. ⌜ ((a : ℕ) → a < 256 → getD r a noOpcode .opcode ≡ opcodeOf (getD row a noSlot .node)) ⌝ }
 {
-    let none = Place { kind: Kind::Absent };
+    let none = OpcodeSlot {
+        opcode: Opcode::Absent,
+    };
     let mut r = [none; 256];
     let mut a: usize = 0;
     while a < 256 {
         let s = row[a];
         let x = s.node;
-        let k = kind_of(x);
-        r[a] = Place { kind: k };
+        let k = opcode_of(x);
+        r[a] = OpcodeSlot { opcode: k };
         a = a + 1;
     }
     r

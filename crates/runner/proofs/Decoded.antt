@@ -17,14 +17,10 @@ use Rattle.table.specs.declared.Node.{Node}
 use Rattle.table.specs.declared.Node.the-variants.{Absent, Start, Set, Test, Read, Call, Wait, Signal, Send, Recv, Assert, Out, Return}
 use Rattle.machine.specs.State.{varAt}
 use Rattle.machine.specs.Step.{operandIn}
-use Rattle.decoding.specs.Decoding.{varOf, constOf, operandOf, kindOf, numbersOf, constsOf, bareOf}
+use Rattle.decoding.specs.Decoding.{varOf, constOf, operandOf, opcodeOf, numbersOf, constsOf, bareOf, bare}
 use Rattle.steps.specs.Cut.{goesTo}
 use Rattle.starts.specs.Ready.{Placed}
 use Rattle.straight.specs.Turns.{Columns, straight, triedTurn}
-
--- the node that is decoded, with no arcs
-abbrev pub bare : Node → Node
-bare x = bareOf (kindOf x) (numbersOf x) (constsOf x)
 
 operand-same : (l : List ℤ) (o : Operand) → length l ≡ 16 → operandIn l (operandOf (varOf o) (constOf o)) ≡ operandIn l o
 operand-same l (Const c) h = refl
@@ -40,7 +36,7 @@ applied-same l o a b h = λ i. apply o (operand-same l a h i) (operand-same l b 
 
 module _ (j k : ℕ) (ts cs : List ℕ) (i f d : ℕ) (m : Columns) (h : length (getD (m .vars) f []) ≡ 16) where
   pub bare-turn : (x : Node) → triedTurn (bare x) j k ts cs i f d m ≡ triedTurn x j k ts cs i f d m
-  unfolding triedTurn kindOf numbersOf constsOf bareOf
+  unfolding triedTurn opcodeOf numbersOf constsOf bareOf
   bare-turn Absent = refl
   bare-turn (Start to) = refl
   bare-turn (Set v o a b to) = ap (λ (z : ℤ). straight j (goesTo v z 0 0) f m) (applied-same (getD (m .vars) f []) o a b h)
@@ -56,7 +52,7 @@ module _ (j k : ℕ) (ts cs : List ℕ) (i f d : ℕ) (m : Columns) (h : length 
   bare-turn Return = refl
 
 pub bare-placed : (x : Node) → Placed x → Placed (bare x)
-unfolding kindOf numbersOf constsOf bareOf
+unfolding opcodeOf numbersOf constsOf bareOf
 bare-placed Absent h = h
 bare-placed (Start to) h = h
 bare-placed (Set v o a b to) h = h

@@ -24,6 +24,7 @@ use Rattle.tosses.specs.Tosses.{Arrived, halting, directOf}
 use Rattle.steps.specs.Cut.{stopBefore, stuckOf, triedOf, passOf, backOf, actOf, flagOf, bitsOf, underOf}
 use Rattle.steps.specs.declared.Acted.{Acted}
 use Rattle.tosses.specs.declared.Chosen.{Chosen}
+use Rattle.decoding.specs.Decoding.{bare}
 use Rattle.columns.specs.Columns.{framesOf, queuesOf, runningOf}
 use Rattle.starts.specs.Ready.{Placed, Ready}
 use Rattle.starts.specs.Begins.{Row, frameIn, Good}
@@ -33,7 +34,7 @@ use Rattle.runner.proofs.Walks.{met, metOf, heading, withVars, tried-wi
 use Rattle.runner.proofs.Runs.{opens, stopsAt, answered, at-end}
 use Rattle.runner.proofs.Turns.{within, at-below, Ends, ends-over, ends-spent, ends-halts, goes-on, stop-none, stop-full, stop-lost, Standing, node-is, placed, under-le, freed, acted, logs, stop-tried, stop-acting, stop-walking, whole, turn-walks, stored-good, under-less, back-below}
 use Rattle.runner.proofs.Stores.{proc-in, node-in, vars-in, shape-after, onTop, Closed, top-none, top-good, vars-still, frames-after, shape-closed}
-use Rattle.runner.proofs.Decoded.{bare, bare-placed}
+use Rattle.runner.proofs.Decoded.{bare-placed}
 use Rattle.runner.proofs.Directs.{LeadsStraight, stateIn, Shaped, Goes, left-same, left-opens, Done, led, called, returned, done-by, goes-straight}
 use Rattle.runner.proofs.Returns.{goes-call, goes-return}
 

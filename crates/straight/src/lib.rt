@@ -57,8 +57,9 @@ pub fn go(nodes: &mut [u8; 32], f: usize, j: u8) -> Tried
     done()
 }
 
-// An operand by its variable's number and its constant.
-fn term(vars: &[i32; 16], v: u8, c: i32) -> i32
+// The value of an operand that is given by its variable's number and its constant, which counts where the number is that of no variable. Below, va
+// and a are one operand so, vb and b the other.
+fn operand_value(vars: &[i32; 16], v: u8, c: i32) -> i32
     requires { ⌜ length (now vars) ≡ 16 ⌝ }
     ensures { λ r. ⌜ r ≡ operandIn (now (vars .entry)) (operandOf v c) ⌝ }
 {
@@ -84,8 +85,8 @@ pub fn set_step<'a>(
     if j == 32 {
         return not_done();
     }
-    let p = term(&vars[f], va, a);
-    let q = term(&vars[f], vb, b);
+    let p = operand_value(&vars[f], va, a);
+    let q = operand_value(&vars[f], vb, b);
     steps::set_var(&mut vars[f], var, values::apply(op, p, q));
     nodes[f] = j;
     done()
@@ -103,8 +104,8 @@ pub fn tested(vars: &[i32; 16], op: Op, va: u8, a: i32, vb: u8, b: i32, yes: u8,
     requires { ⌜ length (now vars) ≡ 16 ⌝ }
     ensures { λ r. ⌜ r ≡ pick (holds (apply op (operandIn (now (vars .entry)) (operandOf va a)) (operandIn (now (vars .entry)) (operandOf vb b)))) yes no ⌝ }
 {
-    let p = term(vars, va, a);
-    let q = term(vars, vb, b);
+    let p = operand_value(vars, va, a);
+    let q = operand_value(vars, vb, b);
     arm(values::apply(op, p, q), yes, no)
 }
 

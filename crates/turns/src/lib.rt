@@ -6,7 +6,7 @@ ghost use lib.ListN.{getD};
 ghost use Rattle.table.specs.Table.{arcTo, arcNo};
 ghost use Rattle.decoding.specs.Decoding.{bareOf};
 ghost use Rattle.straight.specs.Turns.{Stood, columns, turn, triedTurn, Arcs, Targets};
-use decoding::Kind;
+use decoding::Opcode;
 use straight::Tried;
 use table::Slot;
 
@@ -58,10 +58,10 @@ pub fn targets(arcs: &[u32; 256], keep: &[u32; 8]) -> [u8; 256]
 
 // ---- steps
 
-// A step tried at once, of the node that is decoded at place p. j is the kept node that its arc leads straight to, k the one that a test's arc at
+// A step tried at once, of the node that is decoded at place p; `opcode` is its opcode. j is the kept node that its arc leads straight to, k the one that a test's arc at
 // `no` does; `targets` has j for every place.
 pub fn direct<'a>(
-    kind: Kind,
+    opcode: Opcode,
     numbers: &'a [[u8; 8]; 256],
     consts: &'a [[i32; 2]; 256],
     p: usize,
@@ -80,13 +80,13 @@ pub fn direct<'a>(
     caps: &'a [u8; 8],
     items: &'a mut [[i32; 8]; 8],
 ) -> Tried
-    requires { ⌜ (p < 256) × Stood (bareOf kind (getD (now numbers) p []) (getD (now consts) p [])) i f d (now procs) (now nodes) (now vars) (now items) ⌝ }
-    ensures { λ r. ⌜ turn r (columns (now (depth .exit)) (now (procs .exit)) (now (nodes .exit)) (now (vars .exit)) (now (sems .exit)) (now (lens .exit)) (now (items .exit))) ≡ triedTurn (bareOf kind (getD (now (numbers .entry)) p []) (getD (now (consts .entry)) p [])) j k (now (targets .entry)) (now (caps .entry)) i f d (columns (now (depth .entry)) (now (procs .entry)) (now (nodes .entry)) (now (vars .entry)) (now (sems .entry)) (now (lens .entry)) (now (items .entry))) ⌝ }
+    requires { ⌜ (p < 256) × Stood (bareOf opcode (getD (now numbers) p []) (getD (now consts) p [])) i f d (now procs) (now nodes) (now vars) (now items) ⌝ }
+    ensures { λ r. ⌜ turn r (columns (now (depth .exit)) (now (procs .exit)) (now (nodes .exit)) (now (vars .exit)) (now (sems .exit)) (now (lens .exit)) (now (items .exit))) ≡ triedTurn (bareOf opcode (getD (now (numbers .entry)) p []) (getD (now (consts .entry)) p [])) j k (now (targets .entry)) (now (caps .entry)) i f d (columns (now (depth .entry)) (now (procs .entry)) (now (nodes .entry)) (now (vars .entry)) (now (sems .entry)) (now (lens .entry)) (now (items .entry))) ⌝ }
 {
-    match kind {
-        Kind::Absent => straight::not_done(),
-        Kind::Start => straight::go(nodes, f, j),
-        Kind::Set(op) => straight::set_step(
+    match opcode {
+        Opcode::Absent => straight::not_done(),
+        Opcode::Start => straight::go(nodes, f, j),
+        Opcode::Set(op) => straight::set_step(
             nodes,
             vars,
             f,
@@ -98,7 +98,7 @@ pub fn direct<'a>(
             numbers[p][2],
             consts[p][1],
         ),
-        Kind::Test(op) => {
+        Opcode::Test(op) => {
             let va = numbers[p][0];
             let a = consts[p][0];
             let vb = numbers[p][1];
@@ -106,8 +106,8 @@ pub fn direct<'a>(
             let n = straight::tested(&vars[f], op, va, a, vb, b, j, k);
             straight::go(nodes, f, n)
         }
-        Kind::Read => straight::not_done(),
-        Kind::Call => frames::call_step(
+        Opcode::Read => straight::not_done(),
+        Opcode::Call => frames::call_step(
             depth,
             procs,
             nodes,
@@ -122,14 +122,14 @@ pub fn direct<'a>(
             numbers[p][4],
             numbers[p][5],
         ),
-        Kind::Wait => straight::wait_step(nodes, sems, f, j, numbers[p][0]),
-        Kind::Signal => straight::signal_step(nodes, sems, f, j, numbers[p][0]),
-        Kind::Send => {
+        Opcode::Wait => straight::wait_step(nodes, sems, f, j, numbers[p][0]),
+        Opcode::Signal => straight::signal_step(nodes, sems, f, j, numbers[p][0]),
+        Opcode::Send => {
             let v = numbers[p][1];
             let x = steps::var_at(&vars[f], v);
             straight::send_step(nodes, lens, caps, items, f, j, numbers[p][0], x)
         }
-        Kind::Recv => straight::receive_step(
+        Opcode::Recv => straight::receive_step(
             nodes,
             vars,
             lens,
@@ -139,16 +139,16 @@ pub fn direct<'a>(
             numbers[p][0],
             numbers[p][1],
         ),
-        Kind::Assert => {
+        Opcode::Assert => {
             let v = numbers[p][0];
             let x = steps::var_at(&vars[f], v);
             straight::show_step(nodes, f, j, v, x)
         }
-        Kind::Out => {
+        Opcode::Out => {
             let v = numbers[p][0];
             let x = steps::var_at(&vars[f], v);
             straight::show_step(nodes, f, j, v, x)
         }
-        Kind::Return => frames::return_step(depth, procs, nodes, vars, targets, i, f, d),
+        Opcode::Return => frames::return_step(depth, procs, nodes, vars, targets, i, f, d),
     }
 }

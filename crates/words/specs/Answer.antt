@@ -13,8 +13,6 @@ use Rattle.text.specs.Line.{Outcome, took, refused, judged, valueOf, fieldOf}
 use Rattle.scan.specs.Place.{RunEnd}
 use Rattle.words.specs.declared.Quick.{Quick}
 use Rattle.words.specs.declared.Quick.the-variants.{Is as IsQuick, Not as NotQuick}
-use Rattle.words.specs.declared.QuickOp.{QuickOp}
-use Rattle.words.specs.declared.QuickOp.the-variants.{Is as IsQuickOp, Not as NotQuickOp}
 use Rattle.words.specs.declared.Choice.{Choice}
 use Rattle.words.specs.declared.Choice.the-variants.{Is as IsChoice, Not as NotChoice}
 use Rattle.words.specs.declared.NodeKind.{NodeKind as Word}
@@ -172,14 +170,6 @@ lateOps = Xor ∷ Shr ∷ Lt ∷ Eq ∷ []
 pub record OpIn (x : Bool) (s : List ℕ) (at : ℕ) (r : Operation) : Type 0 where
   pub same : (l : ℕ) → opIn l s r ≡ valueOf (operation x) l (drop at s)
   pub within : opWithin s r
-
--- an operation whose word stands at a place
-abbrev pub opStands : List ℕ → ℕ → QuickOp → Type 0
-opStands s at (IsQuickOp o e) = WordTo s at e (opWord o)
-opStands s at NotQuickOp = Unit {0}
-
-pub record OpStands (s : List ℕ) (at : ℕ) (r : QuickOp) : Type 0 where
-  pub is : opStands s at r
 
 pub record OpAt (x : Bool) (s : List ℕ) (at : ℕ) (r : Operation) : Type 0 where
   pub same : (l : ℕ) → opIn l s r ≡ fieldOf (bytes " op=") (operation x) l (drop at s)

@@ -25,15 +25,13 @@ use Rattle.words.specs.declared.NodeKind.{NodeKind as Word}
 use Rattle.words.specs.declared.NodeKind.the-variants.{Start, Set, Test, Read, Call, Wait, Signal, Send, Recv, Assert, Out, Return}
 use Rattle.words.specs.declared.Quick.{Quick}
 use Rattle.words.specs.declared.Quick.the-variants.{Is as IsQuick, Not as NotQuick}
-use Rattle.words.specs.declared.QuickOp.{QuickOp}
-use Rattle.words.specs.declared.QuickOp.the-variants.{Is as IsQuickOp, Not as NotQuickOp}
 use Rattle.words.specs.declared.Kind.{Kind as KindAnswer}
 use Rattle.words.specs.declared.Kind.the-variants.{Is as IsKind, Not as NotKind}
 use Rattle.words.specs.declared.Operation.{Operation}
 use Rattle.words.specs.declared.Operation.the-variants.{Is as IsOp, Not as NotOp}
 use Rattle.scan.specs.Place.{AfterKey, quadNumber, Bytes, QuadAt, ValueAt, TokenAt, refusalOf}
 use Rattle.scan.specs.PlaceLaws.{quad-bytes, count-more, count-none, value-ends, value-within, token-within}
-use Rattle.words.specs.Answer.{WordTo, choiceEnds, choiceWithin, ChoiceSaid, ChoiceAt, kindOf, kindEnds, kindWithin, plain, KindJudged, Later, KindSaid, KindIn, KindStands, KindAt, opEnds, opWithin, calculates, OpJudged, OpSaid, OpIn, OpStands, OpAt}
+use Rattle.words.specs.Answer.{WordTo, choiceEnds, choiceWithin, ChoiceSaid, ChoiceAt, kindOf, kindEnds, kindWithin, plain, KindJudged, Later, KindSaid, KindIn, KindStands, KindAt, opEnds, opWithin, calculates, OpJudged, OpSaid, OpIn, OpAt}
 
 -- ---- a word that four bytes show
 step : (s : List ℕ) (i k : ℕ) → i < length s → k ≡ i + 1 → drop i s ≡ getD s i 0 ∷ drop k s
@@ -341,33 +339,30 @@ op-stands {s} {at} {e} {o} w {x} {v} d =
     reach (IsOp v p) h = rw h (w .inside)
     reach (NotOp f) h = tt
 
-pub quick-operation : {s : List ℕ} {at : ℕ} {r : QuickOp} → OpStands s at r → {o : Op} {e : ℕ} → r ≡ IsQuickOp o e → {x : Bool} {v : Operation} → OpJudged x o e v → OpIn x s at v
-quick-operation m q = op-stands (rw q at (m .is))
-
-pub quick-no-op : (s : List ℕ) (at : ℕ) → OpStands s at NotQuickOp
-quick-no-op s at = record { is = tt }
-
 module _ {s : List ℕ} {at r x : ℕ} (m : QuadAt s at r) (h : 4 ≤ length s - at) where
-  pub quick-add : Bytes 97 100 100 32 → x ≡ quadNumber 97 100 100 32 → r ≡ x → OpStands s at (IsQuickOp Add (at + 3))
-  quick-add b g e = record { is = three-letters m h b g e refl refl refl refl }
+  pub quick-add : Bytes 97 100 100 32 → x ≡ quadNumber 97 100 100 32 → r ≡ x → OpIn false s at (IsOp Add (at + 3))
+  quick-add b g e = op-stands (three-letters m h b g e refl refl refl refl) (calculation-is (at + 3) refl)
 
-  pub quick-sub : Bytes 115 117 98 32 → x ≡ quadNumber 115 117 98 32 → r ≡ x → OpStands s at (IsQuickOp Sub (at + 3))
-  quick-sub b g e = record { is = three-letters m h b g e refl refl refl refl }
+  pub quick-sub : Bytes 115 117 98 32 → x ≡ quadNumber 115 117 98 32 → r ≡ x → OpIn false s at (IsOp Sub (at + 3))
+  quick-sub b g e = op-stands (three-letters m h b g e refl refl refl refl) (calculation-is (at + 3) refl)
 
-  pub quick-and : Bytes 97 110 100 32 → x ≡ quadNumber 97 110 100 32 → r ≡ x → OpStands s at (IsQuickOp And (at + 3))
-  quick-and b g e = record { is = three-letters m h b g e refl refl refl refl }
+  pub quick-and : Bytes 97 110 100 32 → x ≡ quadNumber 97 110 100 32 → r ≡ x → OpIn false s at (IsOp And (at + 3))
+  quick-and b g e = op-stands (three-letters m h b g e refl refl refl refl) (calculation-is (at + 3) refl)
 
-  pub quick-xor : Bytes 120 111 114 32 → x ≡ quadNumber 120 111 114 32 → r ≡ x → OpStands s at (IsQuickOp Xor (at + 3))
-  quick-xor b g e = record { is = three-letters m h b g e refl refl refl refl }
+  pub quick-xor : Bytes 120 111 114 32 → x ≡ quadNumber 120 111 114 32 → r ≡ x → OpIn false s at (IsOp Xor (at + 3))
+  quick-xor b g e = op-stands (three-letters m h b g e refl refl refl refl) (calculation-is (at + 3) refl)
 
-  pub quick-shr : Bytes 115 104 114 32 → x ≡ quadNumber 115 104 114 32 → r ≡ x → OpStands s at (IsQuickOp Shr (at + 3))
-  quick-shr b g e = record { is = three-letters m h b g e refl refl refl refl }
+  pub quick-shr : Bytes 115 104 114 32 → x ≡ quadNumber 115 104 114 32 → r ≡ x → OpIn false s at (IsOp Shr (at + 3))
+  quick-shr b g e = op-stands (three-letters m h b g e refl refl refl refl) (calculation-is (at + 3) refl)
 
   pub quick-less : Bytes 108 116 32 97 → x ≡ quadNumber 108 116 32 97 → r ≡ x → OpIn true s at (IsOp Lt (at + 2))
   quick-less b g e = op-stands (two-letters m h b g e refl refl refl) (op-less true (at + 2))
 
   pub quick-equal : Bytes 101 113 32 97 → x ≡ quadNumber 101 113 32 97 → r ≡ x → OpIn true s at (IsOp Eq (at + 2))
   quick-equal b g e = op-stands (two-letters m h b g e refl refl refl) (op-equal true (at + 2))
+
+pub in-set : {x : Bool} {s : List ℕ} {at : ℕ} {v : Operation} → x ≡ false → OpIn false s at v → OpIn x s at v
+in-set h m = rw h m
 
 pub in-test : {x : Bool} {s : List ℕ} {at : ℕ} {v : Operation} → x ≡ true → OpIn true s at v → OpIn x s at v
 in-test h m = rw h m

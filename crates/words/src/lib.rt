@@ -1,10 +1,10 @@
 // The words of a text, each read at a place: choices, the kinds of nodes, operations.
 ghost use Prim.Native.Nat.{_≤_};
 ghost use mathlib.Core.Path.{_≡_};
-ghost use mathlib.Core.Bool.{true};
+ghost use mathlib.Core.Bool.{true, false};
 ghost use lib.ListN.{length};
 ghost use Rattle.text.specs.Value.{kinds, ops};
-ghost use Rattle.words.specs.Answer.{ChoiceSaid, ChoiceAt, kindOf, KindJudged, plain, Later, KindSaid, middleKinds, lateKinds, KindIn, KindStands, KindAt, calculates, OpJudged, OpSaid, lateOps, OpIn, OpStands, OpAt};
+ghost use Rattle.words.specs.Answer.{ChoiceSaid, ChoiceAt, kindOf, KindJudged, plain, Later, KindSaid, middleKinds, lateKinds, KindIn, KindStands, KindAt, calculates, OpJudged, OpSaid, lateOps, OpIn, OpAt};
 
 // One of two words and the place after it, or the fault.
 pub enum Choice {
@@ -268,12 +268,6 @@ fn operation_value(t: &[u8], e: usize, test: bool) -> Operation
     late_operation(t, e, test)
 }
 
-// A calculation that is told by its first bytes, and where its word ends.
-enum QuickOp {
-    Is(table::Op, usize),
-    Not,
-}
-
 // Any value.
 fn any_operation(s: &[u8], at: usize, test: bool) -> Operation
     requires { ⌜ at ≤ length (now s) ⌝ }
@@ -286,33 +280,34 @@ fn any_operation(s: &[u8], at: usize, test: bool) -> Operation
     operation_value(&s[from..e], e, test)
 }
 
-fn quick_operation(s: &[u8], at: usize) -> QuickOp
+// A set's operation, the words of three letters told by their bytes and the space behind.
+fn calculation_at(s: &[u8], at: usize) -> Operation
     requires { ⌜ at ≤ length (now s) ⌝ }
-    ensures { λ r. ⌜ OpStands (now (s .entry)) at r ⌝ }
+    ensures { λ r. ⌜ OpIn false (now (s .entry)) at r ⌝ }
 {
     if s.len() - at < 4 {
-        return QuickOp::Not;
+        return any_operation(s, at, false);
     }
     let w = scan::quad(s, at);
     if w == scan::quad_of(97, 100, 100, 32) {
-        return QuickOp::Is(table::Op::Add, at + 3);
+        return Operation::Is(table::Op::Add, at + 3);
     }
     if w == scan::quad_of(115, 117, 98, 32) {
-        return QuickOp::Is(table::Op::Sub, at + 3);
+        return Operation::Is(table::Op::Sub, at + 3);
     }
     if w == scan::quad_of(97, 110, 100, 32) {
-        return QuickOp::Is(table::Op::And, at + 3);
+        return Operation::Is(table::Op::And, at + 3);
     }
     if w == scan::quad_of(120, 111, 114, 32) {
-        return QuickOp::Is(table::Op::Xor, at + 3);
+        return Operation::Is(table::Op::Xor, at + 3);
     }
     if w == scan::quad_of(115, 104, 114, 32) {
-        return QuickOp::Is(table::Op::Shr, at + 3);
+        return Operation::Is(table::Op::Shr, at + 3);
     }
-    QuickOp::Not
+    any_operation(s, at, false)
 }
 
-// A test's operation, `lt` and `eq` told by their bytes and the first of the next field.
+// A test's operation, `lt` and `eq` told by their bytes and the first two of the next key.
 fn comparison_at(s: &[u8], at: usize) -> Operation
     requires { ⌜ at ≤ length (now s) ⌝ }
     ensures { λ r. ⌜ OpIn true (now (s .entry)) at r ⌝ }
@@ -330,7 +325,6 @@ fn comparison_at(s: &[u8], at: usize) -> Operation
     any_operation(s, at, true)
 }
 
-// The frequent operations first.
 fn operation_at(s: &[u8], at: usize, test: bool) -> Operation
     requires { ⌜ at ≤ length (now s) ⌝ }
     ensures { λ r. ⌜ OpIn test (now (s .entry)) at r ⌝ }
@@ -338,11 +332,7 @@ fn operation_at(s: &[u8], at: usize, test: bool) -> Operation
     if test {
         return comparison_at(s, at);
     }
-    let quick = quick_operation(s, at);
-    let QuickOp::Is(o, e) = quick else {
-        return any_operation(s, at, test);
-    };
-    Operation::Is(o, e)
+    calculation_at(s, at)
 }
 
 // An operation; in a test or not.

@@ -5,7 +5,6 @@ use mathlib.Core.List.{[], _∷_}
 use borrow.Author.Needs.{needs}
 use Rattle.decoding.proofs.consts_of.Statement.{statement}
 use Rattle.decoding.proofs.consts_of.Tie as tie
-use Rattle.decoding.proofs.constant.Reads as constant-reads
 
 enum-told : tie.Need-enum-told
 enum-told c = search needs

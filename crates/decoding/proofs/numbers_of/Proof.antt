@@ -1,10 +1,9 @@
-use Rattle.decoding.specs.Decoding.{numbersOf}
 use mathlib.Core.Path.{refl}
 use mathlib.Core.List.{[], _∷_}
+use Rattle.decoding.specs.Decoding.{numbersOf}
 use borrow.Author.Needs.{needs}
 use Rattle.decoding.proofs.numbers_of.Statement.{statement}
 use Rattle.decoding.proofs.numbers_of.Tie as tie
-use Rattle.decoding.proofs.var.Reads as var-reads
 
 enum-told : tie.Need-enum-told
 enum-told c = search needs
@@ -30,9 +29,6 @@ var-requires-3 c κs = search needs
 var-requires-4 : tie.Need-var-requires-4
 var-requires-4 c κs = search needs
 
-enum-told-3 : tie.Need-enum-told-3
-enum-told-3 c = search needs
-
 enum-known-x-3 : tie.Need-enum-known-x-3
 enum-known-x-3 c = search needs
 
@@ -54,8 +50,11 @@ enum-known-x-8 c = search needs
 enum-known-x-9 : tie.Need-enum-known-x-9
 enum-known-x-9 c = search needs
 
-enum-told-4 : tie.Need-enum-told-4
-enum-told-4 c = search needs
+enum-known-x-10 : tie.Need-enum-known-x-10
+enum-known-x-10 c = search needs
+
+enum-told-3 : tie.Need-enum-told-3
+enum-told-3 c = search needs
 
 returns : tie.Need-returns
 unfolding numbersOf
@@ -75,39 +74,39 @@ returns-4 c = rw ((c .before .before .before .x2) .given .1) (λ i. (c .before .
 
 returns-5 : tie.Need-returns-5
 unfolding numbersOf
-returns-5 c = rw ((c .enum-told3) .given .1) (refl)
+returns-5 c = rw ((c .before .x3) .given .1) (refl)
 
 returns-6 : tie.Need-returns-6
 unfolding numbersOf
-returns-6 c = rw ((c .before .x3) .given .1) (refl)
+returns-6 c = rw ((c .before .x4) .given .1) (refl)
 
 returns-7 : tie.Need-returns-7
 unfolding numbersOf
-returns-7 c = rw ((c .before .x4) .given .1) (refl)
+returns-7 c = rw ((c .before .x5) .given .1) (refl)
 
 returns-8 : tie.Need-returns-8
 unfolding numbersOf
-returns-8 c = rw ((c .before .x5) .given .1) (refl)
+returns-8 c = rw ((c .before .x6) .given .1) (refl)
 
 returns-9 : tie.Need-returns-9
 unfolding numbersOf
-returns-9 c = rw ((c .before .x6) .given .1) (refl)
+returns-9 c = rw ((c .before .x7) .given .1) (refl)
 
 returns-10 : tie.Need-returns-10
 unfolding numbersOf
-returns-10 c = rw ((c .before .x7) .given .1) (refl)
+returns-10 c = rw ((c .before .x8) .given .1) (refl)
 
 returns-11 : tie.Need-returns-11
 unfolding numbersOf
-returns-11 c = rw ((c .before .x8) .given .1) (refl)
+returns-11 c = rw ((c .before .x9) .given .1) (refl)
 
 returns-12 : tie.Need-returns-12
 unfolding numbersOf
-returns-12 c = rw ((c .before .x9) .given .1) (refl)
+returns-12 c = rw ((c .before .x10) .given .1) (refl)
 
 returns-13 : tie.Need-returns-13
 unfolding numbersOf
-returns-13 c = rw ((c .enum-told4) .given .1) (refl)
+returns-13 c = rw ((c .enum-told3) .given .1) (refl)
 
 pub numbers-of-spec : {M : Type 1} → statement M
 numbers-of-spec =
@@ -121,7 +120,6 @@ numbers-of-spec =
     enum-known-x-2
     var-requires-3
     var-requires-4
-    enum-told-3
     enum-known-x-3
     enum-known-x-4
     enum-known-x-5
@@ -129,7 +127,8 @@ numbers-of-spec =
     enum-known-x-7
     enum-known-x-8
     enum-known-x-9
-    enum-told-4
+    enum-known-x-10
+    enum-told-3
     returns
     returns-2
     returns-3

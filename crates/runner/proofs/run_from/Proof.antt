@@ -15,34 +15,34 @@ use Rattle.machine.specs.Step.{keptIn}
 use Rattle.machine.specs.Run.{word, Ran, runFrom}
 use Rattle.steps.specs.Cut.{triedOf, flagOf, bitsOf, underOf}
 use Rattle.values.proofs.Again.{again}
-use Rattle.decoding.specs.Decoding.{noPlace, bareOf}
+use Rattle.decoding.specs.Decoding.{noOpcode, bareOf, bare}
 use Rattle.columns.specs.Columns.{stateOf}
 use Rattle.starts.specs.Begins.{Good}
 use Rattle.straight.specs.Turns.{Columns, columns, turn, triedTurn, Lands}
 use Rattle.runner.proofs.Turns.{Ends, within, rest-less}
 use Rattle.runner.proofs.Stores.{state-of, shape-of, proc-in, node-in}
-use Rattle.runner.proofs.Decoded.{bare, bare-turn}
+use Rattle.runner.proofs.Decoded.{bare-turn}
 use Rattle.runner.proofs.Directs.{leads-straight}
 use Rattle.runner.proofs.Holds.{Setting, Known, Here, task, depthIn, withCols, Walking, Held, Stopped, behind, answers, at-last, Clear, stop-before, clear-before, Stands, Waits, stood, a-low, x-placed, vars-long, node-lt, cols-left, waits-left, done-next, g-low, p-low, q-low, stop-act, walk-starts, walk-next, ends-met, ends-out, ends-stopped, stop-walk, lands, land-next}
 use Rattle.runner.proofs.run_from.Statement.{statement}
 use Rattle.runner.proofs.run_from.Tie as tie
 
 abbrev Inv-loop2 : tie.InvT-loop2
-Inv-loop2 t before schedule values most log keep row arcs targets no-targets kinds numbers consts caps proc node vars lens rows depth lost sems w₀ rest at used k b i d f tp tn a back g p q o pi kp far₀ arc₀ us₀ m₀ w far arc us m =
+Inv-loop2 t before schedule values most log keep row arcs targets no-targets opcodes numbers consts caps proc node vars lens rows depth lost sems w₀ rest at used k b i d f tp tn a back g p q o pi kp far₀ arc₀ us₀ m₀ w far arc us m =
     Walking t values p most (set (getD vars g []) (o .var) (o .value)) o far w arc us m
 
 abbrev μ-loop2 : tie.MeasureT-loop2
-μ-loop2 t before schedule values most log keep row arcs targets no-targets kinds numbers consts caps proc node vars lens rows depth lost sems w₀ rest at used k b i d f tp tn a back g p q o pi kp far₀ arc₀ us₀ m₀ w far arc us m =
+μ-loop2 t before schedule values most log keep row arcs targets no-targets opcodes numbers consts caps proc node vars lens rows depth lost sems w₀ rest at used k b i d f tp tn a back g p q o pi kp far₀ arc₀ us₀ m₀ w far arc us m =
     m
 
 abbrev Inv-loop : tie.InvT-loop
-Inv-loop t before schedule values most log₀ keep row arcs targets no-targets kinds numbers consts caps proc₀ node₀ vars₀ lens₀ rows₀ depth₀ lost₀ sems₀ w₀ rest₀ at₀ used₀ log proc node vars lens rows depth lost sems w rest at used =
+Inv-loop t before schedule values most log₀ keep row arcs targets no-targets opcodes numbers consts caps proc₀ node₀ vars₀ lens₀ rows₀ depth₀ lost₀ sems₀ w₀ rest₀ at₀ used₀ log proc node vars lens rows depth lost sems w rest at used =
     Held (record { t = t; keep = keep; most = most; vs = values; row = row; arcs = arcs; ts = targets; ns = no-targets; cs = caps })
     (runFrom t (keptIn t) most values schedule 0 (stateOf depth₀ lost₀ proc₀ node₀ vars₀ sems₀ lens₀ rows₀) (drop before values) log₀) (length log₀)
     (record { ks = rest; lost = lost; cols = columns depth proc node vars sems lens rows; used = used; at = at; log = log })
 
 abbrev μ-loop : tie.MeasureT-loop
-μ-loop t before schedule values most log₀ keep row arcs targets no-targets kinds numbers consts caps proc₀ node₀ vars₀ lens₀ rows₀ depth₀ lost₀ sems₀ w₀ rest₀ at₀ used₀ log proc node vars lens rows depth lost sems w rest at used =
+μ-loop t before schedule values most log₀ keep row arcs targets no-targets opcodes numbers consts caps proc₀ node₀ vars₀ lens₀ rows₀ depth₀ lost₀ sems₀ w₀ rest₀ at₀ used₀ log proc node vars lens rows depth lost sems w rest at used =
     length rest
 
 abbrev S : (c : tie.At-loop Inv-loop2 μ-loop2 Inv-loop μ-loop) → Setting
@@ -87,8 +87,8 @@ st c = record { held = (c .before .before .before .before .before .before .befor
 a-below : (c : tie.After-place Inv-loop2 μ-loop2 Inv-loop μ-loop) → (c .place) .result < 256
 a-below c = omega (arith, (c .place) .ensures, a-low (S (c .before .before .before .before .before .before .before)) (whole (c .before .before .before .before .before .before .before)) (size (c .before .before .before .before .before .before .before)) (K (c .before .before .before .before .before .before .before)) (Now (c .before .before .before .before .before .before .before)) ((c .before .top-of) .result) (X c) (st c))
 
-decoded : (c : tie.After-place Inv-loop2 μ-loop2 Inv-loop μ-loop) → bareOf (getD ((c .before .before .before .before .before .before .before .before .before .before .before .before .before .before .before .before .before .before .before .before .kinds) .result) ((c .place) .result) noPlace .kind) (getD ((c .before .before .before .before .before .before .before .before .before .before .before .before .before .before .before .before .before .before .before .numbers) .result) ((c .place) .result) []) (getD ((c .before .before .before .before .before .before .before .before .before .before .before .before .before .before .before .before .before .before .consts) .result) ((c .place) .result) []) ≡ bare (X c)
-decoded c = λ i. bareOf ((c .before .before .before .before .before .before .before .before .before .before .before .before .before .before .before .before .before .before .before .before .kinds) .ensures ((c .place) .result) (a-below c) i) ((c .before .before .before .before .before .before .before .before .before .before .before .before .before .before .before .before .before .before .before .numbers) .ensures ((c .place) .result) (a-below c) i) ((c .before .before .before .before .before .before .before .before .before .before .before .before .before .before .before .before .before .before .consts) .ensures ((c .place) .result) (a-below c) i)
+decoded : (c : tie.After-place Inv-loop2 μ-loop2 Inv-loop μ-loop) → bareOf (getD ((c .before .before .before .before .before .before .before .before .before .before .before .before .before .before .before .before .before .before .before .before .opcodes) .result) ((c .place) .result) noOpcode .opcode) (getD ((c .before .before .before .before .before .before .before .before .before .before .before .before .before .before .before .before .before .before .before .numbers) .result) ((c .place) .result) []) (getD ((c .before .before .before .before .before .before .before .before .before .before .before .before .before .before .before .before .before .before .consts) .result) ((c .place) .result) []) ≡ bare (X c)
+decoded c = λ i. bareOf ((c .before .before .before .before .before .before .before .before .before .before .before .before .before .before .before .before .before .before .before .before .opcodes) .ensures ((c .place) .result) (a-below c) i) ((c .before .before .before .before .before .before .before .before .before .before .before .before .before .before .before .before .before .before .before .numbers) .ensures ((c .place) .result) (a-below c) i) ((c .before .before .before .before .before .before .before .before .before .before .before .before .before .before .before .before .before .before .consts) .ensures ((c .place) .result) (a-below c) i)
 
 abbrev M : (c : tie.After-direct Inv-loop2 μ-loop2 Inv-loop μ-loop) → Columns
 M c = columns ((c .direct) .last .1 .1 .1 .1 .1 .1 .1 .1 .1 .1 .0) ((c .direct) .last .1 .1 .1 .1 .1 .1 .1 .1 .1 .1 .1 .0) ((c .direct) .last .1 .1 .1 .1 .1 .1 .1 .1 .1 .1 .1 .1 .0) ((c .direct) .last .1 .1 .1 .1 .1 .1 .1 .1 .1 .1 .1 .1 .1 .0) ((c .direct) .last .1 .1 .1 .1 .1 .1 .1 .1 .1 .1 .1 .1 .1 .1 .0) ((c .direct) .last .1 .1 .1 .1 .1 .1 .1 .1 .1 .1 .1 .1 .1 .1 .1 .0) ((c .direct) .last .1 .1 .1 .1 .1 .1 .1 .1 .1 .1 .1 .1 .1 .1 .1 .1 .1 .0)
@@ -153,8 +153,8 @@ ended : (c : tie.Joined1 Inv-loop2 μ-loop2 Inv-loop μ-loop) → Stopped (S (c 
 ended c =
     ⊎-elim (λ w. behind (S (c .before)) (whole (c .before)) (size (c .before)) (stop-1 (record { before = (c .before); if1 = w .0 })) (w .1) (w .2) (w .3) (w .4) (w .5) (w .6) (w .7) (w .8))
     (⊎-elim (λ w. behind (S (c .before)) (whole (c .before)) (size (c .before)) (stop-2 (record { before = (record { before = (record { before = (record { before = (record { before = (c .before); if1 = w .0 }); shared-slice-known2 = w .1 }); lost2 = w .2 }); before2 = w .3 }); if2 = w .4 })) (w .5) (w .6) (w .7) (w .8) (w .9) (w .10) (w .11) (w .12))
-    (⊎-elim (λ w. behind (S (c .before)) (whole (c .before)) (size (c .before)) (stop-3 (record { before = (record { before = (record { before = (record { before = (record { before = (record { before = (record { before = (record { before = (record { before = (record { before = (record { before = (record { before = (record { before = (record { before = (record { before = (record { before = (record { before = (record { before = (record { before = (record { before = (record { before = (record { before = (record { before = (record { before = (record { before = (record { before = (record { before = (record { before = (record { before = (record { before = (record { before = (record { before = (record { before = (c .before); if1 = w .0 }); shared-slice-known2 = w .1 }); lost2 = w .2 }); before2 = w .3 }); if2 = w .4 }); top-of = w .5 }); place = w .6 }); pl = w .7 }); numbers2 = w .8 }); consts2 = w .9 }); targets3 = w .10 }); depth2 = w .11 }); proc = w .12 }); node = w .13 }); vars2 = w .14 }); sems2 = w .15 }); lens2 = w .16 }); caps2 = w .17 }); rows = w .18 }); direct = w .19 }); if3 = w .20 }); sl = w .21 }); closes = w .22 }); under = w .23 }); place2 = w .24 }); act-arg = w .25 }); sems3 = w .26 }); lens3 = w .27 }); caps3 = w .28 }); rows2 = w .29 }); act = w .30 }); struct-known = w .31 }); if4 = w .32 })) (w .33) (w .34) (w .35) (w .36) (w .37) (w .38) (w .39) (w .40))
-    (λ w. behind (S (c .before)) (whole (c .before)) (size (c .before)) (stop-4 (record { before = (record { before = (record { before = (record { before = (record { before = (record { before = (record { before = (record { before = (record { before = (record { before = (record { before = (record { before = (record { before = (record { before = (record { before = (record { before = (record { before = (record { before = (record { before = (record { before = (record { before = (record { before = (record { before = (record { before = (record { before = (record { before = (record { before = (record { before = (record { before = (record { before = (record { before = (record { before = (record { before = (record { before = (record { before = (record { before = (record { before = (record { before = (c .before); if1 = w .0 }); shared-slice-known2 = w .1 }); lost2 = w .2 }); before2 = w .3 }); if2 = w .4 }); top-of = w .5 }); place = w .6 }); pl = w .7 }); numbers2 = w .8 }); consts2 = w .9 }); targets3 = w .10 }); depth2 = w .11 }); proc = w .12 }); node = w .13 }); vars2 = w .14 }); sems2 = w .15 }); lens2 = w .16 }); caps2 = w .17 }); rows = w .18 }); direct = w .19 }); if3 = w .20 }); sl = w .21 }); closes = w .22 }); under = w .23 }); place2 = w .24 }); act-arg = w .25 }); sems3 = w .26 }); lens3 = w .27 }); caps3 = w .28 }); rows2 = w .29 }); act = w .30 }); struct-known = w .31 }); if4 = w .32 }); loop2 = w .33 }); arrive = w .34 }); if5 = w .35 }); struct-known3 = w .36 }); if8 = w .37 })) (w .38) (w .39) (w .40) (w .41) (w .42) (w .43) (w .44) (w .45))))
+    (⊎-elim (λ w. behind (S (c .before)) (whole (c .before)) (size (c .before)) (stop-3 (record { before = (record { before = (record { before = (record { before = (record { before = (record { before = (record { before = (record { before = (record { before = (record { before = (record { before = (record { before = (record { before = (record { before = (record { before = (record { before = (record { before = (record { before = (record { before = (record { before = (record { before = (record { before = (record { before = (record { before = (record { before = (record { before = (record { before = (record { before = (record { before = (record { before = (record { before = (record { before = (record { before = (c .before); if1 = w .0 }); shared-slice-known2 = w .1 }); lost2 = w .2 }); before2 = w .3 }); if2 = w .4 }); top-of = w .5 }); place = w .6 }); os = w .7 }); numbers2 = w .8 }); consts2 = w .9 }); targets3 = w .10 }); depth2 = w .11 }); proc = w .12 }); node = w .13 }); vars2 = w .14 }); sems2 = w .15 }); lens2 = w .16 }); caps2 = w .17 }); rows = w .18 }); direct = w .19 }); if3 = w .20 }); sl = w .21 }); closes = w .22 }); under = w .23 }); place2 = w .24 }); act-arg = w .25 }); sems3 = w .26 }); lens3 = w .27 }); caps3 = w .28 }); rows2 = w .29 }); act = w .30 }); struct-known = w .31 }); if4 = w .32 })) (w .33) (w .34) (w .35) (w .36) (w .37) (w .38) (w .39) (w .40))
+    (λ w. behind (S (c .before)) (whole (c .before)) (size (c .before)) (stop-4 (record { before = (record { before = (record { before = (record { before = (record { before = (record { before = (record { before = (record { before = (record { before = (record { before = (record { before = (record { before = (record { before = (record { before = (record { before = (record { before = (record { before = (record { before = (record { before = (record { before = (record { before = (record { before = (record { before = (record { before = (record { before = (record { before = (record { before = (record { before = (record { before = (record { before = (record { before = (record { before = (record { before = (record { before = (record { before = (record { before = (record { before = (record { before = (c .before); if1 = w .0 }); shared-slice-known2 = w .1 }); lost2 = w .2 }); before2 = w .3 }); if2 = w .4 }); top-of = w .5 }); place = w .6 }); os = w .7 }); numbers2 = w .8 }); consts2 = w .9 }); targets3 = w .10 }); depth2 = w .11 }); proc = w .12 }); node = w .13 }); vars2 = w .14 }); sems2 = w .15 }); lens2 = w .16 }); caps2 = w .17 }); rows = w .18 }); direct = w .19 }); if3 = w .20 }); sl = w .21 }); closes = w .22 }); under = w .23 }); place2 = w .24 }); act-arg = w .25 }); sems3 = w .26 }); lens3 = w .27 }); caps3 = w .28 }); rows2 = w .29 }); act = w .30 }); struct-known = w .31 }); if4 = w .32 }); loop2 = w .33 }); arrive = w .34 }); if5 = w .35 }); struct-known3 = w .36 }); if8 = w .37 })) (w .38) (w .39) (w .40) (w .41) (w .42) (w .43) (w .44) (w .45))))
     ((c .if1) .came)
 
 row-requires : tie.Need-row-requires Inv-loop2 μ-loop2 Inv-loop μ-loop
@@ -172,8 +172,8 @@ no-arcs-requires c κs = search needs
 targets-requires-2 : tie.Need-targets-requires-2 Inv-loop2 μ-loop2 Inv-loop μ-loop
 targets-requires-2 c κs = search needs
 
-kinds-requires : tie.Need-kinds-requires Inv-loop2 μ-loop2 Inv-loop μ-loop
-kinds-requires c κs = search needs
+opcodes-requires : tie.Need-opcodes-requires Inv-loop2 μ-loop2 Inv-loop μ-loop
+opcodes-requires c κs = search needs
 
 numbers-requires : tie.Need-numbers-requires Inv-loop2 μ-loop2 Inv-loop μ-loop
 numbers-requires c κs = search needs
@@ -239,11 +239,11 @@ array-read-tn c = f-below c
 place-requires : tie.Need-place-requires Inv-loop2 μ-loop2 Inv-loop μ-loop
 place-requires c κs = (proc-low (c .before .before .before .before .before .before) ((c .top-of) .result), node-low (c .before .before .before .before .before .before) ((c .top-of) .result))
 
-mul-pl : tie.Need-mul-pl Inv-loop2 μ-loop2 Inv-loop μ-loop
-mul-pl c = record { fits = omega (arith, a-below (c)) }
+mul-os : tie.Need-mul-os Inv-loop2 μ-loop2 Inv-loop μ-loop
+mul-os c = record { fits = omega (arith, a-below c) }
 
-array-copy-out-pl : tie.Need-array-copy-out-pl Inv-loop2 μ-loop2 Inv-loop μ-loop
-array-copy-out-pl c = a-below (c)
+array-copy-out-os : tie.Need-array-copy-out-os Inv-loop2 μ-loop2 Inv-loop μ-loop
+array-copy-out-os c = a-below c
 
 mul-sl : tie.Need-mul-sl Inv-loop2 μ-loop2 Inv-loop μ-loop
 mul-sl c = record { fits = omega (arith, a-below (c .before .before .before .before .before .before .before .before .before .before .before .before .before .before)) }
@@ -417,7 +417,7 @@ run-from-spec =
     targets-requires
     no-arcs-requires
     targets-requires-2
-    kinds-requires
+    opcodes-requires
     numbers-requires
     consts-requires
     caps-requires
@@ -436,8 +436,8 @@ run-from-spec =
     array-read-tp
     array-read-tn
     place-requires
-    mul-pl
-    array-copy-out-pl
+    mul-os
+    array-copy-out-os
     array-read-direct
     array-read-direct-2
     direct-requires

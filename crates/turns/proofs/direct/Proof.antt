@@ -10,7 +10,7 @@ use Rattle.table.specs.Mask.{pick}
 use Rattle.table.specs.Values.{apply, holds}
 use Rattle.machine.specs.Step.{operandIn}
 use Rattle.decoding.specs.Decoding.{operandOf, bareOf}
-use Rattle.decoding.specs.declared.Kind.{Kind}
+use Rattle.decoding.specs.declared.Opcode.{Opcode}
 use Rattle.steps.specs.Cut.{goesTo, doesTo, showsTo, unless}
 use Rattle.values.proofs.Again.{again}
 use Rattle.starts.specs.Ready.{Placed}
@@ -31,8 +31,8 @@ enum-told-2 c = search needs
 go-requires : tie.Need-go-requires
 go-requires c κs = (c .before .before .before .pre) .1 .frame
 
-enum-known-kind : tie.Need-enum-known-kind
-enum-known-kind c = search needs
+enum-known-opcode : tie.Need-enum-known-opcode
+enum-known-opcode c = search needs
 
 mul-set-step : tie.Need-mul-set-step
 mul-set-step c = search needs
@@ -82,8 +82,8 @@ index-2-set-step-5 c = search needs
 set-step-requires : tie.Need-set-step-requires
 set-step-requires c κs = ((c .before .before .before .before .before .before .before .before .before .before .pre) .1 .frame, (c .before .before .before .before .before .before .before .before .before .before .pre) .1 .vars)
 
-enum-known-kind-2 : tie.Need-enum-known-kind-2
-enum-known-kind-2 c = search needs
+enum-known-opcode-2 : tie.Need-enum-known-opcode-2
+enum-known-opcode-2 c = search needs
 
 mul-va : tie.Need-mul-va
 mul-va c = search needs
@@ -198,7 +198,7 @@ index-2-call-step-6 c = search needs
 
 call-step-requires : tie.Need-call-step-requires
 unfolding bareOf
-call-step-requires c κs = ((c .before .before .before .before .before .before .before .before .before .before .before .before .pre) .1 .task, (((c .before .before .before .before .before .before .before .before .before .before .before .before .pre) .1 .frame, (c .before .before .before .before .before .before .before .before .before .before .before .before .pre) .1 .vars), ((subst (λ (k : Kind). Placed (bareOf k (getD ((c .before .before .before .before .before .before .before .before .before .before .before .before .args) .numbers .now) ((c .before .before .before .before .before .before .before .before .before .before .before .before .args) .p) []) (getD ((c .before .before .before .before .before .before .before .before .before .before .before .before .args) .consts .now) ((c .before .before .before .before .before .before .before .before .before .before .before .before .args) .p) []))) ((c .before .before .before .before .before .before .before .before .before .before .enum-told4) .given .1) ((c .before .before .before .before .before .before .before .before .before .before .before .before .pre) .1 .placed)) .1, (c .before .before .before .before .before .before .before .before .before .before .before .before .pre) .1 .above)))
+call-step-requires c κs = ((c .before .before .before .before .before .before .before .before .before .before .before .before .pre) .1 .task, (((c .before .before .before .before .before .before .before .before .before .before .before .before .pre) .1 .frame, (c .before .before .before .before .before .before .before .before .before .before .before .before .pre) .1 .vars), ((subst (λ (k : Opcode). Placed (bareOf k (getD ((c .before .before .before .before .before .before .before .before .before .before .before .before .args) .numbers .now) ((c .before .before .before .before .before .before .before .before .before .before .before .before .args) .p) []) (getD ((c .before .before .before .before .before .before .before .before .before .before .before .before .args) .consts .now) ((c .before .before .before .before .before .before .before .before .before .before .before .before .args) .p) []))) ((c .before .before .before .before .before .before .before .before .before .before .enum-told4) .given .1) ((c .before .before .before .before .before .before .before .before .before .before .before .before .pre) .1 .placed)) .1, (c .before .before .before .before .before .before .before .before .before .before .before .before .pre) .1 .above)))
 
 enum-told-5 : tie.Need-enum-told-5
 enum-told-5 c = search needs
@@ -214,7 +214,7 @@ index-2-wait-step c = search needs
 
 wait-step-requires : tie.Need-wait-step-requires
 unfolding bareOf
-wait-step-requires c κs = ((c .before .before .before .before .before .pre) .1 .frame, (subst (λ (k : Kind). Placed (bareOf k (getD ((c .before .before .before .before .before .args) .numbers .now) ((c .before .before .before .before .before .args) .p) []) (getD ((c .before .before .before .before .before .args) .consts .now) ((c .before .before .before .before .before .args) .p) []))) ((c .before .before .before .enum-told5) .given .1) ((c .before .before .before .before .before .pre) .1 .placed)))
+wait-step-requires c κs = ((c .before .before .before .before .before .pre) .1 .frame, (subst (λ (k : Opcode). Placed (bareOf k (getD ((c .before .before .before .before .before .args) .numbers .now) ((c .before .before .before .before .before .args) .p) []) (getD ((c .before .before .before .before .before .args) .consts .now) ((c .before .before .before .before .before .args) .p) []))) ((c .before .before .before .enum-told5) .given .1) ((c .before .before .before .before .before .pre) .1 .placed)))
 
 enum-told-6 : tie.Need-enum-told-6
 enum-told-6 c = search needs
@@ -230,7 +230,7 @@ index-2-signal-step c = search needs
 
 signal-step-requires : tie.Need-signal-step-requires
 unfolding bareOf
-signal-step-requires c κs = ((c .before .before .before .before .before .pre) .1 .frame, (subst (λ (k : Kind). Placed (bareOf k (getD ((c .before .before .before .before .before .args) .numbers .now) ((c .before .before .before .before .before .args) .p) []) (getD ((c .before .before .before .before .before .args) .consts .now) ((c .before .before .before .before .before .args) .p) []))) ((c .before .before .before .enum-told6) .given .1) ((c .before .before .before .before .before .pre) .1 .placed)))
+signal-step-requires c κs = ((c .before .before .before .before .before .pre) .1 .frame, (subst (λ (k : Opcode). Placed (bareOf k (getD ((c .before .before .before .before .before .args) .numbers .now) ((c .before .before .before .before .before .args) .p) []) (getD ((c .before .before .before .before .before .args) .consts .now) ((c .before .before .before .before .before .args) .p) []))) ((c .before .before .before .enum-told6) .given .1) ((c .before .before .before .before .before .pre) .1 .placed)))
 
 enum-told-7 : tie.Need-enum-told-7
 enum-told-7 c = search needs
@@ -264,7 +264,7 @@ index-2-send-step c = search needs
 
 send-step-requires : tie.Need-send-step-requires
 unfolding bareOf
-send-step-requires c κs = ((c .before .before .before .before .before .before .before .before .before .pre) .1 .frame, ((subst (λ (k : Kind). Placed (bareOf k (getD ((c .before .before .before .before .before .before .before .before .before .args) .numbers .now) ((c .before .before .before .before .before .before .before .before .before .args) .p) []) (getD ((c .before .before .before .before .before .before .before .before .before .args) .consts .now) ((c .before .before .before .before .before .before .before .before .before .args) .p) []))) ((c .before .before .before .before .before .before .before .enum-told7) .given .1) ((c .before .before .before .before .before .before .before .before .before .pre) .1 .placed)), (c .before .before .before .before .before .before .before .before .before .pre) .1 .rows _ (subst (λ (k : Kind). Placed (bareOf k (getD ((c .before .before .before .before .before .before .before .before .before .args) .numbers .now) ((c .before .before .before .before .before .before .before .before .before .args) .p) []) (getD ((c .before .before .before .before .before .before .before .before .before .args) .consts .now) ((c .before .before .before .before .before .before .before .before .before .args) .p) []))) ((c .before .before .before .before .before .before .before .enum-told7) .given .1) ((c .before .before .before .before .before .before .before .before .before .pre) .1 .placed))))
+send-step-requires c κs = ((c .before .before .before .before .before .before .before .before .before .pre) .1 .frame, ((subst (λ (k : Opcode). Placed (bareOf k (getD ((c .before .before .before .before .before .before .before .before .before .args) .numbers .now) ((c .before .before .before .before .before .before .before .before .before .args) .p) []) (getD ((c .before .before .before .before .before .before .before .before .before .args) .consts .now) ((c .before .before .before .before .before .before .before .before .before .args) .p) []))) ((c .before .before .before .before .before .before .before .enum-told7) .given .1) ((c .before .before .before .before .before .before .before .before .before .pre) .1 .placed)), (c .before .before .before .before .before .before .before .before .before .pre) .1 .rows _ (subst (λ (k : Opcode). Placed (bareOf k (getD ((c .before .before .before .before .before .before .before .before .before .args) .numbers .now) ((c .before .before .before .before .before .before .before .before .before .args) .p) []) (getD ((c .before .before .before .before .before .before .before .before .before .args) .consts .now) ((c .before .before .before .before .before .before .before .before .before .args) .p) []))) ((c .before .before .before .before .before .before .before .enum-told7) .given .1) ((c .before .before .before .before .before .before .before .before .before .pre) .1 .placed))))
 
 enum-told-8 : tie.Need-enum-told-8
 enum-told-8 c = search needs
@@ -289,7 +289,7 @@ index-2-receive-step-2 c = search needs
 
 receive-step-requires : tie.Need-receive-step-requires
 unfolding bareOf
-receive-step-requires c κs = (((c .before .before .before .before .before .before .before .before .pre) .1 .frame, (c .before .before .before .before .before .before .before .before .pre) .1 .vars), ((subst (λ (k : Kind). Placed (bareOf k (getD ((c .before .before .before .before .before .before .before .before .args) .numbers .now) ((c .before .before .before .before .before .before .before .before .args) .p) []) (getD ((c .before .before .before .before .before .before .before .before .args) .consts .now) ((c .before .before .before .before .before .before .before .before .args) .p) []))) ((c .before .before .before .before .before .before .enum-told8) .given .1) ((c .before .before .before .before .before .before .before .before .pre) .1 .placed)), (c .before .before .before .before .before .before .before .before .pre) .1 .rows _ (subst (λ (k : Kind). Placed (bareOf k (getD ((c .before .before .before .before .before .before .before .before .args) .numbers .now) ((c .before .before .before .before .before .before .before .before .args) .p) []) (getD ((c .before .before .before .before .before .before .before .before .args) .consts .now) ((c .before .before .before .before .before .before .before .before .args) .p) []))) ((c .before .before .before .before .before .before .enum-told8) .given .1) ((c .before .before .before .before .before .before .before .before .pre) .1 .placed))))
+receive-step-requires c κs = (((c .before .before .before .before .before .before .before .before .pre) .1 .frame, (c .before .before .before .before .before .before .before .before .pre) .1 .vars), ((subst (λ (k : Opcode). Placed (bareOf k (getD ((c .before .before .before .before .before .before .before .before .args) .numbers .now) ((c .before .before .before .before .before .before .before .before .args) .p) []) (getD ((c .before .before .before .before .before .before .before .before .args) .consts .now) ((c .before .before .before .before .before .before .before .before .args) .p) []))) ((c .before .before .before .before .before .before .enum-told8) .given .1) ((c .before .before .before .before .before .before .before .before .pre) .1 .placed)), (c .before .before .before .before .before .before .before .before .pre) .1 .rows _ (subst (λ (k : Opcode). Placed (bareOf k (getD ((c .before .before .before .before .before .before .before .before .args) .numbers .now) ((c .before .before .before .before .before .before .before .before .args) .p) []) (getD ((c .before .before .before .before .before .before .before .before .args) .consts .now) ((c .before .before .before .before .before .before .before .before .args) .p) []))) ((c .before .before .before .before .before .before .enum-told8) .given .1) ((c .before .before .before .before .before .before .before .before .pre) .1 .placed))))
 
 enum-told-9 : tie.Need-enum-told-9
 enum-told-9 c = search needs
@@ -355,11 +355,11 @@ returns-2 c = rw ((c .before .before .enum-told2) .given .1) ((c .go) .ensures (
 
 returns-3 : tie.Need-returns-3
 unfolding triedTurn bareOf
-returns-3 c = rw ((c .before .before .before .before .before .before .before .before .before .kind) .given .1) ((c .set-step) .ensures (columns ((c .before .before .before .before .before .before .before .before .before .before .before .args) .depth .now) ((c .before .before .before .before .before .before .before .before .before .before .before .args) .procs .now) ((c .before .before .before .before .before .before .before .before .before .before .before .args) .nodes .now) ((c .before .before .before .before .before .before .before .before .before .before .before .args) .vars .now) ((c .before .before .before .before .before .before .before .before .before .before .before .args) .sems .now) ((c .before .before .before .before .before .before .before .before .before .before .before .args) .lens .now) ((c .before .before .before .before .before .before .before .before .before .before .before .args) .items .now)) ((c .before .before .before .before .before .before .before .before .before .before .before .pre) .1 .vars) ∙ (λ i. straight ((c .before .before .before .before .before .before .before .before .before .before .before .args) .j) (goesTo (getD (getD ((c .before .before .before .before .before .before .before .before .before .before .before .args) .numbers .now) ((c .before .before .before .before .before .before .before .before .before .before .before .args) .p) []) 0 0) (apply ((c .before .before .before .before .before .before .before .before .before .kind) .given .0 .0) (operandIn (getD ((c .before .before .before .before .before .before .before .before .before .before .before .args) .vars .now) ((c .before .before .before .before .before .before .before .before .before .before .before .args) .f) []) (operandOf (getD (getD ((c .before .before .before .before .before .before .before .before .before .before .before .args) .numbers .now) ((c .before .before .before .before .before .before .before .before .before .before .before .args) .p) []) 1 0) (again (getD (getD ((c .before .before .before .before .before .before .before .before .before .before .before .args) .consts .now) ((c .before .before .before .before .before .before .before .before .before .before .before .args) .p) []) 0 (pos 0)) (record { sfits = (c .before .before .before .set-step-arg5) .given }) i))) (operandIn (getD ((c .before .before .before .before .before .before .before .before .before .before .before .args) .vars .now) ((c .before .before .before .before .before .before .before .before .before .before .before .args) .f) []) (operandOf (getD (getD ((c .before .before .before .before .before .before .before .before .before .before .before .args) .numbers .now) ((c .before .before .before .before .before .before .before .before .before .before .before .args) .p) []) 2 0) (again (getD (getD ((c .before .before .before .before .before .before .before .before .before .before .before .args) .consts .now) ((c .before .before .before .before .before .before .before .before .before .before .before .args) .p) []) 1 (pos 0)) (record { sfits = (c .before .set-step-arg7) .given }) i)))) 0 0) ((c .before .before .before .before .before .before .before .before .before .before .before .args) .f) (columns ((c .before .before .before .before .before .before .before .before .before .before .before .args) .depth .now) ((c .before .before .before .before .before .before .before .before .before .before .before .args) .procs .now) ((c .before .before .before .before .before .before .before .before .before .before .before .args) .nodes .now) ((c .before .before .before .before .before .before .before .before .before .before .before .args) .vars .now) ((c .before .before .before .before .before .before .before .before .before .before .before .args) .sems .now) ((c .before .before .before .before .before .before .before .before .before .before .before .args) .lens .now) ((c .before .before .before .before .before .before .before .before .before .before .before .args) .items .now))))
+returns-3 c = rw ((c .before .before .before .before .before .before .before .before .before .opcode) .given .1) ((c .set-step) .ensures (columns ((c .before .before .before .before .before .before .before .before .before .before .before .args) .depth .now) ((c .before .before .before .before .before .before .before .before .before .before .before .args) .procs .now) ((c .before .before .before .before .before .before .before .before .before .before .before .args) .nodes .now) ((c .before .before .before .before .before .before .before .before .before .before .before .args) .vars .now) ((c .before .before .before .before .before .before .before .before .before .before .before .args) .sems .now) ((c .before .before .before .before .before .before .before .before .before .before .before .args) .lens .now) ((c .before .before .before .before .before .before .before .before .before .before .before .args) .items .now)) ((c .before .before .before .before .before .before .before .before .before .before .before .pre) .1 .vars) ∙ (λ i. straight ((c .before .before .before .before .before .before .before .before .before .before .before .args) .j) (goesTo (getD (getD ((c .before .before .before .before .before .before .before .before .before .before .before .args) .numbers .now) ((c .before .before .before .before .before .before .before .before .before .before .before .args) .p) []) 0 0) (apply ((c .before .before .before .before .before .before .before .before .before .opcode) .given .0 .0) (operandIn (getD ((c .before .before .before .before .before .before .before .before .before .before .before .args) .vars .now) ((c .before .before .before .before .before .before .before .before .before .before .before .args) .f) []) (operandOf (getD (getD ((c .before .before .before .before .before .before .before .before .before .before .before .args) .numbers .now) ((c .before .before .before .before .before .before .before .before .before .before .before .args) .p) []) 1 0) (again (getD (getD ((c .before .before .before .before .before .before .before .before .before .before .before .args) .consts .now) ((c .before .before .before .before .before .before .before .before .before .before .before .args) .p) []) 0 (pos 0)) (record { sfits = (c .before .before .before .set-step-arg5) .given }) i))) (operandIn (getD ((c .before .before .before .before .before .before .before .before .before .before .before .args) .vars .now) ((c .before .before .before .before .before .before .before .before .before .before .before .args) .f) []) (operandOf (getD (getD ((c .before .before .before .before .before .before .before .before .before .before .before .args) .numbers .now) ((c .before .before .before .before .before .before .before .before .before .before .before .args) .p) []) 2 0) (again (getD (getD ((c .before .before .before .before .before .before .before .before .before .before .before .args) .consts .now) ((c .before .before .before .before .before .before .before .before .before .before .before .args) .p) []) 1 (pos 0)) (record { sfits = (c .before .set-step-arg7) .given }) i)))) 0 0) ((c .before .before .before .before .before .before .before .before .before .before .before .args) .f) (columns ((c .before .before .before .before .before .before .before .before .before .before .before .args) .depth .now) ((c .before .before .before .before .before .before .before .before .before .before .before .args) .procs .now) ((c .before .before .before .before .before .before .before .before .before .before .before .args) .nodes .now) ((c .before .before .before .before .before .before .before .before .before .before .before .args) .vars .now) ((c .before .before .before .before .before .before .before .before .before .before .before .args) .sems .now) ((c .before .before .before .before .before .before .before .before .before .before .before .args) .lens .now) ((c .before .before .before .before .before .before .before .before .before .before .before .args) .items .now))))
 
 returns-4 : tie.Need-returns-4
 unfolding triedTurn bareOf
-returns-4 c = rw ((c .before .before .before .before .before .before .before .before .before .kind2) .given .1) ((c .go2) .ensures (columns ((c .before .before .before .before .before .before .before .before .before .before .before .args) .depth .now) ((c .before .before .before .before .before .before .before .before .before .before .before .args) .procs .now) ((c .before .before .before .before .before .before .before .before .before .before .before .args) .nodes .now) ((c .before .before .before .before .before .before .before .before .before .before .before .args) .vars .now) ((c .before .before .before .before .before .before .before .before .before .before .before .args) .sems .now) ((c .before .before .before .before .before .before .before .before .before .before .before .args) .lens .now) ((c .before .before .before .before .before .before .before .before .before .before .before .args) .items .now)) ((c .before .before .before .before .before .before .before .before .before .before .before .pre) .1 .vars) ∙ ap (λ (n : ℕ). straight n (goesTo 255 (pos 0) 0 0) ((c .before .before .before .before .before .before .before .before .before .before .before .args) .f) (columns ((c .before .before .before .before .before .before .before .before .before .before .before .args) .depth .now) ((c .before .before .before .before .before .before .before .before .before .before .before .args) .procs .now) ((c .before .before .before .before .before .before .before .before .before .before .before .args) .nodes .now) ((c .before .before .before .before .before .before .before .before .before .before .before .args) .vars .now) ((c .before .before .before .before .before .before .before .before .before .before .before .args) .sems .now) ((c .before .before .before .before .before .before .before .before .before .before .before .args) .lens .now) ((c .before .before .before .before .before .before .before .before .before .before .before .args) .items .now))) ((c .before .before .tested) .ensures ∙ (λ i. pick (holds (apply ((c .before .before .before .before .before .before .before .before .before .kind2) .given .0 .0) (operandIn (getD ((c .before .before .before .before .before .before .before .before .before .before .before .args) .vars .now) ((c .before .before .before .before .before .before .before .before .before .before .before .args) .f) []) (operandOf (getD (getD ((c .before .before .before .before .before .before .before .before .before .before .before .args) .numbers .now) ((c .before .before .before .before .before .before .before .before .before .before .before .args) .p) []) 0 0) (again (getD (getD ((c .before .before .before .before .before .before .before .before .before .before .before .args) .consts .now) ((c .before .before .before .before .before .before .before .before .before .before .before .args) .p) []) 0 (pos 0)) (record { sfits = (c .before .before .before .before .before .before .a) .given }) i))) (operandIn (getD ((c .before .before .before .before .before .before .before .before .before .before .before .args) .vars .now) ((c .before .before .before .before .before .before .before .before .before .before .before .args) .f) []) (operandOf (getD (getD ((c .before .before .before .before .before .before .before .before .before .before .before .args) .numbers .now) ((c .before .before .before .before .before .before .before .before .before .before .before .args) .p) []) 1 0) (again (getD (getD ((c .before .before .before .before .before .before .before .before .before .before .before .args) .consts .now) ((c .before .before .before .before .before .before .before .before .before .before .before .args) .p) []) 1 (pos 0)) (record { sfits = (c .before .before .before .before .b) .given }) i))))) ((c .before .before .before .before .before .before .before .before .before .before .before .args) .j) ((c .before .before .before .before .before .before .before .before .before .before .before .args) .k))))
+returns-4 c = rw ((c .before .before .before .before .before .before .before .before .before .opcode2) .given .1) ((c .go2) .ensures (columns ((c .before .before .before .before .before .before .before .before .before .before .before .args) .depth .now) ((c .before .before .before .before .before .before .before .before .before .before .before .args) .procs .now) ((c .before .before .before .before .before .before .before .before .before .before .before .args) .nodes .now) ((c .before .before .before .before .before .before .before .before .before .before .before .args) .vars .now) ((c .before .before .before .before .before .before .before .before .before .before .before .args) .sems .now) ((c .before .before .before .before .before .before .before .before .before .before .before .args) .lens .now) ((c .before .before .before .before .before .before .before .before .before .before .before .args) .items .now)) ((c .before .before .before .before .before .before .before .before .before .before .before .pre) .1 .vars) ∙ ap (λ (n : ℕ). straight n (goesTo 255 (pos 0) 0 0) ((c .before .before .before .before .before .before .before .before .before .before .before .args) .f) (columns ((c .before .before .before .before .before .before .before .before .before .before .before .args) .depth .now) ((c .before .before .before .before .before .before .before .before .before .before .before .args) .procs .now) ((c .before .before .before .before .before .before .before .before .before .before .before .args) .nodes .now) ((c .before .before .before .before .before .before .before .before .before .before .before .args) .vars .now) ((c .before .before .before .before .before .before .before .before .before .before .before .args) .sems .now) ((c .before .before .before .before .before .before .before .before .before .before .before .args) .lens .now) ((c .before .before .before .before .before .before .before .before .before .before .before .args) .items .now))) ((c .before .before .tested) .ensures ∙ (λ i. pick (holds (apply ((c .before .before .before .before .before .before .before .before .before .opcode2) .given .0 .0) (operandIn (getD ((c .before .before .before .before .before .before .before .before .before .before .before .args) .vars .now) ((c .before .before .before .before .before .before .before .before .before .before .before .args) .f) []) (operandOf (getD (getD ((c .before .before .before .before .before .before .before .before .before .before .before .args) .numbers .now) ((c .before .before .before .before .before .before .before .before .before .before .before .args) .p) []) 0 0) (again (getD (getD ((c .before .before .before .before .before .before .before .before .before .before .before .args) .consts .now) ((c .before .before .before .before .before .before .before .before .before .before .before .args) .p) []) 0 (pos 0)) (record { sfits = (c .before .before .before .before .before .before .a) .given }) i))) (operandIn (getD ((c .before .before .before .before .before .before .before .before .before .before .before .args) .vars .now) ((c .before .before .before .before .before .before .before .before .before .before .before .args) .f) []) (operandOf (getD (getD ((c .before .before .before .before .before .before .before .before .before .before .before .args) .numbers .now) ((c .before .before .before .before .before .before .before .before .before .before .before .args) .p) []) 1 0) (again (getD (getD ((c .before .before .before .before .before .before .before .before .before .before .before .args) .consts .now) ((c .before .before .before .before .before .before .before .before .before .before .before .args) .p) []) 1 (pos 0)) (record { sfits = (c .before .before .before .before .b) .given }) i))))) ((c .before .before .before .before .before .before .before .before .before .before .before .args) .j) ((c .before .before .before .before .before .before .before .before .before .before .before .args) .k))))
 
 returns-5 : tie.Need-returns-5
 unfolding triedTurn bareOf
@@ -405,7 +405,7 @@ direct-spec =
     not-done-requires
     enum-told-2
     go-requires
-    enum-known-kind
+    enum-known-opcode
     mul-set-step
     index-1-set-step
     index-2-set-step
@@ -422,7 +422,7 @@ direct-spec =
     index-1-set-step-5
     index-2-set-step-5
     set-step-requires
-    enum-known-kind-2
+    enum-known-opcode-2
     mul-va
     index-1-va
     index-2-va

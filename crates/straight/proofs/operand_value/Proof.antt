@@ -2,8 +2,8 @@ use Rattle.values.proofs.Again.{again}
 use borrow.Author.Needs.{needs}
 use borrow.Author.Tests.{le-leb, lt-leb}
 use native.Mathlib.Omega.{arith}
-use Rattle.straight.proofs.term.Statement.{statement}
-use Rattle.straight.proofs.term.Tie as tie
+use Rattle.straight.proofs.operand_value.Statement.{statement}
+use Rattle.straight.proofs.operand_value.Tie as tie
 
 mul-result : tie.Need-mul-result
 mul-result c = search needs
@@ -17,5 +17,5 @@ returns c = rw (lt-leb 16 ((c .before .before .args) .v) (omega arith)) (search 
 returns-2 : tie.Need-returns-2
 returns-2 c = rw (le-leb 16 ((c .before .args) .v) (omega arith)) (again ((c .before .args) .c) ((c .before .fits) .c))
 
-pub term-spec : {M : Type 1} → statement M
-term-spec = tie.close (tie.spec mul-result element-copy-out-result returns returns-2)
+pub operand-value-spec : {M : Type 1} → statement M
+operand-value-spec = tie.close (tie.spec mul-result element-copy-out-result returns returns-2)

@@ -1,13 +1,16 @@
-use Rattle.words.specs.WordLaws.{quick-no-op, quick-add, quick-sub, quick-and, quick-xor, quick-shr}
+use Rattle.words.specs.WordLaws.{quick-add, quick-sub, quick-and, quick-xor, quick-shr}
 use borrow.Author.Needs.{needs}
-use Rattle.words.proofs.quick_operation.Statement.{statement}
-use Rattle.words.proofs.quick_operation.Tie as tie
+use Rattle.words.proofs.calculation_at.Statement.{statement}
+use Rattle.words.proofs.calculation_at.Tie as tie
 
 sub-if1 : tie.Need-sub-if1
 sub-if1 c = search needs
 
+any-operation-requires : tie.Need-any-operation-requires
+any-operation-requires c κs = search needs
+
 returns : tie.Need-returns
-returns c = search (needs, quick-no-op)
+returns c = search needs
 
 quad-requires : tie.Need-quad-requires
 quad-requires c κs = search needs
@@ -57,14 +60,18 @@ add-t17 c = search needs
 returns-6 : tie.Need-returns-6
 returns-6 c = search (needs, quick-shr)
 
-returns-7 : tie.Need-returns-7
-returns-7 c = search (needs, quick-no-op)
+any-operation-requires-2 : tie.Need-any-operation-requires-2
+any-operation-requires-2 c κs = search needs
 
-pub quick-operation-spec : {M : Type 1} → statement M
-quick-operation-spec =
+returns-7 : tie.Need-returns-7
+returns-7 c = search needs
+
+pub calculation-at-spec : {M : Type 1} → statement M
+calculation-at-spec =
     tie.close
     (tie.spec
     sub-if1
+    any-operation-requires
     returns
     quad-requires
     quad-of-requires
@@ -82,4 +89,5 @@ quick-operation-spec =
     quad-of-requires-5
     add-t17
     returns-6
+    any-operation-requires-2
     returns-7)

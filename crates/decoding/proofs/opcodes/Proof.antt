@@ -5,13 +5,13 @@ use Prim.Native.Nat.{ℕ, _-_, _<_, _≤_}
 use lib.ListN.{length, getD, length-set}
 use Rattle.table.specs.Table.{noSlot}
 use Rattle.masks.specs.Cells.{set-each}
-use Rattle.decoding.specs.Decoding.{noPlace, kindOf}
-use Rattle.decoding.specs.declared.Place.{Place}
-use Rattle.decoding.proofs.kinds.Statement.{statement}
-use Rattle.decoding.proofs.kinds.Tie as tie
+use Rattle.decoding.specs.Decoding.{noOpcode, opcodeOf}
+use Rattle.decoding.specs.declared.OpcodeSlot.{OpcodeSlot}
+use Rattle.decoding.proofs.opcodes.Statement.{statement}
+use Rattle.decoding.proofs.opcodes.Tie as tie
 
 abbrev Inv-loop : tie.InvT-loop
-Inv-loop row r₀ a₀ r a = (a ≤ 256) × ((length r ≡ 256) × ((k : ℕ) → k < a → getD r k noPlace .kind ≡ kindOf (getD row k noSlot .node)))
+Inv-loop row r₀ a₀ r a = (a ≤ 256) × ((length r ≡ 256) × ((k : ℕ) → k < a → getD r k noOpcode .opcode ≡ opcodeOf (getD row k noSlot .node)))
 
 abbrev μ-loop : tie.MeasureT-loop
 μ-loop row r₀ a₀ r a = 256 - a
@@ -25,8 +25,8 @@ mul-s c = search needs
 array-copy-out-s : tie.Need-array-copy-out-s Inv-loop μ-loop
 array-copy-out-s c = search needs
 
-kind-of-requires : tie.Need-kind-of-requires Inv-loop μ-loop
-kind-of-requires c κs = search needs
+opcode-of-requires : tie.Need-opcode-of-requires Inv-loop μ-loop
+opcode-of-requires c κs = search needs
 
 mul-r : tie.Need-mul-r Inv-loop μ-loop
 mul-r c = search needs
@@ -41,13 +41,13 @@ loop-less : tie.Need-loop-less Inv-loop μ-loop
 loop-less c = search needs
 
 loop-again : tie.Need-loop-again Inv-loop μ-loop
-loop-again c = (omega arith, (simp length-set ((c .before .before .before .loop) .inv .1 .0), set-each noPlace (λ (k : ℕ) (x : Place). x .kind ≡ kindOf (getD ((c .before .before .before .before .args) .t1) k noSlot .node)) ((c .before .before .before .loop) .a) _ ((c .before .before .before .loop) .r) (omega (arith, (c .before .before .before .loop) .inv .1 .0)) ((c .kind-of) .ensures) ((c .before .before .before .loop) .inv .1 .1)))
+loop-again c = (omega arith, (simp length-set ((c .before .before .before .loop) .inv .1 .0), set-each noOpcode (λ (k : ℕ) (x : OpcodeSlot). x .opcode ≡ opcodeOf (getD ((c .before .before .before .before .args) .t1) k noSlot .node)) ((c .before .before .before .loop) .a) _ ((c .before .before .before .loop) .r) (omega (arith, (c .before .before .before .loop) .inv .1 .0)) ((c .opcode-of) .ensures) ((c .before .before .before .loop) .inv .1 .1)))
 
 returns : tie.Need-returns Inv-loop μ-loop
 returns c = λ k h. (c .before .loop) .inv .1 .1 k (omega arith)
 
-pub kinds-spec : {M : Type 1} → statement M
-kinds-spec =
+pub opcodes-spec : {M : Type 1} → statement M
+opcodes-spec =
     tie.close
     (tie.spec
     Inv-loop
@@ -55,7 +55,7 @@ kinds-spec =
     loop-holds
     mul-s
     array-copy-out-s
-    kind-of-requires
+    opcode-of-requires
     mul-r
     array-set-from-r
     add-a

@@ -1,8 +1,8 @@
-use Rattle.decoding.specs.Decoding.{kindOf}
+use Rattle.decoding.specs.Decoding.{opcodeOf}
 use mathlib.Core.Path.{refl}
 use borrow.Author.Needs.{needs}
-use Rattle.decoding.proofs.kind_of.Statement.{statement}
-use Rattle.decoding.proofs.kind_of.Tie as tie
+use Rattle.decoding.proofs.opcode_of.Statement.{statement}
+use Rattle.decoding.proofs.opcode_of.Tie as tie
 
 enum-told : tie.Need-enum-told
 enum-told c = search needs
@@ -44,59 +44,59 @@ enum-told-11 : tie.Need-enum-told-11
 enum-told-11 c = search needs
 
 returns : tie.Need-returns
-unfolding kindOf
+unfolding opcodeOf
 returns c = rw ((c .enum-told) .given .1) (refl)
 
 returns-2 : tie.Need-returns-2
-unfolding kindOf
+unfolding opcodeOf
 returns-2 c = rw ((c .enum-told2) .given .1) (refl)
 
 returns-3 : tie.Need-returns-3
-unfolding kindOf
+unfolding opcodeOf
 returns-3 c = rw ((c .before .x) .given .1) (refl)
 
 returns-4 : tie.Need-returns-4
-unfolding kindOf
+unfolding opcodeOf
 returns-4 c = rw ((c .before .x2) .given .1) (refl)
 
 returns-5 : tie.Need-returns-5
-unfolding kindOf
+unfolding opcodeOf
 returns-5 c = rw ((c .enum-told3) .given .1) (refl)
 
 returns-6 : tie.Need-returns-6
-unfolding kindOf
+unfolding opcodeOf
 returns-6 c = rw ((c .enum-told4) .given .1) (refl)
 
 returns-7 : tie.Need-returns-7
-unfolding kindOf
+unfolding opcodeOf
 returns-7 c = rw ((c .enum-told5) .given .1) (refl)
 
 returns-8 : tie.Need-returns-8
-unfolding kindOf
+unfolding opcodeOf
 returns-8 c = rw ((c .enum-told6) .given .1) (refl)
 
 returns-9 : tie.Need-returns-9
-unfolding kindOf
+unfolding opcodeOf
 returns-9 c = rw ((c .enum-told7) .given .1) (refl)
 
 returns-10 : tie.Need-returns-10
-unfolding kindOf
+unfolding opcodeOf
 returns-10 c = rw ((c .enum-told8) .given .1) (refl)
 
 returns-11 : tie.Need-returns-11
-unfolding kindOf
+unfolding opcodeOf
 returns-11 c = rw ((c .enum-told9) .given .1) (refl)
 
 returns-12 : tie.Need-returns-12
-unfolding kindOf
+unfolding opcodeOf
 returns-12 c = rw ((c .enum-told10) .given .1) (refl)
 
 returns-13 : tie.Need-returns-13
-unfolding kindOf
+unfolding opcodeOf
 returns-13 c = rw ((c .enum-told11) .given .1) (refl)
 
-pub kind-of-spec : {M : Type 1} → statement M
-kind-of-spec =
+pub opcode-of-spec : {M : Type 1} → statement M
+opcode-of-spec =
     tie.close
     (tie.spec
     enum-told
