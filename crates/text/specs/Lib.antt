@@ -23,4 +23,5 @@ pub mod NodeLaws
 pub mod TableLaws
 pub mod ShapeLaws
 pub mod RoundTrip
+pub mod ReadShaped
 pub mod TextLength

@@ -54,6 +54,9 @@ read-good s e = cases (ltb 65536 (length s))
 pub read-text : (s : List ℕ) → read s .number ≡ 0 → text (read s .table) ≡ s
 read-text s e = read-write s (read s .table) (read-good s e)
 
+pub read-fault-0 : (s : List ℕ) → read s .number ≡ 0 → fault (read s .table) ≡ 0
+read-fault-0 s e = read-fault s (read s .table) (read-good s e)
+
 -- a table without a fault is tidy, and its text says some table
 pub fault-none : (t : Table) → fault t ≡ 0 → (r : Table) × (readLines (text t) ≡ good r) × (tidy t ≡ true)
 unfolding fault

@@ -446,7 +446,7 @@ table-parsed l s t l′ r e =
 
 -- ---- no line has a late fault
 
-abbrev AllNone : List (Option Fault) → Type 0
+abbrev pub AllNone : List (Option Fault) → Type 0
 AllNone [] = Unit {0}
 AllNone (f ∷ fs) = (f ≡ none) × AllNone fs
 
@@ -463,7 +463,7 @@ unfolding concat
 none-each f zero i h j k u = absurd (omega arith)
 none-each f (suc n) i h j k u = atOrLater (λ j. AllNone (f j)) i j k (none-left (f i) (concat f n (suc i)) h) (λ k. none-each f n (suc i) (none-right (f i) (concat f n (suc i)) h) j k (omega arith))
 
-good-late : (t u : Table) (l : ℕ) (fs : List (Option Fault)) → firstLate t l fs ≡ good u → (t ≡ u) × AllNone fs
+pub good-late : (t u : Table) (l : ℕ) (fs : List (Option Fault)) → firstLate t l fs ≡ good u → (t ≡ u) × AllNone fs
 unfolding firstLate
 good-late t u l [] e = (cc e, tt)
 good-late t u l (none ∷ fs) e = let r = good-late t u (suc l) fs e in (r .0, (refl, r .1))
