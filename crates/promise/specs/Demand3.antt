@@ -10,13 +10,13 @@ use lib.IntN.{ℤ, pos}
 use Rattle.table.specs.Table.{procAt, removed}
 use Rattle.table.specs.declared.Table.{Table}
 use Rattle.table.specs.declared.Node.the-variants.{Assert}
-use Rattle.closing.specs.Dirty.{Dirty, settingAt, dropped, blank}
+use Rattle.closing.specs.Dirty.{Dirty, Unkept, settingAt, dropped, blank}
 use Rattle.closing.specs.Close.{close}
 use Rattle.machine.specs.declared.State.{State}
 use Rattle.machine.specs.State.{openFrames, isLost, frameAt, topmost, semCount, entriesAt, varAt, standsBefore, standstill}
 use Rattle.machine.specs.Step.{failing}
 use Rattle.machine.specs.Run.{Ran, run}
-use Rattle.machine.specs.History.{History, history, lastSetting}
+use Rattle.promise.specs.History.{History, history, lastSetting}
 
 -- ---- what agrees
 
@@ -60,7 +60,9 @@ pub record SameRun (t : Table) (h : History) (n : ℕ) (r r′ : Ran) : Type 0 w
   pub closed-completes : r′ .answer .stop ≡ 0
   pub open-steps : r .answer .steps ≡ n
   pub closed-steps : r′ .answer .steps ≡ n
+  -- "the same kept nodes executed in the same order"
   pub logs : SameLog n (r .log) (r′ .log)
+  pub kept-nodes : (i : ℕ) → i < n → Unkept t (getD (r .log) (8 * i + 1) 0) (getD (r .log) (8 * i + 2) 0) → ⊥
   pub states : SameState t h (r .answer .state) (r′ .answer .state)
 
 -- ---- the claim, for a table t, inputs vs, task numbers ks, counts of dropped nodes allowed and log buffers
@@ -87,12 +89,14 @@ abbrev pub Tosses : List ℤ → Type 0
 Tosses ts = (z : ℤ) → List·Memᴰ z ts → Toss z
 
 -- "For every table that the closer accepts, .. for every list of inputs and every list of task numbers, empty ones too: if the open run completes, .."
+-- One list of tosses, at most one for each step, serves whatever number of dropped nodes the closed run allows and whatever its log buffer held.
 abbrev pub Demand3 : Type 0
 Demand3 =
     (t : Table) → close t .number ≡ 0
-    → (vs : List ℤ) (ks : List ℕ) (most most′ : ℕ) (log log′ : List ℕ) → length log′ ≡ length log
+    → (vs : List ℤ) (ks : List ℕ) (most : ℕ) (log : List ℕ)
     → run t ks vs most log .answer .stop ≡ 0
-    → (ts : List ℤ) × Tosses ts × Partner t vs ks most most′ log log′ ts
+    → (ts : List ℤ) × Tosses ts × (length ts ≤ length ks)
+    × ((most′ : ℕ) (log′ : List ℕ) → length log′ ≡ length log → Partner t vs ks most most′ log log′ ts)
 
 -- ---- its consequences, for such a pair of runs after n steps
 

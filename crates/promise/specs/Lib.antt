@@ -1,3 +1,4 @@
+pub mod History
 pub mod Demand3
 pub mod Sim
 pub mod Proof3

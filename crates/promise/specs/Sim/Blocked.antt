@@ -15,7 +15,7 @@ use Rattle.closing.specs.CloseLaws.{close-cap, kept-node}
 use Rattle.machine.specs.declared.Entries.{Entries}
 use Rattle.machine.specs.declared.State.{State}
 use Rattle.machine.specs.State.{openFrames, frameAt, topmost, semCount, standsBefore, blockedAt, blocked}
-use Rattle.machine.specs.History.{History, lastSetting}
+use Rattle.promise.specs.History.{History, lastSetting}
 use Rattle.promise.specs.Demand3.{SameState}
 use Rattle.promise.specs.Sim.Wf.{Declared, Wf}
 use Rattle.promise.specs.Sim.Locals.{keptAt, clean-is}

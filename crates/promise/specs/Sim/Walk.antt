@@ -15,9 +15,10 @@ use Rattle.closing.specs.Close.{closeTable}
 use Rattle.closing.specs.KeptLaws.{unkept-is}
 use Rattle.closing.specs.ListLaws.{all-map}
 use Rattle.closing.specs.ArcLaws.{leads-below, arc-is}
-use Rattle.machine.specs.Step.{Memory, Did, stops, goes, exec, choose, Kept, Walk, halts, arrives, along, onward, noting, walk}
+use Rattle.machine.specs.Step.{Memory, Did, stops, goes, exec, choose, Walk, halts, arrives, along, onward, noting, walk}
 use Rattle.machine.specs.StepLaws.{choose-one, choose-some}
-use Rattle.machine.specs.History.{lastSetting}
+use Rattle.machine.specs.ClosedRun.{allKept, closed-walk}
+use Rattle.promise.specs.History.{lastSetting}
 use Rattle.promise.specs.Demand3.{Toss, Tosses}
 use Rattle.promise.specs.Sim.Wf.{Wf}
 use Rattle.promise.specs.Sim.Locals.{Last, keptAt, mark, marks, Locals, Shared}
@@ -37,15 +38,6 @@ when-onward : (P : Option ℕ → Memory → List ℤ → List ℕ → Type 0) (
     → ((a : ℕ) (m : Memory) (vs : List ℤ) → Q a m vs → WhenArrives P (along k m (choose a vs))) → WhenArrives P (onward k r)
 when-onward P Q k (stops c) q f = tt
 when-onward P Q k (goes a m vs) q f = f a m vs q
-
--- where every node counts as kept, a walk ends where it begins
-abbrev pub allKept : Kept
-allKept p n = true
-
-closed-walk : (u : Table) (p d m : ℕ) (g : Memory) (ws : List ℤ) → walk u allKept p d m g ws ≡ arrives (some m) g ws []
-unfolding walk
-closed-walk u p zero m g ws = refl
-closed-walk u p (suc d) m g ws = refl
 
 module _ (t : Table) (wf : Wf t) (p : ℕ) where
   -- the new arc lists the kept nodes to which the old one leads
