@@ -1,14 +1,18 @@
--- The promise: demand 3, which has no premise, and both round trips.
+-- The promise: demand 3, which has no premise, both round trips, and the text that the closing program prints.
 use Prim.Native.Nat.{ℕ}
-use mathlib.Core.Path.{_≡_}
+use mathlib.Core.Path.{_≡_, _∙_, ap, ap₂}
+use mathlib.Core.Bool.{false}
 use mathlib.Core.List.{List}
 use Rattle.table.specs.Shape.{Shaped}
 use Rattle.table.specs.declared.Table.{Table}
 use Rattle.text.specs.Reader.{read}
 use Rattle.text.specs.Writer.{text, fault}
-use Rattle.text.specs.RoundTrip.{read-text}
+use Rattle.text.specs.RoundTrip.{read-text, read-fault-0}
+use Rattle.text.specs.ReadShaped.{read-shaped}
 use Rattle.text.specs.TextLength.{write-read-whole}
-use Rattle.closing.specs.Close.{close}
+use Rattle.closing.specs.declared.Closing.{Closing}
+use Rattle.closing.specs.Close.{closeTable, answer, close}
+use Rattle.closing.specs.Program.{afterClosing, afterReading, printed}
 use Rattle.closing.specs.ClosedValid.{closed-fault}
 use Rattle.closing.specs.ClosedShaped.{closed-shaped}
 use Rattle.promise.specs.Demand3.{Demand3, SameStandstill, SameFailure}
@@ -36,6 +40,17 @@ pub closed-reads-back : (t : Table) → Shaped t → close t .number ≡ 0 → r
 closed-reads-back t s ok =
     let a = Proof3.accepted t ok in
     written-read (close t .table) (rw (a .answer-is) (closed-shaped t s (granted t ok .params))) (closed-sound t ok)
+
+-- the way that an engineer goes: for an accepted open text the program `close` prints the text of the closed table, and the reader reads that table back
+pub printed-reads-back : (s : List ℕ) → read s .number ≡ 0 → read s .table .closed ≡ false
+    → (close (read s .table) .number ≡ 0) × (read (printed s) ≡ record { number = 0; line = 0; table = close (read s .table) .table })
+unfolding close printed
+printed-reads-back s good form =
+    let t = read s .table in
+    let is : close t ≡ record { number = 0; line = 0; table = closeTable t } = ap₂ (answer t) (read-fault-0 s good) form in
+    let ok : close t .number ≡ 0 = ap (λ (c : Closing). c .number) is in
+    let out : printed s ≡ text (close t .table) = ap (λ (n : ℕ). afterReading n (read s)) good ∙ ap (λ (n : ℕ). afterClosing n (close t)) ok in
+    (ok, ap read out ∙ closed-reads-back t (read-shaped s good) ok)
 
 -- demand 3, and its two consequences
 pub demand-3 : Demand3
