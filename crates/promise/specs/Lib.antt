@@ -3,5 +3,6 @@ pub mod Demand3
 pub mod Sim
 pub mod Proof3
 pub mod Theorems
+pub mod Instance
 pub mod Calls
 pub mod RoundTripCalls
