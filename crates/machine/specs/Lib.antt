@@ -5,3 +5,4 @@ pub mod Report
 pub mod Program
 pub mod History
 pub mod StepLaws
+pub mod KeptLaws
