@@ -5,4 +5,5 @@ pub mod Report
 pub mod Program
 pub mod Computing
 pub mod StepLaws
+pub mod KeptLaws
 pub mod ClosedRun

@@ -4,7 +4,7 @@ use native.Mathlib.Omega.{arith}
 use native.Mathlib.Nat.{zero-add}
 use mathlib.Core.Path.{_≡_, refl, sym, _∙_, ap, ap₂, subst}
 use mathlib.Core.Logic.{_≢_}
-use mathlib.Core.Bool.{Bool, true, false, not, _&&_}
+use mathlib.Core.Bool.{Bool, false, not, _&&_}
 use mathlib.Core.Option.{Option, none, some}
 use mathlib.Core.List.{List, [], List·Memᴰ·head}
 use lib.ListN.{length, take, getD}
@@ -21,7 +21,8 @@ use Rattle.text.specs.Reader.{allBelow}
 use Rattle.closing.specs.ReachLaws.{cases}
 use Rattle.closing.specs.Dirty.{useAt, Dirty}
 use Rattle.closing.specs.Closing.{dirty}
-use Rattle.closing.specs.Close.{useOr, closedNode, closedWith, closeTable, answer, close}
+use Rattle.closing.specs.Close.{useOr, closedNode, closedWith, closeTable, close}
+use Rattle.closing.specs.CloseLaws.{Accepted, accepted}
 use Rattle.machine.specs.declared.State.{State}
 use Rattle.machine.specs.declared.Running.{Running}
 use Rattle.machine.specs.State.{openFrames, topmost, varAt, standsBefore, standstill, Begun, spent, begun, begin}
@@ -38,22 +39,6 @@ use Rattle.promise.specs.Sim.Blocked.{same-state, stands-closed, same-bl
 use Rattle.promise.specs.Sim.Log.{same-log, kept-log}
 use Rattle.promise.specs.Sim.Begin.{WhenBegun, BothBegin, begin-sim}
 use Rattle.promise.specs.Sim.Run.{stop-number, Strong, run-sim}
-
--- ---- a table that the closer accepts: it has no fault and is open, and the answer holds its closing
-
-pub record Accepted (t : Table) : Type 0 where
-  pub sound : fault t ≡ 0
-  pub open-form : t .closed ≡ false
-  pub answer-is : close t .table ≡ closeTable t
-
-pub accepted : (t : Table) → close t .number ≡ 0 → Accepted t
-unfolding close
-accepted t e = go (fault t) (t .closed) refl refl e
-  where
-    go : (n : ℕ) (c : Bool) → fault t ≡ n → t .closed ≡ c → answer t n c .number ≡ 0 → Accepted t
-    go zero false i j e = record { sound = i; open-form = j; answer-is = ap₂ (λ (n : ℕ) (c : Bool). answer t n c .table) i j }
-    go zero true i j e = absurd (omega arith)
-    go (suc n) c i j e = absurd (omega arith)
 
 -- ---- the two runs, from their first states on
 

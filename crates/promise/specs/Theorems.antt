@@ -13,6 +13,7 @@ use Rattle.text.specs.TextLength.{write-read-whole}
 use Rattle.closing.specs.declared.Closing.{Closing}
 use Rattle.closing.specs.Close.{closeTable, answer, close}
 use Rattle.closing.specs.Program.{afterClosing, afterReading, printed}
+use Rattle.closing.specs.CloseLaws.{accepted}
 use Rattle.closing.specs.ClosedValid.{closed-fault}
 use Rattle.closing.specs.ClosedShaped.{closed-shaped}
 use Rattle.promise.specs.Demand3.{Demand3, SameStandstill, SameFailure}
@@ -21,11 +22,11 @@ use Rattle.promise.specs.Sim.Grants.{wf}
 use Rattle.promise.specs.Proof3
 
 granted : (t : Table) → close t .number ≡ 0 → Wf t
-granted t ok = let a = Proof3.accepted t ok in wf t (a .sound) (a .open-form)
+granted t ok = let a = accepted t ok in wf t (a .sound) (a .open-form)
 
 -- its closed table has no fault
 pub closed-sound : (t : Table) → close t .number ≡ 0 → fault (close t .table) ≡ 0
-closed-sound t ok = let a = Proof3.accepted t ok in rw (a .answer-is) (closed-fault t (a .sound) (a .open-form))
+closed-sound t ok = let a = accepted t ok in rw (a .answer-is) (closed-fault t (a .sound) (a .open-form))
 
 -- "a table written and read is the same table": t is a value of the declared type, which has so many places and bits
 pub written-read : (t : Table) → Shaped t → fault t ≡ 0 → read (text t) ≡ record { number = 0; line = 0; table = t }
@@ -38,7 +39,7 @@ read-written = read-text
 -- so the closed table's text reads back
 pub closed-reads-back : (t : Table) → Shaped t → close t .number ≡ 0 → read (text (close t .table)) ≡ record { number = 0; line = 0; table = close t .table }
 closed-reads-back t s ok =
-    let a = Proof3.accepted t ok in
+    let a = accepted t ok in
     written-read (close t .table) (rw (a .answer-is) (closed-shaped t s (granted t ok .params))) (closed-sound t ok)
 
 -- the way that an engineer goes: for an accepted open text the program `close` prints the text of the closed table, and the reader reads that table back

@@ -12,7 +12,7 @@ use Rattle.table.specs.declared.Table.{Table}
 use Rattle.closing.specs.ReachLaws.{cases}
 use Rattle.closing.specs.Dirty.{Leads, target, through}
 use Rattle.closing.specs.Close.{closeTable}
-use Rattle.closing.specs.KeptLaws.{unkept-is}
+use Rattle.closing.specs.KeptLaws.{unkept-is, kept-is}
 use Rattle.closing.specs.ListLaws.{all-map}
 use Rattle.closing.specs.ArcLaws.{leads-below, arc-is}
 use Rattle.machine.specs.Step.{Memory, Did, stops, goes, exec, choose, Walk, halts, arrives, along, onward, noting, walk}
@@ -42,7 +42,7 @@ when-onward P Q k (goes a m vs) q f = f a m vs q
 module _ (t : Table) (wf : Wf t) (p : ℕ) where
   -- the new arc lists the kept nodes to which the old one leads
   new-in : (a k : ℕ) → Leads t p (members a) k → keptAt t p k ≡ true → List·Memᴰ k (members (arcOf t p a))
-  new-in a k l e = members-is k (arcOf t p a) .1 (arc-is t p a k .1 (l, e), leads-below t p a k l)
+  new-in a k l e = members-is k (arcOf t p a) .1 (arc-is t p a k .1 (l, kept-is t p k .0 e), leads-below t p a k l)
 
   module _ (a : ℕ) (g : Memory) where
     -- the open run has met a kept node, to which arc a leads
