@@ -14,6 +14,7 @@ pub mod Structure
 pub mod Right
 pub mod RightLaws
 pub mod Valid
+pub mod ArgsLaws
 pub mod LinedLaws
 pub mod EndsLaws
 pub mod StructureLaws

@@ -119,7 +119,7 @@ args-forth x z l = go (x .len) (x .a0) (x .a1) (x .a2) (x .a3) z l
         let e : suc (suc (suc (suc (suc n)))) - 4 ≡ suc n = omega arith in
         absurd (big (rw e at l))
       where
-        big : min (suc (suc (suc (suc (length (map nameOf (take (suc n) (replicate (suc n) 0)))))))) 5 ≤ 4 → ⊥
+        big : min (suc (suc (suc (suc (length (map nameOf (take (suc n) (replicate (suc n) d)))))))) 5 ≤ 4 → ⊥
         big l = omega arith
 
 -- ---- a node and the values of its line
