@@ -22,6 +22,7 @@ pub mod ValidLaws
 pub mod RowLaws
 pub mod NodeLaws
 pub mod TableLaws
+pub mod MadeLaws
 pub mod ShapeLaws
 pub mod RoundTrip
 pub mod TextLength

@@ -185,7 +185,7 @@ valid-proc t p v =
 
 -- ---- tables
 
-lines-is : (t : Table)
+pub lines-is : (t : Table)
     → (linesFault t ≡ none) ↔ ((headFault t ≡ none) × (countsFault t ≡ none) × (tasksFault t ≡ none) × (semsFault t ≡ none) × (queuesFault t ≡ none) × (procsFault t ≡ none))
 unfolding linesFault
 lines-is t =
