@@ -164,10 +164,10 @@ module _ (t : Table) (z : fault t ≡ 0) (o : t .closed ≡ false) where
         λ i l. arg-at t (dirty t) q xs i (omega (arith, v .lines .proc q (h .1) .params)) ∙ rw (lt-ltb i (xs .len) l)
         in
         record {
-          valid = (h .0, h .1, λ i l. rw (arg i l) (mark-at (dropped q i) (argAt xs i) (h .2 i l)), arc-valid p to (h .3));
+          valid = (h .0, h .1, λ i l u. rw (arg i l) (mark-at (dropped q i) (argAt xs i) (h .2 i l u)), arc-valid p to (h .3));
           counts = rw (close-params t q) k;
           leads = one p to (h .3);
-          removals = all-below (xs .len) _ (λ i l. rw (arg i l, close-drop t q i (omega arith)) (mark-right (isDirty (dirty t) (dropped q i)) (argAt xs i) (low (argAt xs i) (h .2 i l))));
+          removals = all-below (xs .len) _ (λ i l. rw (arg i l, close-drop t q i (omega arith)) (mark-right (isDirty (dirty t) (dropped q i)) (argAt xs i) (low (argAt xs i) (h .2 i l (omega (arith, v .lines .proc q (h .1) .params))))));
           behind = rw (args-behind t (dirty t) q (xs .len) (xs .a0) (xs .a1) (xs .a2) (xs .a3)) e;
         }
 
