@@ -6,7 +6,7 @@ use mathlib.Core.Logic.{_↔_}
 use Rattle.table.specs.declared.Table.{Table}
 use Rattle.closing.specs.Dirty.{Unkept}
 use Rattle.closing.specs.KeptLaws.{unkept-is, kept-is}
-use Rattle.machine.specs.Step.{keptOf, keptIn}
+use Rattle.machine.specs.Step.{Kept, keptOf, keptIn}
 
 -- in an open table a node counts as dropped if and only if it is not kept under Closing,
 pub dropped-open : (t : Table) (p n : ℕ) → t .closed ≡ false → (keptIn t p n ≡ false) ↔ Unkept t p n
@@ -17,5 +17,8 @@ pub kept-open : (t : Table) (p n : ℕ) → t .closed ≡ false → (keptIn t p 
 kept-open t p n o = rw (ap (λ (c : Bool). keptOf t c p n) o) (kept-is t p n)
 
 -- in a closed table every node counts as kept
-pub kept-closed : (t : Table) (p n : ℕ) → t .closed ≡ true → keptIn t p n ≡ true
-kept-closed t p n c = ap (λ (b : Bool). keptOf t b p n) c
+abbrev pub allKept : Kept
+allKept p n = true
+
+pub kept-closed : (t : Table) → t .closed ≡ true → keptIn t ≡ allKept
+kept-closed t c = ap (keptOf t) c

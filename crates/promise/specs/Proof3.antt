@@ -4,7 +4,7 @@ use native.Mathlib.Omega.{arith}
 use native.Mathlib.Nat.{zero-add}
 use mathlib.Core.Path.{_≡_, refl, sym, _∙_, ap, ap₂, subst}
 use mathlib.Core.Logic.{_≢_}
-use mathlib.Core.Bool.{Bool, false, not, _&&_}
+use mathlib.Core.Bool.{Bool, true, false, not, _&&_}
 use mathlib.Core.Option.{Option, none, some}
 use mathlib.Core.List.{List, [], List·Memᴰ·head}
 use lib.ListN.{length, take, getD}
@@ -27,7 +27,8 @@ use Rattle.machine.specs.declared.State.{State}
 use Rattle.machine.specs.declared.Running.{Running}
 use Rattle.machine.specs.State.{openFrames, topmost, varAt, standsBefore, standstill, Begun, spent, begun, begin}
 use Rattle.machine.specs.Step.{valuesSpent, Kept, keptOf, keptIn, fails, failing}
-use Rattle.machine.specs.ClosedRun.{allKept, closed-kept, AlikeRuns, closed-alike, few-tosses}
+use Rattle.machine.specs.KeptLaws.{allKept, kept-closed}
+use Rattle.machine.specs.ClosedRun.{AlikeRuns, closed-alike, few-tosses}
 use Rattle.machine.specs.Run.{Ran, runFrom, runBegun, runChecked, run}
 use Rattle.promise.specs.History.{History, lastSetting, historyFrom, historyBegun, history}
 use Rattle.promise.specs.Demand3.{CleanSetting, SameLog, SameState, Partner, openRun, closedRun, Tosses, Demand3, SameStandstill, SameFailure}
@@ -88,7 +89,7 @@ module _ (wf : (t : Table) → close t .number ≡ 0 → Wf t) (sound : (t : Tab
     shut-is : (js : List ℕ) (ts : List ℤ) (s : State) → begin (closeTable t) ts ≡ begun s ts → run (close t .table) js ts most′ log′ ≡ runFrom (closeTable t) allKept most′ ts js 0 s ts log′
     shut-is js ts s i = ap (λ (u : Table). run u js ts most′ log′) (acc .answer-is)
         ∙ run-is (closeTable t) js ts most′ log′ (begun s ts) (sym (ap fault (acc .answer-is)) ∙ sound t ok) i
-        ∙ ap (λ (keep : Kept). runFrom (closeTable t) keep most′ ts js 0 s ts log′) (closed-kept (closeTable t) (is-closed t))
+        ∙ ap (λ (keep : Kept). runFrom (closeTable t) keep most′ ts js 0 s ts log′) (kept-closed (closeTable t) (is-closed t))
 
     follow : run t ks vs most log .answer .stop ≡ 0 → (ts : List ℤ) × Followed ts
     follow c = go (begin t vs) refl (begin-sim t t-wf (acc .open-form) vs)

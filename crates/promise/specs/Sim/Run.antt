@@ -15,7 +15,7 @@ use Rattle.closing.specs.ListLaws.{all-nil, all-append}
 use Rattle.closing.specs.Close.{closedWith, closeTable}
 use Rattle.machine.specs.declared.State.{State}
 use Rattle.machine.specs.Step.{Stop, noSuchTask, logFull, taskLost, taskBlocked, tooMany, valuesSpent, badToss, stopNumber, Kept, Entry, Step, stopped, stepped, step}
-use Rattle.machine.specs.ClosedRun.{allKept}
+use Rattle.machine.specs.KeptLaws.{allKept}
 use Rattle.machine.specs.Run.{entryBytes, Ran, turn, afterStep, runFrom}
 use Rattle.promise.specs.History.{History, afterEntry, afterTurn, historyFrom}
 use Rattle.promise.specs.Demand3.{Toss, Tosses}

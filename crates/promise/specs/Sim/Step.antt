@@ -23,7 +23,7 @@ use Rattle.machine.specs.declared.Frame.{Frame}
 use Rattle.machine.specs.declared.State.{State}
 use Rattle.machine.specs.State.{openFrames, isLost, frameAt, topmost, standsBefore, blockedAt, blocked}
 use Rattle.machine.specs.Step.{Memory, Did, exec, choose, Walk, halts, arrives, along, onward, walk, calls, returns, stays, flow, Entry, Step, stopped, stepped, taskBlocked, landed, settled, entering, called, returned, memory, flowed, entryOf, stepOf, before, unless, step}
-use Rattle.machine.specs.ClosedRun.{allKept}
+use Rattle.machine.specs.KeptLaws.{allKept}
 use Rattle.promise.specs.History.{History, executed, entered, afterFlow, afterEntry, lastSetting}
 use Rattle.promise.specs.Demand3.{Toss, Tosses}
 use Rattle.promise.specs.Sim.Wf.{Wf}
