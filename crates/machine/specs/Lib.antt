@@ -6,4 +6,5 @@ pub mod Program
 pub mod Computing
 pub mod StepLaws
 pub mod KeptLaws
+pub mod StopLaws
 pub mod ClosedRun
