@@ -160,7 +160,7 @@ fn some_removed(xs: Args) -> bool
     either(a, either(b, either(c, d)))
 }
 
-// Arguments past the fourth repeat it.
+// Arguments past the fourth repeat the fourth.
 fn all_declared(vars: u8, xs: Args) -> bool
     ensures { λ r. ⌜ r ≡ allDeclared vars (argNames xs) ⌝ }
 {

@@ -1,4 +1,4 @@
--- Document 01, "Closing": the closed table of an open one, and what the closer answers, by the rules of Dirty alone. Nothing here is computed.
+-- Document 01, "Closing": the closed table of an open one, and what the closer answers, by the rules of Dirty alone. Of the closed table nothing is computed.
 use Prim.Native.Nat.{ℕ, _<_}
 use mathlib.Core.Path.{_≡_}
 use mathlib.Core.Bool.{true, false}
@@ -17,7 +17,7 @@ use Rattle.closing.specs.declared.Closing.{Closing}
 use Rattle.closing.specs.Dirty.{useAt, dropped, blank, Dirty, Unkept, Leads}
 
 -- "From each arc of a kept node, the new arc lists exactly the kept nodes reached through nodes that are not kept": arc m of procedure p becomes m′.
--- "One target: a plain arc. Two or more: a toss, value i choosing the i-th from 0. None: `none`": an arc is the set of its targets, and their number says which it is.
+-- "One target: a plain arc. Two or more: a toss, value i choosing the i-th from 0 .. None: `none`": an arc is the set of its targets, and their number says which it is.
 abbrev pub NewArc : Table → ℕ → ℕ → ℕ → Type 0
 NewArc t p m m′ = (k : ℕ) → (bit k m′ ≡ true) ↔ (Leads t p (members m) k × (Unkept t p k → ⊥))
 

@@ -61,8 +61,8 @@ closed-calls t c e ok vs ks most log r left m stop =
       λ most′ log′ long. let p = d .3 most′ log′ long in rw e (record {
         completes = λ x l u. (rw (ran-is u) at (p .completes), rw (ran-is u) at (p .used-up));
         agree = λ n h x y l l′ u w. rw (ran-is u, ran-is w) at (p .agree n h);
-        at-standstill = λ n h x y l l′ u w. rw (ran-is u, ran-is w) at (same-standstill t ok′ vs ks most most′ log log′ long stop′ (d .0) p n h);
+        at-standstill = λ n h x y l l′ u w. rw (ran-is u, ran-is w) at (same-standstill t ok′ vs ks most most′ log log′ (d .0) p n h);
         at-failure = λ n h x y l l′ u w k v to i b g.
-            rw (ran-is u, ran-is w) at (same-failure t ok′ vs ks most most′ log log′ long stop′ (d .0) p n k v to h i (rw (ran-is w) b) g);
+            rw (ran-is u, ran-is w) at (same-failure t ok′ vs ks most most′ log log′ (d .0) p n k v to h i (rw (ran-is w) b) g);
       }),
     )

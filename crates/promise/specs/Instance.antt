@@ -13,7 +13,7 @@ use Rattle.closing.specs.Close.{close}
 use Rattle.closing.specs.Examples.{Example, closes, gives, joined, p1}
 use Rattle.machine.specs.Computing.{computing}
 use Rattle.machine.specs.Run.{run}
-use Rattle.promise.specs.Demand3.{Tosses, Partner}
+use Rattle.promise.specs.Demand3.{Partner, HasPartner}
 use Rattle.promise.specs.Theorems.{demand-3}
 
 abbrev lines : Example → List String
@@ -42,7 +42,7 @@ unfolding computing
 completes = refl
 
 -- so it has a partner
-pub partner : (ts : List ℤ) × Tosses ts × (length ts ≤ length ks) × ((most′ : ℕ) (log′ : List ℕ) → length log′ ≡ length log → Partner t inputs ks 5 most′ log log′ ts)
+pub partner : HasPartner t inputs ks 5 log
 partner = demand-3 t accepted inputs ks 5 log completes
 
 -- the third node executed

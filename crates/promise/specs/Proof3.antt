@@ -28,10 +28,11 @@ use Rattle.machine.specs.declared.Running.{Running}
 use Rattle.machine.specs.State.{openFrames, topmost, varAt, standsBefore, standstill, Begun, spent, begun, begin}
 use Rattle.machine.specs.Step.{valuesSpent, Kept, keptOf, keptIn, fails, failing}
 use Rattle.machine.specs.KeptLaws.{allKept, kept-closed}
+use Rattle.machine.specs.StopLaws.{stopped-covered}
 use Rattle.machine.specs.ClosedRun.{AlikeRuns, closed-alike, few-tosses}
 use Rattle.machine.specs.Run.{Ran, runFrom, runBegun, runChecked, run}
 use Rattle.promise.specs.History.{History, lastSetting, historyFrom, historyBegun, history}
-use Rattle.promise.specs.Demand3.{CleanSetting, SameLog, SameState, Partner, openRun, closedRun, Tosses, Demand3, SameStandstill, SameFailure}
+use Rattle.promise.specs.Demand3.{CleanSetting, SameLog, SameState, Partner, openRun, closedRun, Tosses, Demand3, Demand3Stopped, SameStandstill, SameFailure}
 use Rattle.promise.specs.Sim.Wf.{Wf}
 use Rattle.promise.specs.Sim.Locals.{settingOf, D, keptAt, not-dirty}
 use Rattle.promise.specs.Sim.Exec.{closing}
@@ -68,10 +69,10 @@ module _ (wf : (t : Table) → close t .number ≡ 0 → Wf t) (sound : (t : Tab
     acc = accepted t ok
 
     abbrev opened : ℕ → Ran
-    opened n = openRun t vs ks most most′ log log′ n
+    opened n = openRun t vs ks most log n
 
     abbrev shut : List ℤ → ℕ → Ran
-    shut ts n = closedRun t vs ks most most′ log log′ ts n
+    shut ts n = closedRun t ts ks most′ log′ n
 
     -- all that the proof knows of the runs
     record Followed (ts : List ℤ) : Type 0 where
@@ -160,6 +161,11 @@ module _ (wf : (t : Table) → close t .number ≡ 0 → Wf t) (sound : (t : Tab
       let r = follow t ok vs ks most 0 log log refl c in
       (r .0, r .1 .small, few t ok vs ks most log (r .0) (r .1), λ most′ log′ size. partner t ok vs ks most log (r .0) (r .1) most′ log′ size)
 
+  pub demand-3-stopped : Demand3Stopped
+  demand-3-stopped t ok vs ks most log c =
+      let e = stopped-covered t ks vs most log c in
+      (e, demand-3 t ok vs _ most log (ap (λ (r : Ran). r .answer .stop) e))
+
   -- ---- its consequences: of the open run the proof knows more than a partner says
 
   all-below : (n : ℕ) (f g : ℕ → Bool) → ((k : ℕ) → k < n → f k ≡ g k) → allBelow n f ≡ allBelow n g
@@ -219,14 +225,22 @@ module _ (wf : (t : Table) → close t .number ≡ 0 → Wf t) (sound : (t : Tab
           let z = stands-closed t h s s′ w q k k< (r .task k k< .some-open) (r .task k k< .keeps) in
           fail-at (standsBefore t s k) refl v to (sym z ∙ i) c ∙ ap (fails (topmost s′ k .vars)) (sym z)
 
+  -- what the proof knows of the open run beside a partner
+  module _ (t : Table) (ok : close t .number ≡ 0) (vs : List ℤ) (ks : List ℕ) (most most′ : ℕ) (log log′ : List ℕ) (ts : List ℤ) (f : Partner t vs ks most most′ log log′ ts) where
+    open-is-complete : run t ks vs most log .answer .stop ≡ 0
+    open-is-complete = ap (λ (js : List ℕ). run t js vs most log .answer .stop) (sym (take-all (length ks) ks (omega arith))) ∙ f .agree (length ks) (omega arith) .open-completes
+
+    known : (n : ℕ) → n ≤ length ks → (s″ : State) × Same t (history t (take n ks) vs most log) (openRun t vs ks most log n .answer .state) s″
+    known n l = (_, follow t ok vs ks most 0 log log refl open-is-complete .1 .each n l .states)
+
   pub same-standstill : SameStandstill
-  same-standstill t ok vs ks most most′ log log′ size c ts f n l =
-      let g = follow t ok vs ks most most′ log log′ size c .1 .each n l in
+  same-standstill t ok vs ks most most′ log log′ ts f n l =
+      let g = known t ok vs ks most most′ log log′ ts f n l in
       let a = accepted t ok .answer-is in
-      rw a (stand-still t (wf t ok) _ _ _ _ (rw a at (f .agree n l .states)) (g .states))
+      rw a (stand-still t (wf t ok) _ _ _ (g .0) (rw a at (f .agree n l .states)) (g .1))
 
   pub same-failure : SameFailure
-  same-failure t ok vs ks most most′ log log′ size c ts f n k v to l k< i j =
-      let g = follow t ok vs ks most most′ log log′ size c .1 .each n l in
+  same-failure t ok vs ks most most′ log log′ ts f n k v to l k< i j =
+      let g = known t ok vs ks most most′ log log′ ts f n l in
       let a = accepted t ok .answer-is in
-      rw a (fail-alike t (wf t ok) _ _ _ _ (rw a at (f .agree n l .states)) (g .states) k k< v to (rw a at i) j)
+      rw a (fail-alike t (wf t ok) _ _ _ (g .0) (rw a at (f .agree n l .states)) (g .1) k k< v to (rw a at i) j)

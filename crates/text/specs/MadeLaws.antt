@@ -1,17 +1,18 @@
--- The table that the reader makes of a text's lines has, as a hand-made one, the fault that the reader gives to the text.
-use Prim.Native.Nat.{ℕ, _<_}
+-- The table that the reader makes of a text's lines has, as a hand-made one, the fault that the reader gives to those lines.
+use Prim.Native.Nat.{ℕ, _≤_, _<_}
 use mathlib.Core.Path.{_≡_, refl, sym, _∙_}
 use mathlib.Core.List.{List}
 use mathlib.Core.Option.{none}
 use mathlib.Core.Bool.{true}
 use native.Mathlib.Omega.{arith}
-use borrow.Author.Tests.{lt-ltb}
+use borrow.Author.Tests.{lt-ltb, le-ltb}
+use lib.ListN.{length}
 use Rattle.table.specs.Table.{procAt, nodeIn}
 use Rattle.table.specs.declared.Proc.{Proc}
 use Rattle.table.specs.declared.Table.{Table}
 use Rattle.text.specs.Line.{Line, end, field, Vals, took, lineFault}
 use Rattle.text.specs.Format.{headLine, countsLine, taskLine, semLine, queueLine, procLine, Scope, nodeLine, Described, noLine, described, describe}
-use Rattle.text.specs.Reader.{table, late, Result, good, bad, resultOf, readLines, reading}
+use Rattle.text.specs.Reader.{table, late, Result, good, bad, resultOf, readLines, reading, read}
 use Rattle.text.specs.Writer.{scope, tidy, faultIn, fault}
 use Rattle.text.specs.Structure.{placeFault, procFault, linesFault, tableFault}
 use Rattle.text.specs.RightLaws.{else-is}
@@ -60,3 +61,8 @@ unfolding readLines tableFault
 made-fault s t l r e =
     let p = table-parsed 1 s t l r e in
     fault-is t ∙ rw (lines-none t (p .lines)) (sym (late-fault t t 1 (late t))) ∙ fault-in t (resultOf (took t l r)) (p .neat) ∙ rw e
+
+-- so it has that of the text, which is not too long
+pub read-made : (s : List ℕ) (t : Table) (l : ℕ) (r : List ℕ) → length s ≤ 65536 → table 1 s ≡ took t l r → fault t ≡ read s .number
+unfolding read
+read-made s t l r h e = rw (le-ltb 65536 (length s) h, read) (made-fault s t l r e)
