@@ -109,20 +109,15 @@ drop-moves {r} {l} {l′} {w} k m hk e = rw e (record {
   keeps = λ a b ha hb h. (h, grown-other l (256 + k) m (a * 32 + b) (λ q. omega arith), λ y. grown-other l (256 + k) m 264 (λ q. omega arith));
 })
 
--- the nodes r are to be seen, too
-pub record Woken (r w w′ : List ℕ) : Type 0 where
-  pub size : length w′ ≡ 8
-  pub each : Filled (λ a. bitOr (cell w a) (cell r a)) 8 w′
-
-pub blank-moves : {r l l′ w w′ : List ℕ} {yes′ : Bool} (m : ℕ) → Masks 8 32 r → length w ≡ 8 → l′ ≡ grown l 264 m → Flag l l′ yes′ → yes′ ≡ true → Woken r w w′ → Moves r l w l′ w′
-blank-moves {r} {l} {l′} {w} {w′} m g s e f y z = record {
+pub blank-moves : {r l l′ w w′ : List ℕ} {yes′ : Bool} (m : ℕ) → Masks 8 32 r → length w ≡ 8 → l′ ≡ grown l 264 m → Flag l l′ yes′ → yes′ ≡ true → length w′ ≡ 8 → Filled (λ a. bitOr (cell w a) (cell r a)) 8 w′ → Moves r l w l′ w′
+blank-moves {r} {l} {l′} {w} {w′} m g s e f y i z = record {
   has = λ a j h. rw e (grown-has l 264 m a j h);
   size = f .grows .same-size;
-  size-todo = z .size ∙ sym s;
-  small = λ h. filled-masks (λ a. bitOr (cell w a) (cell r a)) 8 32 w′ (z .size) (z .each) (λ a i. or-lt 32 (cell w a) (cell r a) (h .below a) (g .below a));
+  size-todo = i ∙ sym s;
+  small = λ h. filled-masks (λ a. bitOr (cell w a) (cell r a)) 8 32 w′ i z (λ a j. or-lt 32 (cell w a) (cell r a) (h .below a) (g .below a));
   up = f .grows .up;
   stays = λ q. absurd (omega (arith, q, f .more y));
-  keeps = λ a b ha hb h. let k : bit b (bitOr (cell w a) (cell r a)) ≡ false = rw (z .each a ha) at h in
+  keeps = λ a b ha hb h. let k : bit b (bitOr (cell w a) (cell r a)) ≡ false = rw (z a ha) at h in
       (cases (bit b (cell w a)) (λ q. absurd (true≢false (sym (bit-or-l b (cell w a) (cell r a) q) ∙ k))) (λ q. q), rw e (grown-other l 264 m (a * 32 + b) (λ q. omega arith)), λ q. absurd (true≢false (sym (bit-or-r b (cell w a) (cell r a) q) ∙ k)));
 }
 

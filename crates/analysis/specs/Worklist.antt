@@ -51,8 +51,8 @@ abbrev pub nextTo : List ℕ → ℕ → ℕ → ℕ → Next
 nextTo l p to m = record { on = isNew l (p * 32 + to) m; to = to }
 
 -- node n of procedure p is taken out
-abbrev pub taken : List ℕ → ℕ → ℕ → List ℕ
-taken w p n = set w p (without (cell w p) n)
+abbrev pub todoTaken : List ℕ → ℕ → ℕ → List ℕ
+todoTaken w p n = set w p (without (cell w p) n)
 
 -- ---- the nodes of procedure p, which is q
 
@@ -68,7 +68,7 @@ nextAt q p n l = nextTo l p (flowAt q p n l .first) (flowAt q p n l .out)
 pub data Seen (r : List ℕ) (q : Proc) (p : ℕ) : Bool → ℕ → List ℕ → List ℕ → List ℕ → List ℕ → Type 0 where
   none : {n : ℕ} {l w : List ℕ} → cell w p ≡ 0 → Seen r q p false n l w l w
   lowest : {n : ℕ} {l w l′ w′ : List ℕ} → cell w p ≢ 0 → Seen r q p true (low (cell w p)) l w l′ w′ → Seen r q p false n l w l′ w′
-  along : {n : ℕ} {l w l′ w′ : List ℕ} → Seen r q p (nextAt q p n l .on) (nextAt q p n l .to) (stepWith (flowAt q p n l) p l) (todoStepped r (flowAt q p n l) p l (taken w p n)) l′ w′
+  along : {n : ℕ} {l w l′ w′ : List ℕ} → Seen r q p (nextAt q p n l .on) (nextAt q p n l .to) (stepWith (flowAt q p n l) p l) (todoStepped r (flowAt q p n l) p l (todoTaken w p n)) l′ w′
       → Seen r q p true n l w l′ w′
 
 -- ---- the first procedure with a node that is to be seen, from p on among k, or the place after them

@@ -27,8 +27,8 @@ use Rattle.analysis.specs.declared.Next.{Next}
 use Rattle.analysis.specs.NodeLaws.{Places, flow-places}
 use Rattle.analysis.specs.Steps.{entered, passedOn, stepWith}
 use Rattle.analysis.specs.Todo.{Leads, Took, took, leads-yes}
-use Rattle.analysis.specs.Worklist.{isNew, todoReached, woken, todoBlank, todoPassed, todoStepped, nextTo, taken, flowAt, nextAt, Seen, none, lowest, along, firstFrom, pendingOf}
-use Rattle.analysis.specs.Work.{Sized, Moves, moves-refl, moves-trans, sized-after, reach-new, leads-on, drop-moves, Woken, blank-moves, stepped, leftOf, next-less, Along, along-next, Pending}
+use Rattle.analysis.specs.Worklist.{isNew, todoReached, woken, todoBlank, todoPassed, todoStepped, nextTo, todoTaken, flowAt, nextAt, Seen, none, lowest, along, firstFrom, pendingOf}
+use Rattle.analysis.specs.Work.{Sized, Moves, moves-refl, moves-trans, sized-after, reach-new, leads-on, drop-moves, blank-moves, stepped, leftOf, next-less, Along, along-next, Pending}
 
 -- ---- something comes to a node
 
@@ -83,9 +83,6 @@ woken-cell (x ∷ w) [] (suc a) h = sym (or-zero-r (cell w a))
 woken-cell (x ∷ w) (y ∷ r) zero h = refl
 woken-cell (x ∷ w) (y ∷ r) (suc a) h = woken-cell w r a (omega arith)
 
-is-woken : (w r : List ℕ) → length w ≡ 8 → Woken r w (woken w r)
-is-woken w r s = record { size = woken-size w r ∙ s; each = λ a h. woken-cell w r a (omega arith) }
-
 pub record Waking (r w₀ w : List ℕ) (i : ℕ) : Type 0 where
   pub low : i ≤ 8
   pub size : length w ≡ 8
@@ -123,7 +120,7 @@ module _ (r l w : List ℕ) (m : ℕ) where
   blanked-moves s g = go (isNew l 264 m) (grown-flag l 264 m (omega (arith, s .0)))
     where
       go : (y : Bool) → Flag l (grown l 264 m) y → Moves r l w (grown l 264 m) (pick y (woken w r) w)
-      go true f = blank-moves m g (s .1) refl f refl (is-woken w r (s .1))
+      go true f = blank-moves m g (s .1) refl f refl (woken-size w r ∙ s .1) (λ a h. woken-cell w r a (omega (arith, s .1)))
       go false f = rw (f .same refl) (moves-refl r l w)
 
   pub todo-drop : {w′ : List ℕ} (a : ℕ) → a < 264 → w′ ≡ todoReached l w (a - 256) 0 m → w′ ≡ todoPassed r l w a m
@@ -214,10 +211,10 @@ module _ {s : Pass} (l : List ℕ) (x : Node) (p n i b : ℕ) (e : s ≡ passOf 
 
 -- ---- the nodes of one procedure
 
-pub taken-size : {w1 : List ℕ} (w : List ℕ) (p n : ℕ) → w1 ≡ taken w p n → length w ≡ 8 → length w1 ≡ 8
+pub taken-size : {w1 : List ℕ} (w : List ℕ) (p n : ℕ) → w1 ≡ todoTaken w p n → length w ≡ 8 → length w1 ≡ 8
 taken-size w p n e s = ap length e ∙ length-set w p _ ∙ s
 
-module _ {q : Proc} {p : ℕ} {r l₀ w₀ l w w1 l′ w′ : List ℕ} {on : Bool} (n : ℕ) (hp : p < 8) (gr : Masks 8 32 r) (g : Along r q p l₀ w₀ l w n on) (h : on ≡ true) (t : w1 ≡ taken w p n)
+module _ {q : Proc} {p : ℕ} {r l₀ w₀ l w w1 l′ w′ : List ℕ} {on : Bool} (n : ℕ) (hp : p < 8) (gr : Masks 8 32 r) (g : Along r q p l₀ w₀ l w n on) (h : on ≡ true) (t : w1 ≡ todoTaken w p n)
     (e : l′ ≡ stepped (nodeIn q n) p n l) (z : w′ ≡ todoStepped r (flowAt q p n l) p l w1) where
   seen-took : Took w p n w1
   seen-took = took p n hp (g .going .todo) (leads-yes h (g .leads)) t
@@ -256,7 +253,7 @@ toward-start r q p l w = record { ends = λ l′ w′ d. d }
 pub toward-lowest : (r : List ℕ) (q : Proc) {p n : ℕ} (l w : List ℕ) → cell w p ≢ 0 → n ≡ low (cell w p) → Toward r q p l w true n l w
 toward-lowest r q {p} {n} l w h e = record { ends = λ l′ w′ d. lowest h (subst (λ (k : ℕ). Seen r q p true k l w l′ w′) e d) }
 
-pub toward-along : {r : List ℕ} {q : Proc} {p : ℕ} {l₀ w₀ l w l1 w1 w2 : List ℕ} {on : Bool} {y : Next} (n : ℕ) → Toward r q p l₀ w₀ on n l w → on ≡ true → w1 ≡ taken w p n → l1 ≡ stepped (nodeIn q n) p n l
+pub toward-along : {r : List ℕ} {q : Proc} {p : ℕ} {l₀ w₀ l w l1 w1 w2 : List ℕ} {on : Bool} {y : Next} (n : ℕ) → Toward r q p l₀ w₀ on n l w → on ≡ true → w1 ≡ todoTaken w p n → l1 ≡ stepped (nodeIn q n) p n l
     → w2 ≡ todoStepped r (flowAt q p n l) p l w1 → y ≡ nextAt q p n l → Toward r q p l₀ w₀ (y .on) (y .to) l1 w2
 toward-along {r} {q} {p} {l₀} {w₀} {l} {w} n g h t e z y =
     let g′ : Toward r q p l₀ w₀ true n l w = rw h at g in

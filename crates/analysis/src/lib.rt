@@ -16,7 +16,7 @@ ghost use Rattle.analysis.specs.Decides.{Decides, KeptMasks};
 ghost use Rattle.analysis.specs.Steps.{entered, passedOn, stepWith, keptIn};
 ghost use Rattle.analysis.specs.Sources.{sourceOf, readIn, recvIn};
 ghost use Rattle.analysis.specs.Plans.{storedFrom, passAt, Planned};
-ghost use Rattle.analysis.specs.Worklist.{isNew, todoReached, woken, todoBlank, todoPassed, todoStepped, nextTo, taken, Seen, pendingOf};
+ghost use Rattle.analysis.specs.Worklist.{isNew, todoReached, woken, todoBlank, todoPassed, todoStepped, nextTo, todoTaken, Seen, pendingOf};
 ghost use Rattle.analysis.specs.Work.{Sized, Works};
 
 // The mask m is added to the cell a; the answer says whether something was new.
@@ -169,10 +169,10 @@ fn visit(
     spread(x, p, n, cells, todo, recvs)
 }
 
-// Node n of procedure p, which is to be seen, is taken out.
+// Node n of procedure p is taken out of those to be seen.
 fn take(p: usize, n: usize, todo: &mut [u32; 8])
     requires { ⌜ (p < 8) × ((n < 32) × (length (now todo) ≡ 8)) ⌝ }
-    ensures { λ r. ⌜ now (todo .exit) ≡ taken (now (todo .entry)) p n ⌝ }
+    ensures { λ r. ⌜ now (todo .exit) ≡ todoTaken (now (todo .entry)) p n ⌝ }
 {
     let m = todo[p];
     todo[p] = masks::minus(m, n);

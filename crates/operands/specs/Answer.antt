@@ -42,13 +42,13 @@ operandWithin n s (IsOperand v e) = (e < length s) × declaredBelow n v
 operandWithin n s (NotOperand f) = Unit {0}
 
 -- the answer for an operand that ends at e, or for bytes that say none, with n variables declared
-abbrev pub unlessFault : Option Fault → Operand → ℕ → OperandAnswer
-unlessFault none v e = IsOperand v e
-unlessFault (some f) v e = NotOperand f
+abbrev pub operandOr : Option Fault → Operand → ℕ → OperandAnswer
+operandOr none v e = IsOperand v e
+operandOr (some f) v e = NotOperand f
 
 abbrev pub operandAnswer : ℕ → Option Operand → ℕ → OperandAnswer
 operandAnswer n none e = NotOperand Misspelt
-operandAnswer n (some v) e = unlessFault (operandFault n v) v e
+operandAnswer n (some v) e = operandOr (operandFault n v) v e
 
 -- what that answer says of any text
 pub record OperandJudged (n : ℕ) (o : Option Operand) (e : ℕ) (r : OperandAnswer) : Type 0 where
