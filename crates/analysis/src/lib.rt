@@ -171,7 +171,7 @@ fn visit(
 
 // Node n of procedure p is taken out of those to be seen.
 fn take(p: usize, n: usize, todo: &mut [u32; 8])
-    requires { ⌜ (p < 8) × ((n < 32) × (length (now todo) ≡ 8)) ⌝ }
+    requires { ⌜ (p < 8) × (n < 32) ⌝ }
     ensures { λ r. ⌜ now (todo .exit) ≡ todoTaken (now (todo .entry)) p n ⌝ }
 {
     let m = todo[p];

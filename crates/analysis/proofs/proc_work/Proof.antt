@@ -54,7 +54,7 @@ loop-again c =
     (along-end (h .0) (c .before .loop2 .inv .0) e, toward-end (h .1) (c .before .loop2 .inv .1) e)
 
 take-requires : tie.Need-take-requires Inv-loop2 μ-loop2 Inv-loop μ-loop
-take-requires c κs = let g = c .before .before .loop2 .inv .0 in (c .before .before .before .before .before .before .before .before .pre .0, (g .leads .low, g .going .todo .size))
+take-requires c κs = (c .before .before .before .before .before .before .before .before .pre .0, c .before .before .loop2 .inv .0 .leads .low)
 
 mul-y : tie.Need-mul-y Inv-loop2 μ-loop2 Inv-loop μ-loop
 mul-y c = omega (arith, c .before .before .before .loop2 .inv .0 .leads .low)
