@@ -7,6 +7,8 @@ pub mod Decide
 pub mod Todo
 pub mod Sources
 pub mod Plans
+pub mod Worklist
 pub mod Work
+pub mod WorklistLaws
 pub mod KeptLaws
 pub mod ReadyLaws

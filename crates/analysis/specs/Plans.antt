@@ -1,6 +1,7 @@
 -- What each node of a table does, if it has one target: the fields of its `Pass`, each in a list for all procedures.
-use Prim.Native.Nat.{ℕ, _+_, _*_, _/_, _%_, _<_, _≤_}
+use Prim.Native.Nat.{ℕ, zero, suc, _+_, _*_, _/_, _%_, _<_, _≤_}
 use native.Mathlib.Omega.{arith}
+use native.Mathlib.Numerals.{add-one}
 use mathlib.Core.Path.{_≡_, refl, _∙_, subst}
 use mathlib.Core.Bool.{Bool, true, false}
 use mathlib.Core.List.{List}
@@ -38,6 +39,15 @@ pass-low Return n h = h
 
 pub pass-small : {s : Pass} (x : Node) (n : ℕ) → s ≡ passOf x n → n ≤ 32 → s .to ≤ 32
 pass-small x n e h = rw e (pass-low x n h)
+
+-- n numbers stored from the place b on
+unfoldable pub storedFrom : ℕ → (ℕ → ℕ) → ℕ → List ℕ → List ℕ
+storedFrom b f zero l = l
+storedFrom b f (suc n) l = set (storedFrom b f n l) (b + n) (f n)
+
+pub stored-next : {l′ : List ℕ} {v : ℕ} (b : ℕ) (f : ℕ → ℕ) (n : ℕ) (l : List ℕ) → l′ ≡ storedFrom b f n l → v ≡ f n → set l′ (b + n) v ≡ storedFrom b f (n + 1) l
+unfolding storedFrom
+stored-next b f n l e z = rw (add-one n, e, z)
 
 -- the fields at place a
 abbrev pub passAt : List ℕ → List ℕ → List ℕ → ℕ → Pass
@@ -104,8 +114,15 @@ plans-start q p u s to = record { low = omega arith; fills = λ t e g. let z : p
 pub plans-next : {q : Proc} {p : ℕ} {u₀ s₀ to₀ u s to : List ℕ} (x : Pass) (n : ℕ) → p < 8 → n < 32 → x ≡ passOf (nodeIn q n) n → Plans q p u₀ s₀ to₀ u s to n → Plans q p u₀ s₀ to₀ (set u (p * 32 + n) (x .uses)) (set s (p * 32 + n) (x .sets)) (set to (p * 32 + n) (x .to)) (n + 1)
 plans-next {q} {p} x n hp hn e f = record { low = omega arith; fills = λ t z g. passes-next x p n hp hn (rw z e) (f .fills t z g) }
 
-pub plans-end : {q : Proc} {p n : ℕ} {u₀ s₀ to₀ u s to : List ℕ} → 32 ≤ n → Plans q p u₀ s₀ to₀ u s to n → Plans q p u₀ s₀ to₀ u s to 32
-plans-end {q} {p} {n} {u₀} {s₀} {to₀} {u} {s} {to} h f = let z : n ≡ 32 = omega (arith, f .low) in subst (λ (k : ℕ). Plans q p u₀ s₀ to₀ u s to k) z f
+pub plans-stored : (q : Proc) (p : ℕ) (u s to : List ℕ) (n : ℕ) → p < 8 → n ≤ 32
+    → Plans q p u s to (storedFrom (p * 32) (λ k. passOf (nodeIn q k) k .uses) n u) (storedFrom (p * 32) (λ k. passOf (nodeIn q k) k .sets) n s) (storedFrom (p * 32) (λ k. passOf (nodeIn q k) k .to) n to) n
+unfolding storedFrom
+plans-stored q p u s to zero hp h = plans-start q p u s to
+plans-stored q p u s to (suc n) hp h = rw (add-one n) at (plans-next (passOf (nodeIn q n) n) n hp (omega arith) refl (plans-stored q p u s to n hp (omega arith)))
+
+pub plans-are : {u′ s′ to′ : List ℕ} (q : Proc) (p : ℕ) (u s to : List ℕ) → p < 8 → u′ ≡ storedFrom (p * 32) (λ k. passOf (nodeIn q k) k .uses) 32 u
+    → s′ ≡ storedFrom (p * 32) (λ k. passOf (nodeIn q k) k .sets) 32 s → to′ ≡ storedFrom (p * 32) (λ k. passOf (nodeIn q k) k .to) 32 to → Plans q p u s to u′ s′ to′ 32
+plans-are q p u s to hp a b c = rw (a, b, c) (plans-stored q p u s to 32 hp (omega arith))
 
 -- ---- over the procedures
 

@@ -28,9 +28,6 @@ leads-low {n} p w g z e = record { low = omega arith; marked = λ y. rw e (low-b
 pub leads-yes : {p n : ℕ} {on : Bool} {w : List ℕ} → on ≡ true → Leads p n on w → Leads p n true w
 leads-yes e d = record { low = d .low; marked = λ y. d .marked e }
 
-pub leads-none : {p n : ℕ} {on : Bool} {w : List ℕ} → n < 32 → on ≡ false → Leads p n on w
-leads-none h e = record { low = h; marked = λ y. absurd (true≢false (sym y ∙ e)) }
-
 -- w1 is w, with n taken out of its mask p
 pub record Took (w : List ℕ) (p n : ℕ) (w1 : List ℕ) : Type 0 where
   pub low : n < 32

@@ -1,14 +1,14 @@
 -- The worklist: a node that is not to be seen adds nothing to the cells. Once none is to be seen, the cells say what is dirty.
 use Prim.Native.Nat.{ℕ, _+_, _*_, _-_, _^_, _<_, _≤_}
 use native.Mathlib.Omega.{arith}
-use native.Mathlib.Nat.{one-mul, lt-trans}
+use native.Mathlib.Nat.{lt-trans}
 use native.Mathlib.Numerals.{add-one}
 use mathlib.Core.Path.{_≡_, refl, sym, _∙_, ap, subst}
-use mathlib.Core.Bool.{Bool, true, false, false≢true, true≢false}
+use mathlib.Core.Bool.{Bool, true, false, true≢false}
 use mathlib.Core.Logic.{_⊎_, inl, inr, _≢_}
 use mathlib.Core.List.{List}
-use lib.ListN.{length, set, replicate, length-set}
-use lib.Seq.{getD-set-same, getD-set-other, set-getD}
+use lib.ListN.{length, replicate}
+use lib.Seq.{getD-set-other}
 use lib.Bits.{bitOr, or-lt}
 use lib.Pow.{pow-lt}
 use lib.Dec.{ltb}
@@ -18,7 +18,7 @@ use Rattle.table.specs.declared.Node.{Node}
 use Rattle.table.specs.declared.Proc.{Proc}
 use Rattle.table.specs.declared.Table.{Table}
 use Rattle.masks.specs.Bits.{bit-zero, bit-one, bit-or-l, bit-or-r}
-use Rattle.masks.specs.Cells.{cell, sum, grown, Masks, masks-sum, Flag, grown-grows, grown-has, grown-adds, grown-masks, Filled, filled-masks, set-more, cell-zeros}
+use Rattle.masks.specs.Cells.{cell, sum, grown, Masks, masks-sum, Flag, grown-grows, grown-has, grown-adds, grown-masks, Filled, filled-masks, cell-zeros}
 use Rattle.masks.specs.Left.{left, less-left}
 use Rattle.flow.specs.declared.Flow.{Flow}
 use Rattle.flow.specs.Flow.{flowOf}
@@ -74,7 +74,7 @@ sized-after s f = (f .size ∙ s .0, f .size-todo ∙ s .1)
 -- ---- one cell grows
 
 module _ {l l′ w w′ : List ℕ} {yes′ : Bool} (p n m : ℕ) (hp : p < 8) (hn : n < 32) (s : Sized l w) (e : l′ ≡ grown l (p * 32 + n) m) (f : Flag l l′ yes′) where
-  reach-new : (r : List ℕ) → yes′ ≡ true → w′ ≡ grown w p (2 ^ n) → Moves r l w l′ w′
+  pub reach-new : (r : List ℕ) → yes′ ≡ true → w′ ≡ grown w p (2 ^ n) → Moves r l w l′ w′
   reach-new r y z = rw (e, z) (record {
     has = λ a k h. grown-has l (p * 32 + n) m a k h;
     size = grown-grows l (p * 32 + n) m .same-size;
@@ -94,21 +94,6 @@ module _ {l l′ w w′ : List ℕ} {yes′ : Bool} (p n m : ℕ) (hp : p < 8) (
       keep : (a b : ℕ) → a < 8 → b < 32 → bit b (cell (grown w p (2 ^ n)) a) ≡ false → (bit b (cell w a) ≡ false) × (cell (grown l (p * 32 + n) m) (a * 32 + b) ≡ cell l (a * 32 + b)) × (bit b (cell r a) ≡ true → cell (grown l (p * 32 + n) m) 264 ≡ cell l 264)
       keep a b ha hb h = (not-before w p (2 ^ n) a b h, grown-other l (p * 32 + n) m (a * 32 + b) (apart a b hb h), λ y. grown-other l (p * 32 + n) m 264 (λ q. omega arith))
 
-  pub reach-moves : w′ ≡ set w p (pick yes′ (bitOr (cell w p) (1 * 2 ^ n)) (cell w p)) → (r : List ℕ) → Moves r l w l′ w′
-  unfolding grown
-  reach-moves z r = go yes′ refl z
-    where
-      go : (y : Bool) → yes′ ≡ y → w′ ≡ set w p (pick y (bitOr (cell w p) (1 * 2 ^ n)) (cell w p)) → Moves r l w l′ w′
-      go true y z = reach-new r y (z ∙ ap (λ (x : ℕ). set w p (bitOr (cell w p) x)) (one-mul (2 ^ n)))
-      go false y z = rw (f .same y, z ∙ set-getD w p 0) (moves-refl r l w)
-
-pub reach-leads : {w′ : List ℕ} {yes′ : Bool} (w : List ℕ) (p n : ℕ) → p < 8 → n < 32 → length w ≡ 8 → w′ ≡ set w p (pick yes′ (bitOr (cell w p) (1 * 2 ^ n)) (cell w p)) → Leads p n yes′ w′
-reach-leads {w′} {yes′} w p n hp hn s z = record { low = hn; marked = λ y. go yes′ y z }
-  where
-    go : (y : Bool) → y ≡ true → w′ ≡ set w p (pick y (bitOr (cell w p) (1 * 2 ^ n)) (cell w p)) → bit n (cell w′ p) ≡ true
-    go true y z = rw (z, getD-set-same w p (bitOr (cell w p) (1 * 2 ^ n)) 0 (omega arith)) (bit-or-r n (cell w p) (1 * 2 ^ n) (rw (one-mul (2 ^ n)) (bit-one n)))
-    go false y z = absurd (false≢true y)
-
 -- what is to be seen stays so
 pub leads-on : {r l w l′ w′ : List ℕ} {p n : ℕ} {on : Bool} → p < 8 → Leads p n on w → Moves r l w l′ w′ → Leads p n on w′
 leads-on {r} {l} {w} {l′} {w′} {p} {n} hp d m = record { low = d .low; marked = λ y. cases (bit n (cell w′ p)) (λ e. e) (λ e. absurd (true≢false (sym (d .marked y) ∙ m .keeps p n hp (d .low) e .0))) }
@@ -124,20 +109,15 @@ drop-moves {r} {l} {l′} {w} k m hk e = rw e (record {
   keeps = λ a b ha hb h. (h, grown-other l (256 + k) m (a * 32 + b) (λ q. omega arith), λ y. grown-other l (256 + k) m 264 (λ q. omega arith));
 })
 
--- the nodes r are to be seen, too
-pub record Woken (r w w′ : List ℕ) : Type 0 where
-  pub size : length w′ ≡ 8
-  pub each : Filled (λ a. bitOr (cell w a) (cell r a)) 8 w′
-
-pub blank-moves : {r l l′ w w′ : List ℕ} {yes′ : Bool} (m : ℕ) → Masks 8 32 r → length w ≡ 8 → l′ ≡ grown l 264 m → Flag l l′ yes′ → yes′ ≡ true → Woken r w w′ → Moves r l w l′ w′
-blank-moves {r} {l} {l′} {w} {w′} m g s e f y z = record {
+pub blank-moves : {r l l′ w w′ : List ℕ} {yes′ : Bool} (m : ℕ) → Masks 8 32 r → length w ≡ 8 → l′ ≡ grown l 264 m → Flag l l′ yes′ → yes′ ≡ true → length w′ ≡ 8 → Filled (λ a. bitOr (cell w a) (cell r a)) 8 w′ → Moves r l w l′ w′
+blank-moves {r} {l} {l′} {w} {w′} m g s e f y i z = record {
   has = λ a j h. rw e (grown-has l 264 m a j h);
   size = f .grows .same-size;
-  size-todo = z .size ∙ sym s;
-  small = λ h. filled-masks (λ a. bitOr (cell w a) (cell r a)) 8 32 w′ (z .size) (z .each) (λ a i. or-lt 32 (cell w a) (cell r a) (h .below a) (g .below a));
+  size-todo = i ∙ sym s;
+  small = λ h. filled-masks (λ a. bitOr (cell w a) (cell r a)) 8 32 w′ i z (λ a j. or-lt 32 (cell w a) (cell r a) (h .below a) (g .below a));
   up = f .grows .up;
   stays = λ q. absurd (omega (arith, q, f .more y));
-  keeps = λ a b ha hb h. let k : bit b (bitOr (cell w a) (cell r a)) ≡ false = rw (z .each a ha) at h in
+  keeps = λ a b ha hb h. let k : bit b (bitOr (cell w a) (cell r a)) ≡ false = rw (z a ha) at h in
       (cases (bit b (cell w a)) (λ q. absurd (true≢false (sym (bit-or-l b (cell w a) (cell r a) q) ∙ k))) (λ q. q), rw e (grown-other l 264 m (a * 32 + b) (λ q. omega arith)), λ q. absurd (true≢false (sym (bit-or-r b (cell w a) (cell r a) q) ∙ k)));
 }
 
@@ -335,25 +315,3 @@ going-end {q} {p} {r} {l} {w} {l′} {w′} g z = record { keeps = g .keeps; les
 pub record Pending (w : List ℕ) (p : ℕ) : Type 0 where
   pub some′ : p < 8 → cell w p ≢ 0
   pub none′ : 8 ≤ p → (a : ℕ) → a < 8 → cell w a ≡ 0
-
--- ---- the nodes r are woken, procedure by procedure
-
-pub record Waking (r w₀ w : List ℕ) (i : ℕ) : Type 0 where
-  pub low : i ≤ 8
-  pub size : length w ≡ 8
-  pub before : Filled (λ a. bitOr (cell w₀ a) (cell r a)) i w
-  pub after : (a : ℕ) → i ≤ a → cell w a ≡ cell w₀ a
-
-pub waking-start : (r w : List ℕ) → length w ≡ 8 → Waking r w w 0
-waking-start r w s = record { low = omega arith; size = s; before = λ a h. absurd (omega arith); after = λ a h. refl }
-
-pub waking-next : {r w₀ w : List ℕ} {i : ℕ} → i < 8 → Waking r w₀ w i → Waking r w₀ (set w i (bitOr (cell w i) (cell r i))) (i + 1)
-waking-next {r} {w₀} {w} {i} h k = record {
-  low = omega arith;
-  size = length-set w i _ ∙ k .size;
-  before = set-more 0 (λ a. bitOr (cell w₀ a) (cell r a)) i _ w (omega (arith, k .size)) (ap (λ (x : ℕ). bitOr x (cell r i)) (k .after i (omega arith))) (k .before);
-  after = λ a j. getD-set-other w i a (bitOr (cell w i) (cell r i)) 0 (λ q. omega arith) ∙ k .after a (omega arith);
-}
-
-pub waking-end : {r w₀ w : List ℕ} {i : ℕ} → Waking r w₀ w i → 8 ≤ i → Woken r w₀ w
-waking-end {r} {w₀} {w} {i} k h = let z : i ≡ 8 = omega (arith, k .low) in record { size = k .size; each = subst (λ (x : ℕ). Filled (λ a. bitOr (cell w₀ a) (cell r a)) x w) z (k .before) }

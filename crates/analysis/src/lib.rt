@@ -4,26 +4,26 @@ use table::Node;
 use table::Proc;
 use table::Table;
 ghost use mathlib.Core.Path.{_≡_};
-ghost use mathlib.Core.Bool.{true};
-ghost use mathlib.Core.List.{List};
-ghost use Prim.Native.Nat.{ℕ, _<_, _≤_, _^_, _+_, _-_, _*_};
+ghost use mathlib.Core.Bool.{false};
+ghost use Prim.Native.Nat.{_<_, _≤_, _^_, _+_, _-_, _*_};
 ghost use lib.ListN.{length};
 ghost use Rattle.table.specs.Mask.{maskOf};
-ghost use Rattle.masks.specs.Cells.{cell, grown, Flag, Masks};
+ghost use Rattle.table.specs.Table.{nodeIn};
+ghost use Rattle.masks.specs.Cells.{cell, grown, Masks};
 ghost use Rattle.flow.specs.Flow.{flowOf, passOf, afterPass};
 ghost use Rattle.analysis.specs.Ready.{Ready};
 ghost use Rattle.analysis.specs.Decides.{Decides, KeptMasks};
 ghost use Rattle.analysis.specs.Steps.{entered, passedOn, stepWith, keptIn};
-ghost use Rattle.analysis.specs.Todo.{Leads, Took};
 ghost use Rattle.analysis.specs.Sources.{sourceOf, readIn, recvIn};
-ghost use Rattle.analysis.specs.Plans.{passAt, Planned, Plans};
-ghost use Rattle.analysis.specs.Work.{Sized, Moves, Woken, Works, Pending};
+ghost use Rattle.analysis.specs.Plans.{storedFrom, passAt, Planned};
+ghost use Rattle.analysis.specs.Worklist.{isNew, todoReached, woken, todoBlank, todoPassed, todoStepped, nextTo, todoTaken, Seen, pendingOf};
+ghost use Rattle.analysis.specs.Work.{Sized, Works};
 
 // The mask m is added to the cell a; the answer says whether something was new.
 fn grow(cells: &mut [u32; 265], a: usize, m: u32) -> bool
     requires { ⌜ (a < 265) × (length (now cells) ≡ 265) ⌝ }
     ensures list { λ r. ⌜ now (cells .exit) ≡ grown (now (cells .entry)) a m ⌝ }
-    ensures flag { λ r. ⌜ Flag (now (cells .entry)) (now (cells .exit)) r ⌝ }
+    ensures new { λ r. ⌜ r ≡ isNew (now (cells .entry)) a m ⌝ }
 {
     let old = cells[a];
     let new = old | m;
@@ -35,8 +35,8 @@ fn grow(cells: &mut [u32; 265], a: usize, m: u32) -> bool
 fn reach(cells: &mut [u32; 265], todo: &mut [u32; 8], p: usize, n: usize, m: u32) -> bool
     requires { ⌜ (p < 8) × ((n < 32) × Sized (now cells) (now todo)) ⌝ }
     ensures list { λ r. ⌜ now (cells .exit) ≡ grown (now (cells .entry)) (p * 32 + n) m ⌝ }
-    ensures moves { λ r. ⌜ ((s : List ℕ) → Moves s (now (cells .entry)) (now (todo .entry)) (now (cells .exit)) (now (todo .exit))) ⌝ }
-    ensures marked { λ r. ⌜ Leads p n r (now (todo .exit)) ⌝ }
+    ensures todo { λ r. ⌜ now (todo .exit) ≡ todoReached (now (cells .entry)) (now (todo .entry)) p n m ⌝ }
+    ensures new { λ r. ⌜ r ≡ isNew (now (cells .entry)) (p * 32 + n) m ⌝ }
 {
     let at = p * 32 + n;
     let yes = grow(cells, at, m);
@@ -52,7 +52,7 @@ fn reach(cells: &mut [u32; 265], todo: &mut [u32; 8], p: usize, n: usize, m: u32
 fn enter(cells: &mut [u32; 265], todo: &mut [u32; 8], k: usize, m: u32)
     requires { ⌜ (k < 8) × Sized (now cells) (now todo) ⌝ }
     ensures list { λ r. ⌜ now (cells .exit) ≡ entered (now (cells .entry)) k m ⌝ }
-    ensures moves { λ r. ⌜ ((s : List ℕ) → Moves s (now (cells .entry)) (now (todo .entry)) (now (cells .exit)) (now (todo .exit))) ⌝ }
+    ensures todo { λ r. ⌜ now (todo .exit) ≡ todoReached (now (cells .entry)) (now (todo .entry)) k 0 m ⌝ }
 {
     reach(cells, todo, k, 0, m);
     grow(cells, 256 + k, m);
@@ -61,7 +61,7 @@ fn enter(cells: &mut [u32; 265], todo: &mut [u32; 8], k: usize, m: u32)
 // The nodes of recvs are to be seen.
 fn wake(todo: &mut [u32; 8], recvs: &[u32; 8])
     requires { ⌜ length (now todo) ≡ 8 ⌝ }
-    ensures { λ r. ⌜ Woken (now (recvs .entry)) (now (todo .entry)) (now (todo .exit)) ⌝ }
+    ensures { λ r. ⌜ now (todo .exit) ≡ woken (now (todo .entry)) (now (recvs .entry)) ⌝ }
 {
     let mut i: usize = 0;
     while i < 8 {
@@ -74,9 +74,9 @@ fn wake(todo: &mut [u32; 8], recvs: &[u32; 8])
 
 // The queues m are blank.
 fn blank(cells: &mut [u32; 265], todo: &mut [u32; 8], recvs: &[u32; 8], m: u32)
-    requires { ⌜ Sized (now cells) (now todo) × Masks 8 32 (now recvs) ⌝ }
+    requires { ⌜ Sized (now cells) (now todo) ⌝ }
     ensures list { λ r. ⌜ now (cells .exit) ≡ grown (now (cells .entry)) 264 m ⌝ }
-    ensures moves { λ r. ⌜ Moves (now (recvs .entry)) (now (cells .entry)) (now (todo .entry)) (now (cells .exit)) (now (todo .exit)) ⌝ }
+    ensures todo { λ r. ⌜ now (todo .exit) ≡ todoBlank (now (recvs .entry)) (now (cells .entry)) (now (todo .entry)) m ⌝ }
 {
     let yes = grow(cells, 264, m);
     if yes {
@@ -87,9 +87,9 @@ fn blank(cells: &mut [u32; 265], todo: &mut [u32; 8], recvs: &[u32; 8], m: u32)
 
 // What a node adds to the cell a: dropped parameters, or blank queues.
 fn pass_on(cells: &mut [u32; 265], todo: &mut [u32; 8], recvs: &[u32; 8], a: usize, m: u32)
-    requires { ⌜ (256 ≤ a) × ((a < 265) × (Sized (now cells) (now todo) × Masks 8 32 (now recvs))) ⌝ }
+    requires { ⌜ (256 ≤ a) × ((a < 265) × Sized (now cells) (now todo)) ⌝ }
     ensures list { λ r. ⌜ now (cells .exit) ≡ passedOn (now (cells .entry)) a m ⌝ }
-    ensures moves { λ r. ⌜ Moves (now (recvs .entry)) (now (cells .entry)) (now (todo .entry)) (now (cells .exit)) (now (todo .exit)) ⌝ }
+    ensures todo { λ r. ⌜ now (todo .exit) ≡ todoPassed (now (recvs .entry)) (now (cells .entry)) (now (todo .entry)) a m ⌝ }
 {
     if a < 264 {
         enter(cells, todo, a - 256, m);
@@ -108,8 +108,8 @@ struct Next {
 fn pass(s: Pass, p: usize, n: usize, cells: &mut [u32; 265], todo: &mut [u32; 8]) -> Next
     requires { ⌜ (p < 8) × ((n < 32) × ((s .to < 32) × Sized (now cells) (now todo))) ⌝ }
     ensures list { λ r. ⌜ now (cells .exit) ≡ grown (now (cells .entry)) (p * 32 + s .to) (afterPass s (cell (now (cells .entry)) (p * 32 + n))) ⌝ }
-    ensures moves { λ r. ⌜ ((l : List ℕ) → Moves l (now (cells .entry)) (now (todo .entry)) (now (cells .exit)) (now (todo .exit))) ⌝ }
-    ensures next { λ r. ⌜ Leads p (r .to) (r .on) (now (todo .exit)) ⌝ }
+    ensures todo { λ r. ⌜ now (todo .exit) ≡ todoReached (now (cells .entry)) (now (todo .entry)) p (s .to) (afterPass s (cell (now (cells .entry)) (p * 32 + n))) ⌝ }
+    ensures next { λ r. ⌜ r ≡ nextTo (now (cells .entry)) p (s .to) (afterPass s (cell (now (cells .entry)) (p * 32 + n))) ⌝ }
 {
     let at = p * 32 + n;
     let i = cells[at];
@@ -128,10 +128,10 @@ fn spread(
     todo: &mut [u32; 8],
     recvs: &[u32; 8],
 ) -> Next
-    requires { ⌜ (p < 8) × ((n < 32) × (Sized (now cells) (now todo) × Masks 8 32 (now recvs))) ⌝ }
+    requires { ⌜ (p < 8) × ((n < 32) × Sized (now cells) (now todo)) ⌝ }
     ensures list { λ r. ⌜ now (cells .exit) ≡ stepWith (flowOf x n (cell (now (cells .entry)) (p * 32 + n)) (cell (now (cells .entry)) 264)) p (now (cells .entry)) ⌝ }
-    ensures moves { λ r. ⌜ Moves (now (recvs .entry)) (now (cells .entry)) (now (todo .entry)) (now (cells .exit)) (now (todo .exit)) ⌝ }
-    ensures next { λ r. ⌜ Leads p (r .to) (r .on) (now (todo .exit)) ⌝ }
+    ensures todo { λ r. ⌜ now (todo .exit) ≡ todoStepped (now (recvs .entry)) (flowOf x n (cell (now (cells .entry)) (p * 32 + n)) (cell (now (cells .entry)) 264)) p (now (cells .entry)) (now (todo .entry)) ⌝ }
+    ensures next { λ r. ⌜ r ≡ nextTo (now (cells .entry)) p (flowOf x n (cell (now (cells .entry)) (p * 32 + n)) (cell (now (cells .entry)) 264) .first) (flowOf x n (cell (now (cells .entry)) (p * 32 + n)) (cell (now (cells .entry)) 264) .out) ⌝ }
 {
     let at = p * 32 + n;
     let i = cells[at];
@@ -158,10 +158,10 @@ fn visit(
     todo: &mut [u32; 8],
     recvs: &[u32; 8],
 ) -> Next
-    requires { ⌜ (p < 8) × ((n < 32) × (Sized (now cells) (now todo) × (Masks 8 32 (now recvs) × (s ≡ passOf x n)))) ⌝ }
+    requires { ⌜ (p < 8) × ((n < 32) × (Sized (now cells) (now todo) × (s ≡ passOf x n))) ⌝ }
     ensures list { λ r. ⌜ now (cells .exit) ≡ stepWith (flowOf x n (cell (now (cells .entry)) (p * 32 + n)) (cell (now (cells .entry)) 264)) p (now (cells .entry)) ⌝ }
-    ensures moves { λ r. ⌜ Moves (now (recvs .entry)) (now (cells .entry)) (now (todo .entry)) (now (cells .exit)) (now (todo .exit)) ⌝ }
-    ensures next { λ r. ⌜ Leads p (r .to) (r .on) (now (todo .exit)) ⌝ }
+    ensures todo { λ r. ⌜ now (todo .exit) ≡ todoStepped (now (recvs .entry)) (flowOf x n (cell (now (cells .entry)) (p * 32 + n)) (cell (now (cells .entry)) 264)) p (now (cells .entry)) (now (todo .entry)) ⌝ }
+    ensures next { λ r. ⌜ r ≡ nextTo (now (cells .entry)) p (flowOf x n (cell (now (cells .entry)) (p * 32 + n)) (cell (now (cells .entry)) 264) .first) (flowOf x n (cell (now (cells .entry)) (p * 32 + n)) (cell (now (cells .entry)) 264) .out) ⌝ }
 {
     if s.to < 32 {
         return pass(s, p, n, cells, todo);
@@ -169,10 +169,10 @@ fn visit(
     spread(x, p, n, cells, todo, recvs)
 }
 
-// Node n of procedure p, which is to be seen, is taken out.
+// Node n of procedure p is taken out of those to be seen.
 fn take(p: usize, n: usize, todo: &mut [u32; 8])
-    requires { ⌜ (p < 8) × (Masks 8 32 (now todo) × Leads p n true (now todo)) ⌝ }
-    ensures { λ r. ⌜ Took (now (todo .entry)) p n (now (todo .exit)) ⌝ }
+    requires { ⌜ (p < 8) × (n < 32) ⌝ }
+    ensures { λ r. ⌜ now (todo .exit) ≡ todoTaken (now (todo .entry)) p n ⌝ }
 {
     let m = todo[p];
     todo[p] = masks::minus(m, n);
@@ -202,7 +202,8 @@ fn proc_work(
     recvs: &[u32; 8],
 )
     requires { ⌜ (p < 8) × (Masks 265 32 (now cells) × (Masks 8 32 (now todo) × (Masks 8 32 (now recvs) × Planned q p (now uses) (now sets) (now tos)))) ⌝ }
-    ensures { λ r. ⌜ Works (now (recvs .entry)) q p (now (cells .entry)) (now (todo .entry)) (now (cells .exit)) (now (todo .exit)) ⌝ }
+    ensures seen { λ r. ⌜ Seen (now (recvs .entry)) q p false 0 (now (cells .entry)) (now (todo .entry)) (now (cells .exit)) (now (todo .exit)) ⌝ }
+    ensures works { λ r. ⌜ Works (now (recvs .entry)) q p (now (cells .entry)) (now (todo .entry)) (now (cells .exit)) (now (todo .exit)) ⌝ }
 {
     while todo[p] != 0 {
         let m = todo[p];
@@ -220,9 +221,9 @@ fn proc_work(
     }
 }
 
-// A procedure with a node that is to be seen, or 8.
+// The first procedure with a node that is to be seen, or 8.
 fn pending(todo: &[u32; 8]) -> usize
-    ensures { λ r. ⌜ Pending (now (todo .entry)) r ⌝ }
+    ensures { λ r. ⌜ r ≡ pendingOf (now (todo .entry)) ⌝ }
 {
     let mut p: usize = 0;
     while p < 8 {
@@ -304,7 +305,9 @@ fn plan(
     tos: &mut [u8; 256],
 ) -> Sources
     requires { ⌜ p < 8 ⌝ }
-    ensures plans { λ r. ⌜ Plans q p (now (uses .entry)) (now (sets .entry)) (now (tos .entry)) (now (uses .exit)) (now (sets .exit)) (now (tos .exit)) 32 ⌝ }
+    ensures uses { λ r. ⌜ now (uses .exit) ≡ storedFrom (p * 32) (λ n. passOf (nodeIn q n) n .uses) 32 (now (uses .entry)) ⌝ }
+    ensures sets { λ r. ⌜ now (sets .exit) ≡ storedFrom (p * 32) (λ n. passOf (nodeIn q n) n .sets) 32 (now (sets .entry)) ⌝ }
+    ensures tos { λ r. ⌜ now (tos .exit) ≡ storedFrom (p * 32) (λ n. passOf (nodeIn q n) n .to) 32 (now (tos .entry)) ⌝ }
     ensures reads { λ r. ⌜ r .reads ≡ maskOf 32 (readIn q) ⌝ }
     ensures recvs { λ r. ⌜ r .recvs ≡ maskOf 32 (recvIn q) ⌝ }
 {

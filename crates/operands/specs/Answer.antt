@@ -3,15 +3,16 @@ use Prim.Native.Nat.{ℕ, _<_}
 use mathlib.Core.Path.{_≡_}
 use mathlib.Core.Bool.{Bool}
 use mathlib.Core.List.{List}
-use mathlib.Core.Option.{Option}
+use mathlib.Core.Option.{Option, none, some}
 use lib.Dec.{ltb, eqb}
 use lib.ListN.{length, take, drop}
 use Rattle.table.specs.Mask.{pick}
-use Rattle.text.specs.declared.Fault.the-variants.{Ended}
+use Rattle.text.specs.declared.Fault.{Fault}
+use Rattle.text.specs.declared.Fault.the-variants.{Ended, Misspelt}
 use Rattle.table.specs.declared.Operand.{Operand}
 use Rattle.table.specs.declared.Operand.the-variants.{Var, Const}
 use Rattle.text.specs.Number.{bytes}
-use Rattle.text.specs.Value.{operand, variable, numeral, asVar, asConst, asNegative, said}
+use Rattle.text.specs.Value.{operand, variable, numeral, asVar, asConst, asNegative, said, operandFault}
 use Rattle.text.specs.Line.{Outcome, Parser, took, refused, run, judged, valueOf, fieldOf}
 use Rattle.digits.specs.declared.Num.the-variants.{Good}
 use Rattle.digits.specs.Read.{numberOf}
@@ -40,12 +41,21 @@ abbrev pub operandWithin : ℕ → List ℕ → OperandAnswer → Type 0
 operandWithin n s (IsOperand v e) = (e < length s) × declaredBelow n v
 operandWithin n s (NotOperand f) = Unit {0}
 
--- the answer for an operand that bytes say
+-- the answer for an operand that ends at e, or for bytes that say none, with n variables declared
+abbrev pub operandOr : Option Fault → Operand → ℕ → OperandAnswer
+operandOr none v e = IsOperand v e
+operandOr (some f) v e = NotOperand f
+
+abbrev pub operandAnswer : ℕ → Option Operand → ℕ → OperandAnswer
+operandAnswer n none e = NotOperand Misspelt
+operandAnswer n (some v) e = operandOr (operandFault n v) v e
+
+-- what that answer says of any text
 pub record OperandJudged (n : ℕ) (o : Option Operand) (e : ℕ) (r : OperandAnswer) : Type 0 where
   pub same : (l : ℕ) (s : List ℕ) → operandIn l s r ≡ judged (operand n) o l (drop e s)
   pub ends : operandEnds n e r
 
--- the answer for the number x behind `v`, behind `-` or alone
+-- what the answer for the number x behind `v`, behind `-` or alone says of bytes that spell x, or a number above 2^32 for which x stands
 pub record Judged (kind : Option ℕ → Option Operand) (n x e : ℕ) (r : OperandAnswer) : Type 0 where
   pub is : (t : List ℕ) → Good x ≡ numberOf t → OperandJudged n (kind (numeral t)) e r
 

@@ -2,13 +2,13 @@
 use Prim.Native.Nat.{ℕ, zero, suc, _+_, _-_, _≤_, _<_}
 use mathlib.Core.Path.{_≡_, refl, sym, _∙_, ap}
 use mathlib.Core.List.{List, [], _∷_}
-use mathlib.Core.Option.{Option, none}
+use mathlib.Core.Option.{Option, none, some}
 use mathlib.Core.Bool.{Bool, true, false}
 use native.Mathlib.Omega.{arith}
 use native.Mathlib.Nat.{zero-add, add-zero}
 use native.Mathlib.Numerals.{add-one}
 use lib.IntN.{ℤ, pos, negsuc, _-ℤ_}
-use lib.Dec.{ltb, eqb}
+use lib.Dec.{ltb, leb, eqb}
 use lib.ListN.{length, take, drop, getD, drop-of-length-le, length-drop}
 use lib.Seq.{drop-cons, drop-drop}
 use borrow.Author.Tests.{lt-ltb, le-ltb, le-leb, lt-leb, ne-eqb, eqb-true, eqb-false}
@@ -26,7 +26,7 @@ use Rattle.text.specs.Value.{operand, variable, numeral, asVar, asConst, asNega
 use Rattle.text.specs.Format.{variableOf}
 use Rattle.digits.specs.declared.Num.{Num}
 use Rattle.digits.specs.declared.Num.the-variants.{Good, Bad}
-use Rattle.digits.specs.Read.{numberOf}
+use Rattle.digits.specs.Read.{capped, numberOf}
 use Rattle.digits.specs.NumeralLaws.{spelt-good, numeral-bad, numeral-good}
 use Rattle.scan.specs.declared.Found.{Found}
 use Rattle.scan.specs.declared.Found.the-variants.{At, Differs, Broken}
@@ -44,7 +44,7 @@ use Rattle.scan.specs.Place.{AfterKey, RunEnd, ValueAt, refusalOf}
 use Rattle.numbers.specs.Numerals.{NumeralTo, NumeralAt, shortValueOf}
 use Rattle.numbers.specs.NumeralLaws.{short-whole}
 use Rattle.scan.specs.PlaceLaws.{count-more, value-ends, value-within}
-use Rattle.operands.specs.Answer.{operandEnds, operandWithin, OperandJudged, skip, operandKind, Judged, valueAs, OperandAs, OperandIn, OperandAt, variableEnds, variableWithin, VariableSaid, VariableIn, VariableAt}
+use Rattle.operands.specs.Answer.{operandEnds, operandWithin, operandAnswer, OperandJudged, skip, operandKind, Judged, valueAs, OperandAs, OperandIn, OperandAt, variableEnds, variableWithin, VariableSaid, VariableIn, VariableAt}
 use Rattle.numbers.specs.Answer.{mapped}
 
 -- ---- signed numbers
@@ -61,73 +61,109 @@ negative-fits x p h = rw (positive-is (x - 1) (omega arith), minus-one (x - 1)) 
 pub negative-is : (x : ℕ) → 0 < x → x ≤ 2147483648 → toZ w32 (ofZ w32 (negsuc 0 -ℤ toZ w32 (x - 1))) ≡ negsuc (x - 1)
 negative-is x p h = toZ-ofZ w32 _ (negative-fits x p h) ∙ rw (positive-is (x - 1) (omega arith)) (minus-one (x - 1))
 
-module _ (t : List ℕ) (e : ℕ) {w : Num} (d : w ≡ numberOf t) where
-  -- ---- a variable
-  var-good : {n v : ℕ} → w ≡ Good v → n ≤ 256 → v < n → OperandJudged n (asVar (numeral t)) e (IsOperand (Var v) e)
-  unfolding check
-  var-good {n} {v} h u l =
-      let x : value t ≡ v = omega (arith, spelt-good t d h .1) in
-      record { same = λ k s. rw (numeral-good t d h, x, lt-ltb v n l); ends = (refl, l) }
+-- ---- the answer for the number x behind `v`, behind `-` or alone
+module _ {n x : ℕ} (e : ℕ) where
+  pub named-good : x < n → IsOperand (Var x) e ≡ operandAnswer n (asVar (some x)) e
+  named-good l = rw (lt-ltb x n l)
 
-  var-high : {n v : ℕ} → w ≡ Good v → n ≤ 256 → n ≤ v → OperandJudged n (asVar (numeral t)) e (NotOperand Reference)
-  unfolding check
-  var-high {n} {v} h u l = record { same = λ k s. rw (numeral-good t d h, le-ltb (value t) n (omega (arith, spelt-good t d h .1))); ends = tt }
+  pub named-high : n ≤ x → NotOperand Reference ≡ operandAnswer n (asVar (some x)) e
+  named-high l = rw (le-ltb x n l)
 
-  -- ---- a constant
-  const-good : (n : ℕ) {v : ℕ} {z : ℤ} → w ≡ Good v → v ≤ 2147483647 → z ≡ pos v
-      → OperandJudged n (asConst (numeral t)) e (IsOperand (Const (toZ w32 (ofZ w32 z))) e)
-  unfolding check
-  const-good n {v} h l q =
-      let x : value t ≡ v = omega (arith, spelt-good t d h .1) in
-      record { same = λ k s. rw (numeral-good t d h, x, q, positive-is v l, le-leb v 2147483647 l); ends = (refl, tt) }
+module _ (n : ℕ) {x : ℕ} (e : ℕ) where
+  pub constant-good : {z : ℤ} → x ≤ 2147483647 → z ≡ pos x → IsOperand (Const (toZ w32 (ofZ w32 z))) e ≡ operandAnswer n (asConst (some x)) e
+  constant-good l q = rw (q, positive-is x l, le-leb x 2147483647 l)
 
-  const-high : (n : ℕ) {v : ℕ} → w ≡ Good v → 2147483647 < v → OperandJudged n (asConst (numeral t)) e (NotOperand Range)
-  unfolding check
-  const-high n {v} h l = record { same = λ k s. rw (numeral-good t d h, lt-leb (value t) 2147483647 (omega (arith, spelt-good t d h .1))); ends = tt }
+  pub constant-high : 2147483647 < x → NotOperand Range ≡ operandAnswer n (asConst (some x)) e
+  constant-high l = rw (lt-leb x 2147483647 l)
 
-  -- ---- a constant below 0
-  neg-zero : (n : ℕ) {v : ℕ} → w ≡ Good v → v ≡ 0 → OperandJudged n (asNegative (numeral t)) e (NotOperand Misspelt)
-  unfolding unsaid
-  neg-zero n {v} h l =
-      let x : value t ≡ 0 = omega (arith, spelt-good t d h .1) in
-      record { same = λ k s. rw (numeral-good t d h, x); ends = tt }
+  pub negative-zero : x ≡ 0 → NotOperand Misspelt ≡ operandAnswer n (asNegative (some x)) e
+  negative-zero h = rw h
 
-  neg-good : (n : ℕ) {v : ℕ} {z : ℤ} → w ≡ Good v → (v ≡ 0 → ⊥) → v ≤ 2147483648 → z ≡ negsuc (v - 1)
-      → OperandJudged n (asNegative (numeral t)) e (IsOperand (Const (toZ w32 (ofZ w32 z))) e)
-  unfolding check
-  neg-good n {v} h k l q =
-      let x : value t ≡ suc (v - 1) = omega (arith, spelt-good t d h .1) in
-      let f : SFits w32 (negsuc (v - 1)) = record { sfits = omega arith } in
-      record { same = λ m s. rw (numeral-good t d h, x, q, toZ-ofZ w32 (negsuc (v - 1)) f, le-leb (v - 1) 2147483647 (omega arith)); ends = (refl, tt) }
+  pub negative-good : {z : ℤ} → (x ≡ 0 → ⊥) → x ≤ 2147483648 → z ≡ negsuc (x - 1)
+      → IsOperand (Const (toZ w32 (ofZ w32 z))) e ≡ operandAnswer n (asNegative (some x)) e
+  negative-good k l q =
+      let y : x ≡ suc (x - 1) = omega arith in
+      let f : SFits w32 (negsuc (x - 1)) = record { sfits = omega arith } in
+      rw (q, toZ-ofZ w32 (negsuc (x - 1)) f) (less (x - 1) y (omega arith))
+    where
+      less : (k : ℕ) → x ≡ suc k → k ≤ 2147483647 → IsOperand (Const (negsuc k)) e ≡ operandAnswer n (asNegative (some x)) e
+      less k y h = rw (y, le-leb k 2147483647 h)
 
-  neg-high : (n : ℕ) {v : ℕ} → w ≡ Good v → 2147483648 < v → OperandJudged n (asNegative (numeral t)) e (NotOperand Range)
-  unfolding check
-  neg-high n {v} h l =
-      let x : value t ≡ suc (value t - 1) = omega (arith, spelt-good t d h .1) in
-      record { same = λ m s. rw (numeral-good t d h, x, lt-leb (value t - 1) 2147483647 (omega (arith, spelt-good t d h .1))); ends = tt }
+  pub negative-high : 2147483648 < x → NotOperand Range ≡ operandAnswer n (asNegative (some x)) e
+  negative-high l = more (x - 1) (omega arith) (omega arith)
+    where
+      more : (k : ℕ) → x ≡ suc k → 2147483647 < k → NotOperand Range ≡ operandAnswer n (asNegative (some x)) e
+      more k y h = rw (y, lt-leb k 2147483647 h)
 
--- ---- the number behind `v`, behind `-` or alone
-pub named-good : {n v : ℕ} (e : ℕ) → n ≤ 256 → v < n → Judged asVar n v e (IsOperand (Var v) e)
-named-good e u l = record { is = λ t d. var-good t e d refl u l }
+-- by the first byte
+module _ (b n x e : ℕ) {r : OperandAnswer} where
+  pub any-named : b ≡ 118 → r ≡ operandAnswer n (asVar (some x)) e → r ≡ operandAnswer n (operandKind b (some x)) e
+  any-named h a = rw h a
 
-pub named-high : {n v : ℕ} (e : ℕ) → n ≤ 256 → n ≤ v → Judged asVar n v e (NotOperand Reference)
-named-high e u l = record { is = λ t d. var-high t e d refl u l }
+  pub any-minus : b ≡ 45 → r ≡ operandAnswer n (asNegative (some x)) e → r ≡ operandAnswer n (operandKind b (some x)) e
+  any-minus h a = rw h a
 
-pub constant-good : (n : ℕ) {v : ℕ} (e : ℕ) {z : ℤ} → v ≤ 2147483647 → z ≡ pos v → Judged asConst n v e (IsOperand (Const (toZ w32 (ofZ w32 z))) e)
-constant-good n e l q = record { is = λ t d. const-good t e d n refl l q }
+  pub any-plain : (b ≡ 118 → ⊥) → (b ≡ 45 → ⊥) → r ≡ operandAnswer n (asConst (some x)) e → r ≡ operandAnswer n (operandKind b (some x)) e
+  any-plain h k a = rw (ne-eqb b 118 h, ne-eqb b 45 k) a
 
-pub constant-high : (n : ℕ) {v : ℕ} (e : ℕ) → 2147483647 < v → Judged asConst n v e (NotOperand Range)
-constant-high n e l = record { is = λ t d. const-high t e d n refl l }
+-- what an answer says of any text
+judged-var : (n v e : ℕ) → OperandJudged n (some (Var v)) e (operandAnswer n (some (Var v)) e)
+unfolding check
+judged-var n v e = byOrder v n
+    (λ l. rw (lt-ltb v n l) (record { same = λ k s. rw (lt-ltb v n l); ends = (refl, l) }))
+    (λ l. rw (le-ltb v n l) (record { same = λ k s. rw (le-ltb v n l); ends = tt }))
 
-pub negative-zero : (n : ℕ) {v : ℕ} (e : ℕ) → v ≡ 0 → Judged asNegative n v e (NotOperand Misspelt)
-negative-zero n e l = record { is = λ t d. neg-zero t e d n refl l }
+judged-const : (n e : ℕ) (z : ℤ) → OperandJudged n (some (Const z)) e (operandAnswer n (some (Const z)) e)
+unfolding check
+judged-const n e (pos x) = cases (leb x 2147483647) (λ h. rw h (record { same = λ k s. rw h; ends = (refl, tt) })) (λ h. rw h (record { same = λ k s. rw h; ends = tt }))
+judged-const n e (negsuc x) = cases (leb x 2147483647) (λ h. rw h (record { same = λ k s. rw h; ends = (refl, tt) })) (λ h. rw h (record { same = λ k s. rw h; ends = tt }))
 
-pub negative-good : (n : ℕ) {v : ℕ} (e : ℕ) {z : ℤ} → (v ≡ 0 → ⊥) → v ≤ 2147483648 → z ≡ negsuc (v - 1)
-    → Judged asNegative n v e (IsOperand (Const (toZ w32 (ofZ w32 z))) e)
-negative-good n e k l q = record { is = λ t d. neg-good t e d n refl k l q }
+judged-answer : (n : ℕ) (o : Option Operand) (e : ℕ) → OperandJudged n o e (operandAnswer n o e)
+unfolding unsaid
+judged-answer n none e = record { same = λ k s. refl; ends = tt }
+judged-answer n (some (Var v)) e = judged-var n v e
+judged-answer n (some (Const z)) e = judged-const n e z
 
-pub negative-high : (n : ℕ) {v : ℕ} (e : ℕ) → 2147483648 < v → Judged asNegative n v e (NotOperand Range)
-negative-high n e l = record { is = λ t d. neg-high t e d n refl l }
+-- a number above 2^32 is answered as the 2^32 that is read for it
+module _ (t : List ℕ) (n e : ℕ) {x : ℕ} (d : Good x ≡ numberOf t) where
+  read-as : capped (value t) ≡ x
+  read-as = spelt-good t d refl .1
+
+  capped-var : n ≤ 256 → operandAnswer n (asVar (some x)) e ≡ operandAnswer n (asVar (numeral t)) e
+  capped-var u = rw (numeral-good t d refl) (byOrder (value t) n
+      (λ l. let y : value t ≡ x = omega (arith, read-as) in rw y)
+      (λ l. sym (named-high {n = n} {x = x} e (omega (arith, read-as))) ∙ named-high {n = n} {x = value t} e l))
+
+  capped-const : operandAnswer n (asConst (some x)) e ≡ operandAnswer n (asConst (numeral t)) e
+  capped-const = rw (numeral-good t d refl) (byOrder 2147483647 (value t)
+      (λ l. sym (constant-high n {x = x} e (omega (arith, read-as))) ∙ constant-high n {x = value t} e l)
+      (λ l. let y : value t ≡ x = omega (arith, read-as) in rw y))
+
+  capped-negative : operandAnswer n (asNegative (some x)) e ≡ operandAnswer n (asNegative (numeral t)) e
+  capped-negative = rw (numeral-good t d refl) (byOrder 2147483648 (value t)
+      (λ l. sym (negative-high n {x = x} e (omega (arith, read-as))) ∙ negative-high n {x = value t} e l)
+      (λ l. let y : value t ≡ x = omega (arith, read-as) in rw y))
+
+of-capped : {kind : Option ℕ → Option Operand} {n x e : ℕ} {r : OperandAnswer}
+    → ((t : List ℕ) → Good x ≡ numberOf t → operandAnswer n (kind (some x)) e ≡ operandAnswer n (kind (numeral t)) e)
+    → r ≡ operandAnswer n (kind (some x)) e → Judged kind n x e r
+of-capped {kind} {n} {x} {e} k q = record { is = λ t d. rw (q, k t d) (judged-answer n (kind (numeral t)) e) }
+
+module _ {n x e : ℕ} {r : OperandAnswer} where
+  pub judged-named : n ≤ 256 → r ≡ operandAnswer n (asVar (some x)) e → Judged asVar n x e r
+  judged-named u q = of-capped (λ t d. capped-var t n e d u) q
+
+  pub judged-constant : r ≡ operandAnswer n (asConst (some x)) e → Judged asConst n x e r
+  judged-constant q = of-capped (λ t d. capped-const t n e d) q
+
+  pub judged-negative : r ≡ operandAnswer n (asNegative (some x)) e → Judged asNegative n x e r
+  judged-negative q = of-capped (λ t d. capped-negative t n e d) q
+
+  judged-any : (b : ℕ) → n ≤ 256 → r ≡ operandAnswer n (operandKind b (some x)) e → Judged (operandKind b) n x e r
+  judged-any b u q =
+      cases (eqb b 118)
+      (λ h. rw h (judged-named u (rw h at q)))
+      (λ h. cases (eqb b 45) (λ k. rw (h, k) (judged-negative (rw (h, k) at q))) (λ k. rw (h, k) (judged-constant (rw (h, k) at q))))
 
 module _ {s : List ℕ} {at : ℕ} {r : Numeral} (m : NumeralAt s at r) where
   -- the value of the digits at a place, where it ends
@@ -211,8 +247,8 @@ operand-kind-none : (b : ℕ) → operandKind b none ≡ none
 operand-kind-none b = cases (eqb b 118) (λ e. rw e) (λ e. cases (eqb b 45) (λ f. rw (e, f)) (λ f. rw (e, f)))
 
 module _ {s : List ℕ} {at b from : ℕ} {r : Numeral} (m : NumeralAt s from r) (h : at < length s) (q : b ≡ getD s at 0) (k : from ≡ at + skip b) where
-  pub by-is : {n x e : ℕ} {v : OperandAnswer} → r ≡ IsNumeral x e → Judged (operandKind b) n x e v → OperandIn n s at v
-  by-is z j = operand-by s at b h q (rw k at (as-is m z j))
+  pub by-is : {n x e : ℕ} {v : OperandAnswer} → r ≡ IsNumeral x e → n ≤ 256 → v ≡ operandAnswer n (operandKind b (some x)) e → OperandIn n s at v
+  by-is z u j = operand-by s at b h q (rw k at (as-is m z (judged-any b u j)))
 
   pub by-bad : (n : ℕ) → r ≡ BadNumeral → OperandIn n s at (NotOperand Misspelt)
   by-bad n z = operand-by s at b h q (rw k at (as-bad m (operandKind b) n (operand-kind-none b) z))
@@ -222,8 +258,8 @@ module _ {s : List ℕ} {at b from : ℕ} {r : Numeral} (m : NumeralAt s from r)
 
 -- the number behind `v`
 module _ {s : List ℕ} {at : ℕ} {r : Numeral} (m : NumeralAt s at r) where
-  pub named-is : {n x e : ℕ} {v : OperandAnswer} → r ≡ IsNumeral x e → Judged asVar n x e v → OperandAs asVar n s at v
-  named-is = as-is m
+  pub named-is : {n x e : ℕ} {v : OperandAnswer} → r ≡ IsNumeral x e → n ≤ 256 → v ≡ operandAnswer n (asVar (some x)) e → OperandAs asVar n s at v
+  named-is q u j = as-is m q (judged-named u j)
 
   pub named-bad : (n : ℕ) → r ≡ BadNumeral → OperandAs asVar n s at (NotOperand Misspelt)
   named-bad n = as-bad m asVar n refl
@@ -244,17 +280,6 @@ skip-minus b at h = rw h
 
 pub skip-none : (b at : ℕ) → (b ≡ 118 → ⊥) → (b ≡ 45 → ⊥) → at ≡ at + skip b
 skip-none b at h k = rw (ne-eqb b 118 h, ne-eqb b 45 k, add-zero at)
-
--- what the digits are
-module _ (b : ℕ) {n x e : ℕ} {r : OperandAnswer} where
-  pub any-named : b ≡ 118 → Judged asVar n x e r → Judged (operandKind b) n x e r
-  any-named h a = rw h a
-
-  pub any-minus : b ≡ 45 → Judged asNegative n x e r → Judged (operandKind b) n x e r
-  any-minus h a = rw h a
-
-  pub any-plain : (b ≡ 118 → ⊥) → (b ≡ 45 → ⊥) → Judged asConst n x e r → Judged (operandKind b) n x e r
-  any-plain h k a = rw (ne-eqb b 118 h, ne-eqb b 45 k) a
 
 pub operand-none : (n : ℕ) {s : List ℕ} {at : ℕ} → length s ≤ at → OperandIn n s at (NotOperand Ended)
 unfolding run

@@ -8,10 +8,11 @@ ghost use Prim.Native.Nat.{_+_, _-_, _≤_, _<_};
 ghost use mathlib.Core.Path.{_≡_};
 ghost use lib.IntN.{pos, negsuc};
 ghost use lib.ListN.{length};
+ghost use mathlib.Core.Option.{some};
 ghost use Rattle.text.specs.Value.{asVar, asConst, asNegative};
 ghost use mathlib.Core.List.{[], _∷_};
 ghost use Rattle.scan.specs.Place.{AfterKey};
-ghost use Rattle.operands.specs.Answer.{skip, operandKind, Judged, OperandAs, OperandIn, OperandAt, VariableSaid, VariableIn, VariableAt};
+ghost use Rattle.operands.specs.Answer.{operandAnswer, skip, operandKind, OperandAs, OperandIn, OperandAt, VariableSaid, VariableIn, VariableAt};
 
 // An operand and the place after it, or the fault.
 pub enum Operand {
@@ -36,7 +37,7 @@ fn positive(x: u64) -> i32
 // A variable: the number x behind `v`.
 pub fn named_operand(x: u64, e: usize, vars: u64) -> Operand
     requires { ⌜ vars ≤ 256 ⌝ }
-    ensures { λ r. ⌜ Judged asVar vars x e r ⌝ }
+    ensures { λ r. ⌜ r ≡ operandAnswer vars (asVar (some x)) e ⌝ }
 {
     if x < vars {
         return Operand::Is(table::Operand::Var(x as u8), e);
@@ -45,7 +46,7 @@ pub fn named_operand(x: u64, e: usize, vars: u64) -> Operand
 }
 
 pub fn constant_operand(x: u64, e: usize, vars: u64) -> Operand
-    ensures { λ r. ⌜ Judged asConst vars x e r ⌝ }
+    ensures { λ r. ⌜ r ≡ operandAnswer vars (asConst (some x)) e ⌝ }
 {
     if x <= 2147483647 {
         return Operand::Is(table::Operand::Const(positive(x)), e);
@@ -55,7 +56,7 @@ pub fn constant_operand(x: u64, e: usize, vars: u64) -> Operand
 
 // The number x behind `-`.
 pub fn negative_operand(x: u64, e: usize, vars: u64) -> Operand
-    ensures { λ r. ⌜ Judged asNegative vars x e r ⌝ }
+    ensures { λ r. ⌜ r ≡ operandAnswer vars (asNegative (some x)) e ⌝ }
 {
     if x == 0 {
         return Operand::Not(text::Fault::Misspelt);
@@ -82,7 +83,7 @@ fn digits_from(b: u8, at: usize) -> usize
 
 fn any_operand(b: u8, x: u64, e: usize, vars: u64) -> Operand
     requires { ⌜ vars ≤ 256 ⌝ }
-    ensures { λ r. ⌜ Judged (operandKind b) vars x e r ⌝ }
+    ensures { λ r. ⌜ r ≡ operandAnswer vars (operandKind b (some x)) e ⌝ }
 {
     if b == 118 {
         return named_operand(x, e, vars);

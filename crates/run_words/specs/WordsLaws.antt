@@ -4,9 +4,9 @@ use mathlib.Core.Path.{_≡_, refl, sym, subst, _∙_, ap}
 use mathlib.Core.List.{List, [], _∷_}
 use mathlib.Core.Option.{none, some}
 use native.Mathlib.Omega.{arith}
-use lib.ListN.{length, take, replicate}
+use lib.ListN.{length, take, replicate, length-replicate}
 use lib.Seq.{take-all}
-use lib.IntN.{ℤ}
+use lib.IntN.{ℤ, pos}
 use Rattle.machine.specs.Program.{schedule, values, most, log, further, Words, next, saidUpTo, saidValue, saidItems, mostItems, mostNodes, mostBytes, said, wordLine, runText, printedFor, runPrinted}
 use Rattle.put.specs.Put.{Put}
 use Rattle.log_word.specs.declared.Rest.{Rest}
@@ -46,6 +46,10 @@ fits h e = rw e at h
 pub within : (b : ℕ) {k : ℕ} {l : List ℕ} → l ≡ zs b → k ≤ b → k ≤ length l
 within b {k} {l} e h = let c : length l ≡ b = ap length e ∙ count-zeros b in omega arith
 
+-- how many places a buffer has
+room : {A : Type 0} (b : ℕ) (x : A) {l : List A} → l ≡ replicate b x → b ≡ length l
+room {A} b x e = sym (ap length e ∙ length-replicate {A = A} b x)
+
 -- ---- what is printed, word by word
 
 module _ (s : List ℕ) where
@@ -84,12 +88,12 @@ module _ (s : List ℕ) where
     pub values-missing : {k r : ℕ} {b a : List ℕ} → n ≡ 0 → Put k b 0 (wordLine values) a r → Put k b 0 (printedFor valuesWords s) a r
     values-missing h p = printed-as s (next-missing values (saidItems mostItems saidValue) (λ vs ys. fromMost ks vs ys) x (c ∷ d ∷ []) n h) p
 
-    pub values-unread : {k r : ℕ} {b a : List ℕ} → {i : ℕ} → mostItems ≡ i → (n ≡ 0 → ⊥) → saidItems i saidValue x ≡ none → Put k b 0 (wordLine values) a r → Put k b 0 (printedFor valuesWords s) a r
-    values-unread q h e p = printed-as s (next-unread values (saidItems mostItems saidValue) (λ vs ys. fromMost ks vs ys) x (c ∷ d ∷ []) n h (rw q e)) p
+    pub values-unread : {k r : ℕ} {b a : List ℕ} → {l : List ℤ} → l ≡ replicate mostItems (pos 0) → (n ≡ 0 → ⊥) → saidItems (length l) saidValue x ≡ none → Put k b 0 (wordLine values) a r → Put k b 0 (printedFor valuesWords s) a r
+    values-unread q h e p = printed-as s (next-unread values (saidItems mostItems saidValue) (λ vs ys. fromMost ks vs ys) x (c ∷ d ∷ []) n h (rw (← room mostItems (pos 0) q) at e)) p
 
-    pub values-said : {k r : ℕ} {b a : List ℕ} → {i : ℕ} {vs : List ℤ} → mostItems ≡ i → (n ≡ 0 → ⊥) → saidItems i saidValue x ≡ some vs → Put k b 0 (printedFor (fromMost ks vs (given (n - 1) (c ∷ d ∷ []))) s) a r
+    pub values-said : {k r : ℕ} {b a : List ℕ} → {l : List ℤ} {vs : List ℤ} → l ≡ replicate mostItems (pos 0) → (n ≡ 0 → ⊥) → saidItems (length l) saidValue x ≡ some vs → Put k b 0 (printedFor (fromMost ks vs (given (n - 1) (c ∷ d ∷ []))) s) a r
         → Put k b 0 (printedFor valuesWords s) a r
-    values-said q h e p = printed-as s (next-said values (saidItems mostItems saidValue) (λ vs ys. fromMost ks vs ys) x (c ∷ d ∷ []) n h (rw q e)) p
+    values-said q h e p = printed-as s (next-said values (saidItems mostItems saidValue) (λ vs ys. fromMost ks vs ys) x (c ∷ d ∷ []) n h (rw (← room mostItems (pos 0) q) at e)) p
 
   module _ (y x c d : List ℕ) (n : ℕ) where
     abbrev allWords : List (List ℕ)
@@ -101,9 +105,9 @@ module _ (s : List ℕ) where
     pub schedule-missing : {k r : ℕ} {b a : List ℕ} → n ≡ 0 → Put k b 0 (wordLine schedule) a r → Put k b 0 (runPrinted allWords s) a r
     schedule-missing h p = whole (printed-as s (next-missing schedule (saidItems mostItems (saidUpTo 255)) (λ ks ys. fromValues ks ys) y (x ∷ c ∷ d ∷ []) n h) p)
 
-    pub schedule-unread : {k r : ℕ} {b a : List ℕ} → {i : ℕ} → mostItems ≡ i → (n ≡ 0 → ⊥) → saidItems i (saidUpTo 255) y ≡ none → Put k b 0 (wordLine schedule) a r → Put k b 0 (runPrinted allWords s) a r
-    schedule-unread q h e p = whole (printed-as s (next-unread schedule (saidItems mostItems (saidUpTo 255)) (λ ks ys. fromValues ks ys) y (x ∷ c ∷ d ∷ []) n h (rw q e)) p)
+    pub schedule-unread : {k r : ℕ} {b a : List ℕ} → {l : List ℕ} → l ≡ replicate mostItems 0 → (n ≡ 0 → ⊥) → saidItems (length l) (saidUpTo 255) y ≡ none → Put k b 0 (wordLine schedule) a r → Put k b 0 (runPrinted allWords s) a r
+    schedule-unread q h e p = whole (printed-as s (next-unread schedule (saidItems mostItems (saidUpTo 255)) (λ ks ys. fromValues ks ys) y (x ∷ c ∷ d ∷ []) n h (rw (← room mostItems 0 q) at e)) p)
 
-    pub schedule-said : {k r : ℕ} {b a : List ℕ} → {i : ℕ} {ks : List ℕ} → mostItems ≡ i → (n ≡ 0 → ⊥) → saidItems i (saidUpTo 255) y ≡ some ks → Put k b 0 (printedFor (fromValues ks (given (n - 1) (x ∷ c ∷ d ∷ []))) s) a r
+    pub schedule-said : {k r : ℕ} {b a : List ℕ} → {l : List ℕ} {ks : List ℕ} → l ≡ replicate mostItems 0 → (n ≡ 0 → ⊥) → saidItems (length l) (saidUpTo 255) y ≡ some ks → Put k b 0 (printedFor (fromValues ks (given (n - 1) (x ∷ c ∷ d ∷ []))) s) a r
         → Put k b 0 (runPrinted allWords s) a r
-    schedule-said q h e p = whole (printed-as s (next-said schedule (saidItems mostItems (saidUpTo 255)) (λ ks ys. fromValues ks ys) y (x ∷ c ∷ d ∷ []) n h (rw q e)) p)
+    schedule-said q h e p = whole (printed-as s (next-said schedule (saidItems mostItems (saidUpTo 255)) (λ ks ys. fromValues ks ys) y (x ∷ c ∷ d ∷ []) n h (rw (← room mostItems 0 q) at e)) p)

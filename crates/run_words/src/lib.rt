@@ -5,6 +5,7 @@ use log_word::Rest;
 ghost use mathlib.Core.Path.{_≡_};
 ghost use mathlib.Core.List.{_∷_, [], _++_};
 ghost use Prim.Native.Nat.{_≤_};
+ghost use lib.IntN.{pos};
 ghost use lib.ListN.{length, replicate};
 ghost use Rattle.machine.specs.Program.{schedule, values, most, log, further, wordLine, printedFor, runPrinted};
 ghost use Rattle.put.specs.Put.{Put};
@@ -80,13 +81,13 @@ fn log_buffer() -> [u8; 524288]
 }
 
 fn task_buffer() -> [u8; 65536]
-    ensures { λ r. ⌜ 65536 ≡ length r ⌝ }
+    ensures { λ r. ⌜ r ≡ replicate 65536 0 ⌝ }
 {
     [0; 65536]
 }
 
 fn value_buffer() -> [i32; 65536]
-    ensures { λ r. ⌜ 65536 ≡ length r ⌝ }
+    ensures { λ r. ⌜ r ≡ replicate 65536 (pos 0) ⌝ }
 {
     [0; 65536]
 }

@@ -1,14 +1,16 @@
 -- What the readers of words answer. Of bytes t that end at e; and of the field at a place of a text.
-use Prim.Native.Nat.{ℕ, _-_, _<_}
+use Prim.Native.Nat.{ℕ, _+_, _-_, _<_}
 use mathlib.Core.Path.{_≡_}
 use mathlib.Core.Bool.{Bool, true, false}
 use mathlib.Core.List.{List, [], _∷_}
 use mathlib.Core.Option.{some}
+use lib.Dec.{ltb}
 use lib.ListN.{length, take, drop}
+use Rattle.table.specs.Mask.{pick}
 use Rattle.table.specs.declared.Op.{Op}
 use Rattle.table.specs.declared.Op.the-variants.{Add, Sub, And, Or, Xor, Shr, Lt, Eq}
 use Rattle.text.specs.Number.{bytes}
-use Rattle.text.specs.Value.{NodeKind, start, set, test, read, call, wait, signal, send, recv, assert, out, return, choice, kind, operation, kindWord, opWord, named, said}
+use Rattle.text.specs.Value.{NodeKind, start, set, test, read, call, wait, signal, send, recv, assert, out, return, choice, kind, operation, kindWord, opWord, same, named, said}
 use Rattle.text.specs.Line.{Outcome, took, refused, judged, valueOf, fieldOf}
 use Rattle.scan.specs.Place.{RunEnd}
 use Rattle.words.specs.declared.Quick.{Quick}
@@ -117,13 +119,17 @@ pub record KindIn (c : Bool) (j : ℕ) (s : List ℕ) (at : ℕ) (r : KindAnswer
   pub same : (l : ℕ) → kindIn l s r ≡ valueOf (kind c j) l (drop at s)
   pub within : kindWithin s r
 
--- a kind whose word stands at a place
-abbrev pub kindStands : List ℕ → ℕ → Quick → Type 0
-kindStands s at (IsQuick k e) = WordTo s at e (kindWord (kindOf k)) × (plain k ≡ true)
-kindStands s at NotQuick = Unit {0}
+-- some bytes stand at a place
+abbrev pub standsAt : List ℕ → List ℕ → ℕ → Bool
+standsAt w s at = same w (take (length w) (drop at s))
 
-pub record KindStands (s : List ℕ) (at : ℕ) (r : Quick) : Type 0 where
-  pub is : kindStands s at r
+-- the kinds that are told by their bytes and the space behind, where five bytes or more are left
+unfoldable pub quickKind : List ℕ → ℕ → Quick
+quickKind s at =
+    pick (ltb (length s - at) 5) NotQuick
+    (pick (standsAt (bytes "set ") s at) (IsQuick Set (at + 3))
+    (pick (standsAt (bytes "out ") s at) (IsQuick Out (at + 3))
+    (pick (standsAt (bytes "test ") s at) (IsQuick Test (at + 4)) NotQuick)))
 
 pub record KindAt (c : Bool) (j : ℕ) (s : List ℕ) (at : ℕ) (r : KindAnswer) : Type 0 where
   pub same : (l : ℕ) → kindIn l s r ≡ fieldOf (bytes " kind=") (kind c j) l (drop at s)

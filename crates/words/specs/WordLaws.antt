@@ -1,19 +1,23 @@
 -- Laws of the readers of words: each says what a step of the code shows.
 use Prim.Native.Nat.{ℕ, zero, suc, _+_, _-_, _≤_, _<_}
-use mathlib.Core.Path.{_≡_, refl, _∙_, ap}
-use mathlib.Core.List.{List, [], _∷_}
+use mathlib.Core.Path.{_≡_, refl, sym, _∙_, ap}
+use mathlib.Core.List.{List, [], _∷_, _++_}
 use mathlib.Core.Option.{Option, none, some}
 use mathlib.Core.Bool.{Bool, true, false, false≢true}
 use native.Mathlib.Omega.{arith}
 use native.Mathlib.Numerals.{add-one}
-use lib.ListN.{length, take, drop, getD}
-use lib.Seq.{drop-cons}
+use lib.ListN.{length, take, drop, getD, take-append-drop}
+use lib.Dec.{ltb}
+use lib.Seq.{drop-cons, drop-drop}
+use borrow.Author.Tests.{lt-ltb, le-ltb, ne-eqb}
 use Rattle.table.specs.declared.Op.{Op}
 use Rattle.table.specs.declared.Op.the-variants.{Add, Sub, And, Or, Xor, Shr, Lt, Eq}
 use Rattle.text.specs.declared.Fault.{Fault}
 use Rattle.text.specs.declared.Fault.the-variants.{Form, Ended, Index}
 use Rattle.text.specs.Number.{bytes}
 use Rattle.text.specs.Value.{NodeKind, start, read, choice, kind, operation, kindWord, opWord, same, named, said, unsaid, kindFault, opFault, check, kinds, ops}
+use Rattle.text.specs.NumberLaws.{byOrder, cases}
+use Rattle.text.specs.ValueLaws.{same-eq}
 use Rattle.text.specs.Line.{judged, run as count, stops, fieldOf}
 use Rattle.scan.specs.declared.Found.{Found}
 use Rattle.scan.specs.declared.Found.the-variants.{At, Differs, Broken}
@@ -31,7 +35,7 @@ use Rattle.words.specs.declared.Operation.{Operation}
 use Rattle.words.specs.declared.Operation.the-variants.{Is as IsOp, Not as NotOp}
 use Rattle.scan.specs.Place.{AfterKey, quadNumber, Bytes, QuadAt, ValueAt, TokenAt, refusalOf}
 use Rattle.scan.specs.PlaceLaws.{quad-bytes, count-more, count-none, value-ends, value-within, token-within}
-use Rattle.words.specs.Answer.{WordTo, choiceEnds, choiceWithin, ChoiceSaid, ChoiceAt, kindOf, kindEnds, kindWithin, plain, KindJudged, Later, KindSaid, KindIn, KindStands, KindAt, opEnds, opWithin, calculates, OpJudged, OpSaid, OpIn, OpAt}
+use Rattle.words.specs.Answer.{WordTo, choiceEnds, choiceWithin, ChoiceSaid, ChoiceAt, kindOf, kindEnds, kindWithin, plain, KindJudged, Later, KindSaid, KindIn, standsAt, quickKind, KindAt, opEnds, opWithin, calculates, OpJudged, OpSaid, OpIn, OpAt}
 
 -- ---- a word that four bytes show
 step : (s : List ℕ) (i k : ℕ) → i < length s → k ≡ i + 1 → drop i s ≡ getD s i 0 ∷ drop k s
@@ -45,10 +49,7 @@ four-part s at h =
     let v = step s (at + 3) (at + 4) (omega arith) (omega arith) in
     p ∙ ap (λ (t : List ℕ). getD s at 0 ∷ t) (q ∙ ap (λ (t : List ℕ). getD s (at + 1) 0 ∷ t) (u ∙ ap (λ (t : List ℕ). getD s (at + 2) 0 ∷ t) v))
 
-module _ {s : List ℕ} {at r : ℕ} (m : QuadAt s at r) (h : 4 ≤ length s - at) {a b c d x : ℕ} (w : Bytes a b c d) (g : x ≡ quadNumber a b c d) (e : r ≡ x) where
-  parts : drop at s ≡ a ∷ b ∷ c ∷ d ∷ drop (at + 4) s
-  parts = let z = quad-bytes m w (e ∙ g) in rw (z .0, z .1, z .2, z .3) (four-part s at h)
-
+module _ {s : List ℕ} {at : ℕ} (h : 4 ≤ length s - at) {a b c d : ℕ} (parts : drop at s ≡ a ∷ b ∷ c ∷ d ∷ drop (at + 4) s) where
   two-letters : c ≡ 32 → stops a ≡ false → stops b ≡ false → WordTo s at (at + 2) (a ∷ b ∷ [])
   two-letters q u v =
       let k : count (a ∷ b ∷ c ∷ d ∷ drop (at + 4) s) ≡ 2 = count-more a _ u ∙ ap suc (count-more b _ v ∙ ap suc (count-none c _ (rw q))) in
@@ -74,6 +75,20 @@ module _ {s : List ℕ} {at r : ℕ} (m : QuadAt s at r) (h : 4 ≤ length s - a
       let z : count (drop at s) ≡ 4 = ap count parts ∙ k in
       let n : at + 4 - at ≡ 4 = omega arith in
       record { run = record { same = omega (arith, z); from = omega arith; within = omega arith }; inside = omega arith; same = rw (n, parts) }
+
+module _ {s : List ℕ} {at r : ℕ} (m : QuadAt s at r) (h : 4 ≤ length s - at) {a b c d x : ℕ} (w : Bytes a b c d) (g : x ≡ quadNumber a b c d) where
+  parts : r ≡ x → drop at s ≡ a ∷ b ∷ c ∷ d ∷ drop (at + 4) s
+  parts e = let z = quad-bytes m w (e ∙ g) in rw (z .0, z .1, z .2, z .3) (four-part s at h)
+
+  -- another four bytes
+  other-parts : (r ≡ x → ⊥) → {t : List ℕ} → (drop at s ≡ a ∷ b ∷ c ∷ d ∷ t → ⊥)
+  other-parts n p =
+      let q : getD s at 0 ∷ getD s (at + 1) 0 ∷ getD s (at + 2) 0 ∷ getD s (at + 3) 0 ∷ drop (at + 4) s ≡ a ∷ b ∷ c ∷ d ∷ _ = sym (four-part s at h) ∙ p in
+      let q0 : getD s at 0 ≡ a = cc in
+      let q1 : getD s (at + 1) 0 ≡ b = cc in
+      let q2 : getD s (at + 2) 0 ≡ c = cc in
+      let q3 : getD s (at + 3) 0 ≡ d = cc in
+      n (omega (arith, g, m .same, q0, q1, q2, q3))
 
 -- ---- one of two words
 module _ (a b t : List ℕ) (e : ℕ) {x : Bool} (p : x ≡ same a t) where
@@ -218,9 +233,45 @@ named-kind Assert = refl
 named-kind Out = refl
 named-kind Return = refl
 
-module _ {s : List ℕ} {at : ℕ} {r : Quick} (m : KindStands s at r) {k : Word} {e : ℕ} (q : r ≡ IsQuick k e) where
+-- the bytes that stand at a place
+stands-parts : (w s : List ℕ) (at : ℕ) → standsAt w s at ≡ true → drop at s ≡ w ++ drop (length w) (drop at s)
+stands-parts w s at h = sym (take-append-drop (length w) (drop at s)) ∙ ap (λ (t : List ℕ). t ++ drop (length w) (drop at s)) (sym (same-eq w _ h))
+
+-- a kind whose word stands at a place
+abbrev kindStands : List ℕ → ℕ → Quick → Type 0
+kindStands s at (IsQuick k e) = WordTo s at e (kindWord (kindOf k)) × (plain k ≡ true)
+kindStands s at NotQuick = Unit {0}
+
+module _ (s : List ℕ) (at : ℕ) (h : 5 ≤ length s - at) where
+  four-stand : (a b c d : ℕ) → standsAt (a ∷ b ∷ c ∷ d ∷ []) s at ≡ true → drop at s ≡ a ∷ b ∷ c ∷ d ∷ drop (at + 4) s
+  four-stand a b c d p = rw (drop-drop 4 at s) at (stands-parts (a ∷ b ∷ c ∷ d ∷ []) s at p)
+
+  five-stand : (a b c d e : ℕ) → standsAt (a ∷ b ∷ c ∷ d ∷ e ∷ []) s at ≡ true → (drop at s ≡ a ∷ b ∷ c ∷ d ∷ drop (at + 4) s) × (getD s (at + 4) 0 ≡ e)
+  five-stand a b c d e p =
+      let q : drop at s ≡ a ∷ b ∷ c ∷ d ∷ e ∷ drop 5 (drop at s) = stands-parts (a ∷ b ∷ c ∷ d ∷ e ∷ []) s at p in
+      let f = four-part s at (omega arith) in
+      let g = step s (at + 4) (at + 5) (omega arith) (omega arith) in
+      (cc, cc)
+
+  quick-long : kindStands s at (quickKind s at)
+  unfolding quickKind
+  quick-long =
+      rw (le-ltb (length s - at) 5 h)
+      (cases (standsAt (bytes "set ") s at)
+      (λ p. rw p (three-letters (omega arith) (four-stand 115 101 116 32 p) refl refl refl refl, refl))
+      (λ p. cases (standsAt (bytes "out ") s at)
+      (λ q. rw (p, q) (three-letters (omega arith) (four-stand 111 117 116 32 q) refl refl refl refl, refl))
+      (λ q. cases (standsAt (bytes "test ") s at)
+      (λ u. rw (p, q, u) (let f = five-stand 116 101 115 116 32 u in (four-letters (omega arith) (f .0) h (f .1) refl refl refl refl, refl)))
+      (λ u. rw (p, q, u) tt))))
+
+quick-stands : (s : List ℕ) (at : ℕ) → kindStands s at (quickKind s at)
+unfolding quickKind
+quick-stands s at = byOrder (length s - at) 5 (λ h. rw (lt-ltb (length s - at) 5 h) tt) (λ h. quick-long s at h)
+
+module _ (s : List ℕ) (at : ℕ) {r : Quick} (m : r ≡ quickKind s at) {k : Word} {e : ℕ} (q : r ≡ IsQuick k e) where
   quick-word : WordTo s at e (kindWord (kindOf k)) × (plain k ≡ true)
-  quick-word = rw q at (m .is)
+  quick-word = rw (← m, q) at (quick-stands s at)
 
   pub quick-plain : plain k ≡ true
   quick-plain = quick-word .1
@@ -236,18 +287,45 @@ module _ {s : List ℕ} {at : ℕ} {r : Quick} (m : KindStands s at r) {k : Word
       reach (IsKind v p) h = rw h (quick-word .0 .inside)
       reach (NotKind f) h = tt
 
-pub quick-none : (s : List ℕ) (at : ℕ) → KindStands s at NotQuick
-quick-none s at = record { is = tt }
+pub quick-short : (s : List ℕ) (at : ℕ) → length s - at < 5 → NotQuick ≡ quickKind s at
+unfolding quickKind
+quick-short s at h = rw (lt-ltb (length s - at) 5 h)
 
-module _ {s : List ℕ} {at r x : ℕ} (m : QuadAt s at r) (h : 5 ≤ length s - at) where
-  pub quick-set : Bytes 115 101 116 32 → x ≡ quadNumber 115 101 116 32 → r ≡ x → KindStands s at (IsQuick Set (at + 3))
-  quick-set b g e = record { is = (three-letters m (omega arith) b g e refl refl refl refl, refl) }
+module _ {s : List ℕ} {at r : ℕ} (m : QuadAt s at r) (h : 5 ≤ length s - at) where
+  long : ltb (length s - at) 5 ≡ false
+  long = le-ltb (length s - at) 5 h
 
-  pub quick-out : Bytes 111 117 116 32 → x ≡ quadNumber 111 117 116 32 → r ≡ x → KindStands s at (IsQuick Out (at + 3))
-  quick-out b g e = record { is = (three-letters m (omega arith) b g e refl refl refl refl, refl) }
+  module _ {x : ℕ} where
+    pub quick-set : Bytes 115 101 116 32 → x ≡ quadNumber 115 101 116 32 → r ≡ x → IsQuick Set (at + 3) ≡ quickKind s at
+    unfolding quickKind same
+    quick-set b g e = rw (long, parts m (omega arith) b g e)
 
-  pub quick-test : Bytes 116 101 115 116 → x ≡ quadNumber 116 101 115 116 → r ≡ x → getD s (at + 4) 0 ≡ 32 → KindStands s at (IsQuick Test (at + 4))
-  quick-test b g e d = record { is = (four-letters m (omega arith) b g e h d refl refl refl refl, refl) }
+    pub quick-out : Bytes 111 117 116 32 → x ≡ quadNumber 111 117 116 32 → r ≡ x → IsQuick Out (at + 3) ≡ quickKind s at
+    unfolding quickKind same
+    quick-out b g e = rw (long, parts m (omega arith) b g e)
+
+    module _ (b : Bytes 116 101 115 116) (g : x ≡ quadNumber 116 101 115 116) (e : r ≡ x) where
+      five : drop at s ≡ 116 ∷ 101 ∷ 115 ∷ 116 ∷ getD s (at + 4) 0 ∷ drop (at + 5) s
+      five = rw (← step s (at + 4) (at + 5) (omega arith) (omega arith)) (parts m (omega arith) b g e)
+
+      pub quick-test : getD s (at + 4) 0 ≡ 32 → IsQuick Test (at + 4) ≡ quickKind s at
+      unfolding quickKind same
+      quick-test d = rw (long, five, d)
+
+      pub quick-longer : (getD s (at + 4) 0 ≡ 32 → ⊥) → NotQuick ≡ quickKind s at
+      unfolding quickKind same
+      quick-longer d = rw (long, five, ne-eqb 32 (getD s (at + 4) 0) (λ z. d (sym z)))
+
+  other : {a b c d x : ℕ} → Bytes a b c d → x ≡ quadNumber a b c d → (r ≡ x → ⊥) → (t : List ℕ) → standsAt (a ∷ b ∷ c ∷ d ∷ t) s at ≡ false
+  other {a} {b} {c} {d} w g n t = cases (standsAt (a ∷ b ∷ c ∷ d ∷ t) s at)
+      (λ y. absurd (other-parts m (omega arith) w g n (stands-parts (a ∷ b ∷ c ∷ d ∷ t) s at y)))
+      (λ y. y)
+
+  pub quick-other : {x y z : ℕ} → Bytes 115 101 116 32 → x ≡ quadNumber 115 101 116 32 → (r ≡ x → ⊥)
+      → Bytes 111 117 116 32 → y ≡ quadNumber 111 117 116 32 → (r ≡ y → ⊥)
+      → Bytes 116 101 115 116 → z ≡ quadNumber 116 101 115 116 → (r ≡ z → ⊥) → NotQuick ≡ quickKind s at
+  unfolding quickKind
+  quick-other b g n b′ g′ n′ b″ g″ n″ = rw (long, other b g n [], other b′ g′ n′ [], other b″ g″ n″ (32 ∷ []))
 
 -- ---- operations
 calculates-fault : (o : Op) → calculates o ≡ true → opFault true o ≡ some Form
@@ -341,25 +419,25 @@ op-stands {s} {at} {e} {o} w {x} {v} d =
 
 module _ {s : List ℕ} {at r x : ℕ} (m : QuadAt s at r) (h : 4 ≤ length s - at) where
   pub quick-add : Bytes 97 100 100 32 → x ≡ quadNumber 97 100 100 32 → r ≡ x → OpIn false s at (IsOp Add (at + 3))
-  quick-add b g e = op-stands (three-letters m h b g e refl refl refl refl) (calculation-is (at + 3) refl)
+  quick-add b g e = op-stands (three-letters h (parts m h b g e) refl refl refl refl) (calculation-is (at + 3) refl)
 
   pub quick-sub : Bytes 115 117 98 32 → x ≡ quadNumber 115 117 98 32 → r ≡ x → OpIn false s at (IsOp Sub (at + 3))
-  quick-sub b g e = op-stands (three-letters m h b g e refl refl refl refl) (calculation-is (at + 3) refl)
+  quick-sub b g e = op-stands (three-letters h (parts m h b g e) refl refl refl refl) (calculation-is (at + 3) refl)
 
   pub quick-and : Bytes 97 110 100 32 → x ≡ quadNumber 97 110 100 32 → r ≡ x → OpIn false s at (IsOp And (at + 3))
-  quick-and b g e = op-stands (three-letters m h b g e refl refl refl refl) (calculation-is (at + 3) refl)
+  quick-and b g e = op-stands (three-letters h (parts m h b g e) refl refl refl refl) (calculation-is (at + 3) refl)
 
   pub quick-xor : Bytes 120 111 114 32 → x ≡ quadNumber 120 111 114 32 → r ≡ x → OpIn false s at (IsOp Xor (at + 3))
-  quick-xor b g e = op-stands (three-letters m h b g e refl refl refl refl) (calculation-is (at + 3) refl)
+  quick-xor b g e = op-stands (three-letters h (parts m h b g e) refl refl refl refl) (calculation-is (at + 3) refl)
 
   pub quick-shr : Bytes 115 104 114 32 → x ≡ quadNumber 115 104 114 32 → r ≡ x → OpIn false s at (IsOp Shr (at + 3))
-  quick-shr b g e = op-stands (three-letters m h b g e refl refl refl refl) (calculation-is (at + 3) refl)
+  quick-shr b g e = op-stands (three-letters h (parts m h b g e) refl refl refl refl) (calculation-is (at + 3) refl)
 
   pub quick-less : Bytes 108 116 32 97 → x ≡ quadNumber 108 116 32 97 → r ≡ x → OpIn true s at (IsOp Lt (at + 2))
-  quick-less b g e = op-stands (two-letters m h b g e refl refl refl) (op-less true (at + 2))
+  quick-less b g e = op-stands (two-letters h (parts m h b g e) refl refl refl) (op-less true (at + 2))
 
   pub quick-equal : Bytes 101 113 32 97 → x ≡ quadNumber 101 113 32 97 → r ≡ x → OpIn true s at (IsOp Eq (at + 2))
-  quick-equal b g e = op-stands (two-letters m h b g e refl refl refl) (op-equal true (at + 2))
+  quick-equal b g e = op-stands (two-letters h (parts m h b g e) refl refl refl) (op-equal true (at + 2))
 
 pub in-set : {x : Bool} {s : List ℕ} {at : ℕ} {v : Operation} → x ≡ false → OpIn false s at v → OpIn x s at v
 in-set h m = rw h m

@@ -4,7 +4,7 @@ ghost use mathlib.Core.Path.{_≡_};
 ghost use mathlib.Core.Bool.{true, false};
 ghost use lib.ListN.{length};
 ghost use Rattle.text.specs.Value.{kinds, ops};
-ghost use Rattle.words.specs.Answer.{ChoiceSaid, ChoiceAt, kindOf, KindJudged, plain, Later, KindSaid, middleKinds, lateKinds, KindIn, KindStands, KindAt, calculates, OpJudged, OpSaid, lateOps, OpIn, OpAt};
+ghost use Rattle.words.specs.Answer.{ChoiceSaid, ChoiceAt, kindOf, KindJudged, plain, Later, KindSaid, middleKinds, lateKinds, KindIn, quickKind, KindAt, calculates, OpJudged, OpSaid, lateOps, OpIn, OpAt};
 
 // One of two words and the place after it, or the fault.
 pub enum Choice {
@@ -173,7 +173,7 @@ fn any_kind(s: &[u8], at: usize, closed: bool, j: u8) -> Kind
 
 fn quick_kind(s: &[u8], at: usize) -> Quick
     requires { ⌜ at ≤ length (now s) ⌝ }
-    ensures { λ r. ⌜ KindStands (now (s .entry)) at r ⌝ }
+    ensures { λ r. ⌜ r ≡ quickKind (now (s .entry)) at ⌝ }
 {
     if s.len() - at < 5 {
         return Quick::Not;

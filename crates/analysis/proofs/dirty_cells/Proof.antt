@@ -2,8 +2,9 @@ use Prim.Native.Nat.{_≤_, _-_}
 use mathlib.Core.Path.{_≡_, refl}
 use Rattle.analysis.specs.Ready.{Ready}
 use Rattle.analysis.specs.StepLaws.{top-is}
-use Rattle.analysis.specs.Plans.{Scanned, Known, scanned-start, scanned-next, scanned-known, scanned-reads}
+use Rattle.analysis.specs.Plans.{plans-are, Scanned, Known, scanned-start, scanned-next, scanned-known, scanned-reads}
 use Rattle.analysis.specs.Work.{WorkUpto, Work, Pending, leftOf, work-start, work-top, work-end}
+use Rattle.analysis.specs.WorklistLaws.{enter-moves, pending-right}
 use borrow.Author.Needs.{needs}
 use native.Mathlib.Omega.{arith}
 use Rattle.analysis.proofs.dirty_cells.Statement.{statement}
@@ -59,7 +60,11 @@ loop-less : tie.Need-loop-less Inv-loop μ-loop Inv-loop2 μ-loop2 Inv-loop3 μ-
 loop-less c = search needs
 
 loop-again : tie.Need-loop-again Inv-loop μ-loop Inv-loop2 μ-loop2 Inv-loop3 μ-loop3
-loop-again c = scanned-next (c .before .before .before .before .before .before .loop .p) (c .before .before .before .before .before .loop-test .taken) (c .plan .ensures .1 .1) (c .plan .ensures .1 .0) (c .plan .ensures .0) (c .before .before .before .before .before .before .loop .inv)
+loop-again c =
+    let h = c .before .before .before .before .before .before .loop in
+    let k = c .before .before .before .before .before .loop-test .taken in
+    let e = c .plan .ensures in
+    scanned-next (h .p) k (e .1 .1 .1 .1) (e .1 .1 .1 .0) (plans-are _ (h .p) (h .uses) (h .sets) (h .tos) k (e .0) (e .1 .0) (e .1 .1 .0)) (h .inv)
 
 cast-tasks : tie.Need-cast-tasks Inv-loop μ-loop Inv-loop2 μ-loop2 Inv-loop3 μ-loop3
 cast-tasks c = search needs
@@ -94,13 +99,17 @@ loop2-less : tie.Need-loop2-less Inv-loop μ-loop Inv-loop2 μ-loop2 Inv-loop3 �
 loop2-less c = omega (arith, c .before .before .before .before .before .before .before .loop2-test .taken)
 
 loop2-again : tie.Need-loop2-again Inv-loop μ-loop Inv-loop2 μ-loop2 Inv-loop3 μ-loop3
-loop2-again c = let h = c .before .before .before .before .before .before .before .before .loop2 in (h .inv .0, (omega (arith, c .before .before .before .before .before .before .before .loop2-test .taken), λ o. work-top _ o (h .k) (c .before .before .before .before .before .before .before .loop2-test .taken) (h .inv .0 .recvs) (h .inv .1 .1 o) (top-is _ _ _ _ (c .before .before .before .low-bits .ensures) (c .enter .ensures .0)) (c .enter .ensures .1 _)))
+loop2-again c =
+    let b = c .before .before .before .before .before .before .before .before .before .before .before .pre in
+    let h = c .before .before .before .before .before .before .before .before .loop2 in
+    let g = h .inv .1 .1 b in
+    (h .inv .0, (omega (arith, c .before .before .before .before .before .before .before .loop2-test .taken), λ o. work-top _ o (h .k) (c .before .before .before .before .before .before .before .loop2-test .taken) (h .inv .0 .recvs) (h .inv .1 .1 o) (top-is _ _ _ _ (c .before .before .before .low-bits .ensures) (c .enter .ensures .0)) (enter-moves _ _ (b .tops-low (h .k) (c .before .before .before .before .before .before .before .loop2-test .taken)) (g .good .masks .size, g .todo .size) (c .enter .ensures .0) (c .enter .ensures .1))))
 
 pending-requires : tie.Need-pending-requires Inv-loop μ-loop Inv-loop2 μ-loop2 Inv-loop3 μ-loop3
 pending-requires c κs = search needs
 
 loop3-holds : tie.Need-loop3-holds Inv-loop μ-loop Inv-loop2 μ-loop2 Inv-loop3 μ-loop3
-loop3-holds c = let h = c .before .before .before .loop2 in let z : h .k ≡ c .before .before .before .before .before .before .args .t1 .tasks = omega (arith, c .before .before .loop2-test .left, h .inv .1 .0) in (h .inv .0, (rw z at (h .inv .1 .1), c .pending .ensures))
+loop3-holds c = let h = c .before .before .before .loop2 in let z : h .k ≡ c .before .before .before .before .before .before .args .t1 .tasks = omega (arith, c .before .before .loop2-test .left, h .inv .1 .0) in (h .inv .0, (rw z at (h .inv .1 .1), pending-right _ (c .pending .ensures)))
 
 mul-q-3 : tie.Need-mul-q-3 Inv-loop μ-loop Inv-loop2 μ-loop2 Inv-loop3 μ-loop3
 mul-q-3 c = search needs
@@ -118,10 +127,10 @@ pending-requires-2 :
 pending-requires-2 c κs = search needs
 
 loop3-less : tie.Need-loop3-less Inv-loop μ-loop Inv-loop2 μ-loop2 Inv-loop3 μ-loop3
-loop3-less c = c .before .before .proc-work .ensures .less (c .before .before .before .before .before .before .before .before .before .before .before .loop3 .inv .1 .1 .some′ (c .before .before .before .before .before .before .before .before .before .before .loop3-test .taken))
+loop3-less c = c .before .before .proc-work .ensures .1 .less (c .before .before .before .before .before .before .before .before .before .before .before .loop3 .inv .1 .1 .some′ (c .before .before .before .before .before .before .before .before .before .before .loop3-test .taken))
 
 loop3-again : tie.Need-loop3-again Inv-loop μ-loop Inv-loop2 μ-loop2 Inv-loop3 μ-loop3
-loop3-again c = let h = c .before .before .before .before .before .before .before .before .before .before .before .loop3 .inv in (h .0, (λ o. c .before .before .proc-work .ensures .keeps _ o refl (h .0 .recvs) (h .1 .0 o), c .pending2 .ensures))
+loop3-again c = let h = c .before .before .before .before .before .before .before .before .before .before .before .loop3 .inv in (h .0, (λ o. c .before .before .proc-work .ensures .1 .keeps _ o refl (h .0 .recvs) (h .1 .0 o), pending-right _ (c .pending2 .ensures)))
 
 returns : tie.Need-returns Inv-loop μ-loop Inv-loop2 μ-loop2 Inv-loop3 μ-loop3
 returns c = let o = c .before .before .before .before .before .before .before .before .pre in let h = c .before .loop3 .inv in work-end _ o (h .1 .0 o) (h .1 .1 .none′ (omega (arith, c .loop3-test .left)))

@@ -1,6 +1,5 @@
-use Rattle.masks.specs.Cells.{grown, grown-flag}
+use Rattle.masks.specs.Cells.{grown}
 use mathlib.Core.Path.{refl}
-use native.Mathlib.Omega.{arith}
 use borrow.Author.Needs.{needs}
 use Rattle.analysis.proofs.grow.Statement.{statement}
 use Rattle.analysis.proofs.grow.Tie as tie
@@ -19,7 +18,7 @@ element-write-cells c = search needs
 
 returns : tie.Need-returns
 unfolding grown
-returns c = (refl, grown-flag (c .before .args .cells .now) (c .before .args .a) (c .before .args .m) (omega arith))
+returns c = (refl, refl)
 
 pub grow-spec : {M : Type 1} → statement M
 grow-spec = tie.close (tie.spec mul-old element-copy-out-old mul-cells element-write-cells returns)

@@ -1,5 +1,6 @@
 use Rattle.masks.specs.Cells.{grown}
 use mathlib.Core.Path.{_∙_, ap}
+use Rattle.analysis.specs.WorklistLaws.{reached-as, next-as}
 use borrow.Author.Needs.{needs}
 use Rattle.analysis.proofs.pass.Statement.{statement}
 use Rattle.analysis.proofs.pass.Tie as tie
@@ -23,7 +24,11 @@ reach-requires : tie.Need-reach-requires
 reach-requires c κs = search needs
 
 returns : tie.Need-returns
-returns c = (c .reach .ensures .0 ∙ ap (grown _ _) (c .before .before .before .after-pass .ensures), c .reach .ensures .1)
+returns c =
+    let b = c .before .before .before .before .before .args in
+    let f = c .reach .ensures in
+    let o = c .before .before .before .after-pass .ensures in
+    (f .0 ∙ ap (grown _ _) o, (reached-as (b .cells .now) (b .todo .now) (b .p) (b .s .to) _ (f .1 .0) o, next-as (b .cells .now) (b .todo .now) (b .p) (b .s .to) _ (f .1 .1) o))
 
 pub pass-spec : {M : Type 1} → statement M
 pass-spec =

@@ -1,24 +1,27 @@
-use Prim.Native.Nat.{ℕ, _-_}
+use Prim.Native.Nat.{ℕ, _*_, _-_, _≤_}
 use mathlib.Core.Path.{_≡_, refl, ap}
 use lib.Dec.{eqb}
 use Rattle.table.specs.Mask.{maskOf}
 use Rattle.masks.specs.Bits.{mask-next}
 use Rattle.analysis.specs.Sources.{readIn, recvIn}
-use Rattle.analysis.specs.Plans.{Plans, pass-small, plans-start, plans-next, plans-end}
+use Rattle.table.specs.Table.{nodeIn}
+use Rattle.flow.specs.declared.Pass.{Pass}
+use Rattle.flow.specs.Flow.{passOf}
+use Rattle.analysis.specs.Plans.{storedFrom, stored-next, pass-small}
 use borrow.Author.Needs.{needs}
 use native.Mathlib.Omega.{arith}
 use Rattle.analysis.proofs.plan.Statement.{statement}
 use Rattle.analysis.proofs.plan.Tie as tie
 
 abbrev Inv-loop : tie.InvT-loop
-Inv-loop p uses₀ sets₀ tos₀ q reads₀ recvs₀ n₀ uses sets tos reads recvs n = Plans q p uses₀ sets₀ tos₀ uses sets tos n × ((reads ≡ maskOf n (readIn q)) × (recvs ≡ maskOf n (recvIn q)))
+Inv-loop p uses₀ sets₀ tos₀ q reads₀ recvs₀ n₀ uses sets tos reads recvs n = (n ≤ 32) × ((uses ≡ storedFrom (p * 32) (λ k. passOf (nodeIn q k) k .uses) n uses₀) × ((sets ≡ storedFrom (p * 32) (λ k. passOf (nodeIn q k) k .sets) n sets₀) × ((tos ≡ storedFrom (p * 32) (λ k. passOf (nodeIn q k) k .to) n tos₀) × ((reads ≡ maskOf n (readIn q)) × (recvs ≡ maskOf n (recvIn q))))))
 
 abbrev μ-loop : tie.MeasureT-loop
 μ-loop p uses₀ sets₀ tos₀ q reads₀ recvs₀ n₀ uses sets tos reads recvs n = 32 - n
 
 loop-holds : tie.Need-loop-holds Inv-loop μ-loop
-unfolding maskOf
-loop-holds c = (plans-start _ _ _ _ _, (refl, refl))
+unfolding maskOf storedFrom
+loop-holds c = (search needs, (refl, (refl, (refl, (refl, refl)))))
 
 mul-y : tie.Need-mul-y Inv-loop μ-loop
 mul-y c = search needs
@@ -57,7 +60,7 @@ element-write-sets : tie.Need-element-write-sets Inv-loop μ-loop
 element-write-sets c = search needs
 
 cast-tos : tie.Need-cast-tos Inv-loop μ-loop
-cast-tos c = omega (arith, pass-small _ _ (c .before .pass-of .ensures) (c .before .before .before .before .before .before .before .loop .inv .0 .low))
+cast-tos c = omega (arith, pass-small _ _ (c .before .pass-of .ensures) (c .before .before .before .before .before .before .before .loop .inv .0))
 
 element-write-tos : tie.Need-element-write-tos Inv-loop μ-loop
 element-write-tos c = search needs
@@ -69,10 +72,31 @@ loop-less : tie.Need-loop-less Inv-loop μ-loop
 loop-less c = search needs
 
 loop-again : tie.Need-loop-again Inv-loop μ-loop
-loop-again c = let h = c .before .before .before .before .before .before .before .loop in (plans-next _ (h .n) (c .before .before .before .before .before .before .before .before .pre) (c .before .before .before .before .before .before .loop-test .taken) (c .before .pass-of .ensures) (h .inv .0), (mask-next _ (h .n) (h .reads) _ (h .inv .1 .0) (ap (λ (k : ℕ). eqb k 1) (c .before .before .before .before .source .ensures)) (c .before .before .before .with .ensures), mask-next _ (h .n) (h .recvs) _ (h .inv .1 .1) (ap (λ (k : ℕ). eqb k 2) (c .before .before .before .before .source .ensures)) (c .before .before .with2 .ensures)))
+loop-again c =
+    let h = c .before .before .before .before .before .before .before .loop in
+    let e = c .before .pass-of .ensures in
+    let k = c .before .before .before .before .source .ensures in (
+      omega (arith, c .before .before .before .before .before .before .loop-test .taken),
+      (
+        stored-next _ _ (h .n) _ (h .inv .1 .0) (ap (λ (y : Pass). y .uses) e),
+        (
+          stored-next _ _ (h .n) _ (h .inv .1 .1 .0) (ap (λ (y : Pass). y .sets) e),
+          (
+            stored-next _ _ (h .n) _ (h .inv .1 .1 .1 .0) (ap (λ (y : Pass). y .to) e),
+            (
+              mask-next _ (h .n) (h .reads) _ (h .inv .1 .1 .1 .1 .0) (ap (λ (j : ℕ). eqb j 1) k) (c .before .before .before .with .ensures),
+              mask-next _ (h .n) (h .recvs) _ (h .inv .1 .1 .1 .1 .1) (ap (λ (j : ℕ). eqb j 2) k) (c .before .before .with2 .ensures),
+            ),
+          ),
+        ),
+      ),
+    )
 
 returns : tie.Need-returns Inv-loop μ-loop
-returns c = let h = c .before .loop in let z : h .n ≡ 32 = omega (arith, h .inv .0 .low, c .loop-test .left) in (plans-end (omega (arith, c .loop-test .left)) (h .inv .0), (rw z at (h .inv .1 .0), rw z at (h .inv .1 .1)))
+returns c =
+    let h = c .before .loop in
+    let z : h .n ≡ 32 = omega (arith, h .inv .0, c .loop-test .left) in
+    (rw z at (h .inv .1 .0), (rw z at (h .inv .1 .1 .0), (rw z at (h .inv .1 .1 .1 .0), (rw z at (h .inv .1 .1 .1 .1 .0), rw z at (h .inv .1 .1 .1 .1 .1)))))
 
 pub plan-spec : {M : Type 1} → statement M
 plan-spec =

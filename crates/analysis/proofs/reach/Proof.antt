@@ -1,5 +1,4 @@
-use Rattle.analysis.specs.Todo.{leads-none}
-use Rattle.analysis.specs.Work.{reach-moves, reach-leads, same-moves}
+use Rattle.analysis.specs.WorklistLaws.{reached-new, reached-same}
 use lib.ListN.{set}
 use mathlib.Core.Path.{ap}
 use borrow.Author.Needs.{needs}
@@ -31,10 +30,10 @@ element-write-todo : tie.Need-element-write-todo
 element-write-todo c = search needs
 
 returns : tie.Need-returns
-returns c = let b = c .before .before .before .before .before in let g = c .before .before .before .grow .ensures in let w = ap (set (b .args .todo .now) (b .args .p)) (c .with .ensures) in (g .0, (reach-moves (b .args .p) (b .args .n) (b .args .m) (b .pre .0) (b .pre .1 .0) (b .pre .1 .1) (g .0) (g .1) w, reach-leads (b .args .todo .now) (b .args .p) (b .args .n) (b .pre .0) (b .pre .1 .0) (b .pre .1 .1 .1) w))
+returns c = let b = c .before .before .before .before .before .args in let g = c .before .before .before .grow .ensures in (g .0, (reached-new (b .cells .now) (b .todo .now) (b .p) (b .n) (b .m) (g .1) (c .before .before .if1 .taken) (ap (set (b .todo .now) (b .p)) (c .with .ensures)), g .1))
 
 returns-2 : tie.Need-returns-2
-returns-2 c = let g = c .before .grow .ensures in (g .0, (λ s. same-moves (g .1) (c .if1 .left), leads-none (c .before .before .before .pre .1 .0) (c .if1 .left)))
+returns-2 c = let b = c .before .before .before .args in let g = c .before .grow .ensures in (g .0, (reached-same (b .cells .now) (b .todo .now) (b .p) (b .n) (b .m) (g .1) (c .if1 .left), g .1))
 
 pub reach-spec : {M : Type 1} → statement M
 reach-spec =

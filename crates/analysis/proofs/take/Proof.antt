@@ -1,4 +1,3 @@
-use Rattle.analysis.specs.Todo.{took}
 use lib.ListN.{set}
 use mathlib.Core.Path.{ap}
 use borrow.Author.Needs.{needs}
@@ -21,7 +20,7 @@ element-write-todo : tie.Need-element-write-todo
 element-write-todo c = search needs
 
 returns : tie.Need-returns
-returns c = took (c .before .before .args .p) (c .before .before .args .n) (c .before .before .pre .0) (c .before .before .pre .1 .0) (c .before .before .pre .1 .1) (ap (set (c .before .before .args .todo .now) (c .before .before .args .p)) (c .minus .ensures))
+returns c = ap (set (c .before .before .args .todo .now) (c .before .before .args .p)) (c .minus .ensures)
 
 pub take-spec : {M : Type 1} → statement M
 take-spec =

@@ -1,4 +1,4 @@
-use Rattle.analysis.specs.Work.{Waking, waking-start, waking-next, waking-end}
+use Rattle.analysis.specs.WorklistLaws.{Waking, waking-start, waking-next, waking-end}
 use Prim.Native.Nat.{_-_}
 use borrow.Author.Needs.{needs}
 use native.Mathlib.Omega.{arith}
@@ -42,7 +42,7 @@ loop-again : tie.Need-loop-again Inv-loop μ-loop
 loop-again c = waking-next (c .before .before .loop-test .taken) (c .before .before .before .loop .inv)
 
 returns : tie.Need-returns Inv-loop μ-loop
-returns c = waking-end (c .before .loop .inv) (omega (arith, c .loop-test .left))
+returns c = waking-end (c .before .before .pre) (c .before .loop .inv) (omega (arith, c .loop-test .left))
 
 pub wake-spec : {M : Type 1} → statement M
 wake-spec =

@@ -1,5 +1,6 @@
 use Rattle.text.specs.Value.{asConst}
 use Rattle.arguments.specs.OperandLaws.{const-bad, by-number}
+use Rattle.operands.specs.OperandLaws.{judged-constant}
 use borrow.Author.Needs.{needs}
 use Rattle.arguments.proofs.constant.Statement.{statement}
 use Rattle.arguments.proofs.constant.Tie as tie
@@ -26,7 +27,7 @@ constant-operand-requires c κs = search needs
 
 -- src/lib.rt:89:1
 returns-2 : tie.Need-returns-2
-returns-2 c = by-number _ {kind = asConst} (c .constant-operand .ensures) (c .before .before .before .before .number .ensures) (c .before .before .x .given .1)
+returns-2 c = by-number _ {kind = asConst} (judged-constant (c .constant-operand .ensures)) (c .before .before .before .before .number .ensures) (c .before .before .x .given .1)
 
 pub constant-spec : {M : Type 1} → statement M
 constant-spec =

@@ -1,6 +1,8 @@
 use Rattle.text.specs.Value.{asVar}
 use Rattle.arguments.specs.OperandLaws.{var-bad, by-number}
+use Rattle.operands.specs.OperandLaws.{judged-named}
 use borrow.Author.Needs.{needs}
+use native.Mathlib.Omega.{arith}
 use Rattle.arguments.proofs.named.Statement.{statement}
 use Rattle.arguments.proofs.named.Tie as tie
 
@@ -26,7 +28,7 @@ named-operand-requires c κs = search needs
 
 -- src/lib.rt:71:1
 returns-2 : tie.Need-returns-2
-returns-2 c = by-number _ {kind = asVar} (c .named-operand .ensures) (c .before .before .before .before .number .ensures) (c .before .before .x .given .1)
+returns-2 c = by-number _ {kind = asVar} (judged-named (omega arith) (c .named-operand .ensures)) (c .before .before .before .before .number .ensures) (c .before .before .x .given .1)
 
 pub named-spec : {M : Type 1} → statement M
 named-spec =

@@ -1,5 +1,6 @@
 use Rattle.text.specs.Value.{asNegative}
 use Rattle.arguments.specs.OperandLaws.{neg-bad, by-number}
+use Rattle.operands.specs.OperandLaws.{judged-negative}
 use borrow.Author.Needs.{needs}
 use Rattle.arguments.proofs.negative.Statement.{statement}
 use Rattle.arguments.proofs.negative.Tie as tie
@@ -26,7 +27,7 @@ negative-operand-requires c κs = search needs
 
 -- src/lib.rt:80:1
 returns-2 : tie.Need-returns-2
-returns-2 c = by-number _ {kind = asNegative} (c .negative-operand .ensures) (c .before .before .before .before .number .ensures) (c .before .before .x .given .1)
+returns-2 c = by-number _ {kind = asNegative} (judged-negative (c .negative-operand .ensures)) (c .before .before .before .before .number .ensures) (c .before .before .x .given .1)
 
 pub negative-spec : {M : Type 1} → statement M
 negative-spec =

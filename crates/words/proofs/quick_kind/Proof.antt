@@ -1,4 +1,4 @@
-use Rattle.words.specs.WordLaws.{quick-none, quick-set, quick-out, quick-test}
+use Rattle.words.specs.WordLaws.{quick-short, quick-set, quick-out, quick-test, quick-longer, quick-other}
 use borrow.Author.Needs.{needs}
 use Rattle.words.proofs.quick_kind.Statement.{statement}
 use Rattle.words.proofs.quick_kind.Tie as tie
@@ -7,7 +7,7 @@ sub-if1 : tie.Need-sub-if1
 sub-if1 c = search needs
 
 returns : tie.Need-returns
-returns c = search (needs, quick-none)
+returns c = search (needs, quick-short)
 
 quad-requires : tie.Need-quad-requires
 quad-requires c κs = search needs
@@ -34,7 +34,7 @@ quad-of-requires-3 : tie.Need-quad-of-requires-3
 quad-of-requires-3 c κs = search needs
 
 returns-4 : tie.Need-returns-4
-returns-4 c = search (needs, quick-none)
+returns-4 c = search (needs, quick-other)
 
 add-e : tie.Need-add-e
 add-e c = search needs
@@ -46,7 +46,7 @@ returns-5 : tie.Need-returns-5
 returns-5 c = search (needs, quick-test)
 
 returns-6 : tie.Need-returns-6
-returns-6 c = search (needs, quick-none)
+returns-6 c = search (needs, quick-longer)
 
 pub quick-kind-spec : {M : Type 1} → statement M
 quick-kind-spec =
