@@ -3,10 +3,12 @@
 use crate::generate::runs;
 use crate::generate::tables::{self, Size};
 use crate::generate::{extremes, lines_of};
+use crate::plain::check::check;
 use crate::plain::close::close_valid;
 use crate::plain::programs::{close_text, read_text, run_text, write_text};
+use crate::plain::read::read;
 use crate::plain::run::{Machine, State};
-use crate::plain::table::{Op, Table};
+use crate::plain::table::{Node, Op, Table, GONE, PARAMS};
 use crate::plain::Refusal;
 use crate::random::Random;
 use crate::{compare, handmade, naive};
@@ -163,6 +165,27 @@ fn a_run_of_the_example() {
 #[test]
 fn hand_made_tables_are_judged_as_their_lines() {
     assert!(handmade::handmade(2_000, 1));
+}
+
+/// Five arguments `-` where no variable is declared: the lines have fault 6, and so has the table made of them.
+#[test]
+fn a_fifth_argument_repeats_the_fourth() {
+    let lines = |args: &str| {
+        format!(
+            "trap=1 form=closed\ntasks=1 procs=1 sems=0 queues=0\ntask=0 top=0\n\
+             proc=0 params=0 vars=0 nodes=3 drop=none\nnode=0 kind=start to=1\n\
+             node=1 kind=call proc=0 args={args} to=2\nnode=2 kind=return\n"
+        )
+    };
+    let mut table = Table::default();
+    assert_eq!(read(lines("none").as_bytes(), &mut table), Ok(()));
+    let Node::Call { count, args, .. } = &mut table.procs[0].nodes[1] else {
+        unreachable!()
+    };
+    (*count, *args) = (5, [GONE; PARAMS]);
+    assert_eq!(lines_of(&table), lines("-,-,-,-,-").as_bytes());
+    assert_eq!(refusal(&lines("-,-,-,-,-")), (6, 6));
+    assert_eq!(check(&table), Err(Refusal { number: 6, line: 0 }));
 }
 
 #[test]

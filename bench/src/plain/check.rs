@@ -177,12 +177,9 @@ fn fields(t: &Table, p: &Proc, node: &Node) -> Result<(), u8> {
             require(proc < t.proc_count, 5)?;
             let given = &args[..(count as usize).min(PARAMS)];
             require(t.closed || given.iter().all(|&v| v != GONE), 2)?;
+            // arguments behind the fourth repeat it
             for &v in given {
                 maybe(v)?;
-            }
-            // arguments behind the fourth are variable 0
-            if count as usize > PARAMS {
-                variable(0)?;
             }
             arc(to)
         }

@@ -300,6 +300,6 @@ fn arguments(s: &mut impl Sink, count: u8, args: &[u8; PARAMS]) {
     }
     variable(s, b" args=", args[0]);
     for i in 1..count as usize {
-        variable(s, b",", args.get(i).copied().unwrap_or(0));
+        variable(s, b",", args[i.min(PARAMS - 1)]);
     }
 }

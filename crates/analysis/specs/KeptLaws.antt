@@ -1,8 +1,7 @@
 -- Reading the cells: each bit is what `dirty` computes, and a node is kept by its cell if and only if it is kept.
 use Prim.Native.Nat.{ℕ, _+_, _*_, _<_, _≤_}
-use mathlib.Core.Path.{_≡_, refl, sym, _∙_}
+use mathlib.Core.Path.{_≡_, refl, _∙_}
 use mathlib.Core.Bool.{Bool, true, false, not, _||_}
-use mathlib.Core.Logic.{_↔_}
 use mathlib.Core.List.{List, [], _∷_, _++_}
 use lib.ListN.{length}
 use Rattle.table.specs.Mask.{bit, maskOf}
@@ -16,18 +15,13 @@ use Rattle.table.specs.declared.Table.{Table}
 use Rattle.closing.specs.Dirty.{Fact, useAt, dropped, blank}
 use Rattle.closing.specs.Closing.{dirty, isDirty, anyDirty, kept}
 use Rattle.closing.specs.DirtyLaws.{dirty-is}
+use Rattle.closing.specs.KeptLaws.{same-test}
 use Rattle.masks.specs.Cells.{cell, Filled, filled-masks}
 use Rattle.flow.specs.Flow.{operandDirty, keptWith}
 use Rattle.analysis.specs.Ready.{FitsOperand, FitsNode, Ready}
 use Rattle.analysis.specs.Decides.{Decides, KeptMasks}
 use Rattle.analysis.specs.Steps.{keptIn}
 use Rattle.analysis.specs.NodeLaws.{var-mod}
-
--- two tests of one thing are equal
-pub same-test : {P : Type 0} (a b : Bool) → (a ≡ true) ↔ P → (b ≡ true) ↔ P → a ≡ b
-same-test true b f g = sym (g .1 (f .0 refl))
-same-test false true f g = f .1 (g .0 refl)
-same-test false false f g = refl
 
 -- ---- a node is kept by the variables that are dirty before it
 

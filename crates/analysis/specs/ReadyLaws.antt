@@ -49,7 +49,8 @@ module _ (t : Table) (s : Shaped t) (z : fault t ≡ 0) (o : t .closed ≡ false
   fit p n (Test i a b y w) h k = (operand-fits _ a (h .2), operand-fits _ b (h .3), one (h .4 .1 o), one (h .5 .1 o))
   fit p n (Read x to) h k = (h .2, one (h .3 .1 o))
   fit p n (Call q xs to) h k =
-      (below q (h .1), omega (arith, eqb-true (xs .len) (procAt t q .params) k), λ i l. named p (argAt xs i) (h .2 i l), one (h .3 .1 o))
+      let e = eqb-true (xs .len) (procAt t q .params) k in
+      (below q (h .1), omega arith, λ i l. named p (argAt xs i) (h .2 i l (omega (arith, v .lines .proc q (h .1) .params))), one (h .3 .1 o))
   fit p n (Wait i to) h k = one (h .2 .1 o)
   fit p n (Signal i to) h k = one (h .2 .1 o)
   fit p n (Send q x to) h k = (low q (h .1), named p x (h .2), one (h .3 .1 o))

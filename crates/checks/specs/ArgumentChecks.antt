@@ -1,7 +1,7 @@
--- A call's arguments by their places: the first four, and behind them variable 0.
+-- A call's arguments by their four places: those behind the fourth repeat it.
 use Prim.Native.Nat.{ℕ, zero, suc, _-_, _≤_, _<_}
 use mathlib.Core.Path.{_≡_, refl, _∙_, ap}
-use mathlib.Core.List.{List, _∷_, map}
+use mathlib.Core.List.{List, [], _∷_, map}
 use mathlib.Core.Option.{Option}
 use mathlib.Core.Bool.{Bool, true, false, not, _&&_, _||_}
 use native.Mathlib.Omega.{arith}
@@ -10,7 +10,7 @@ use lib.ListN.{take, replicate}
 use borrow.Author.Tests.{lt-ltb, le-ltb, eq-eqb, ne-eqb}
 use Rattle.table.specs.Table.{removed}
 use Rattle.table.specs.declared.Args.{Args}
-use Rattle.text.specs.NumberLaws.{cases, byOrder}
+use Rattle.text.specs.NumberLaws.{cases}
 use Rattle.text.specs.Value.{noneRemoved, allDeclared}
 use Rattle.text.specs.Format.{nameOf, argNames}
 
@@ -30,36 +30,38 @@ declared-first : (n v : ℕ) (xs : List (Option ℕ)) → allDeclared n (nameOf 
 unfolding allDeclared
 declared-first n v xs = cases (eqb v removed) (λ e. rw e) (λ e. rw e)
 
--- the places behind the fourth
-abbrev rest : ℕ → List (Option ℕ)
-rest l = map nameOf (take l (replicate l 0))
+and-true : (a : Bool) → a && true ≡ a
+and-true true = refl
+and-true false = refl
 
-rest-removed : (l : ℕ) → noneRemoved (rest l) ≡ true
+-- the fourth, and those behind it
+abbrev rest : ℕ → ℕ → List (Option ℕ)
+rest d l = nameOf d ∷ map nameOf (take l (replicate l d))
+
+same-twice : (a b : Bool) → b ≡ a → a && b ≡ a
+same-twice true b e = e
+same-twice false b e = refl
+
+rest-removed : (d l : ℕ) → noneRemoved (rest d l) ≡ not (eqb d removed)
 unfolding noneRemoved
-rest-removed zero = refl
-rest-removed (suc l) = rest-removed l
+rest-removed d zero = removed-first d [] ∙ and-true (not (eqb d removed))
+rest-removed d (suc l) = removed-first d (rest d l) ∙ same-twice (not (eqb d removed)) (noneRemoved (rest d l)) (rest-removed d l)
 
-rest-declared : (n l : ℕ) → allDeclared n (rest l) ≡ not (ltb 0 l) || ltb 0 n
+rest-declared : (n d l : ℕ) → allDeclared n (rest d l) ≡ eqb d removed || ltb d n
 unfolding allDeclared
-rest-declared n zero = refl
-rest-declared n (suc l) = rw (lt-ltb 0 (suc l) (omega arith), rest-declared n l) (go (ltb 0 l) (ltb 0 n))
-  where
-    go : (a b : Bool) → b && (not a || b) ≡ b
-    go true true = refl
-    go true false = refl
-    go false true = refl
-    go false false = refl
+rest-declared n d zero = declared-first n d [] ∙ and-true (eqb d removed || ltb d n)
+rest-declared n d (suc l) = declared-first n d (rest d l) ∙ same-twice (eqb d removed || ltb d n) (allDeclared n (rest d l)) (rest-declared n d l)
 
 -- ---- all arguments
 
 abbrev names : ℕ → ℕ → ℕ → ℕ → ℕ → List (Option ℕ)
 names l a b c d = argNames (record { len = l; a0 = a; a1 = b; a2 = c; a3 = d })
 
-abbrev four : ℕ → ℕ → ℕ → ℕ → List (Option ℕ) → List (Option ℕ)
-four a b c d xs = nameOf a ∷ nameOf b ∷ nameOf c ∷ nameOf d ∷ xs
+abbrev three : ℕ → ℕ → ℕ → List (Option ℕ) → List (Option ℕ)
+three a b c xs = nameOf a ∷ nameOf b ∷ nameOf c ∷ xs
 
-names-four : (l a b c d : ℕ) → names (suc (suc (suc (suc l)))) a b c d ≡ four a b c d (rest l)
-names-four l a b c d = let e : suc (suc (suc (suc l))) - 4 ≡ l = omega arith in ap (λ (k : ℕ). four a b c d (map nameOf (take l (replicate k 0)))) e
+names-many : (l a b c d : ℕ) → names (suc (suc (suc (suc l)))) a b c d ≡ three a b c (rest d l)
+names-many l a b c d = let e : suc (suc (suc (suc l))) - 4 ≡ l = omega arith in ap (λ (k : ℕ). three a b c (nameOf d ∷ map nameOf (take l (replicate k d)))) e
 
 not-or : (a b : Bool) → not a && not b ≡ not (a || b)
 not-or true b = refl
@@ -73,10 +75,6 @@ or-false : (a : Bool) → a || false ≡ a
 or-false true = refl
 or-false false = refl
 
-and-true : (a : Bool) → a && true ≡ a
-and-true true = refl
-and-true false = refl
-
 some-removed : (l a b c d : ℕ) → noneRemoved (names l a b c d) ≡ not (removedAt l 0 a || (removedAt l 1 b || (removedAt l 2 c || removedAt l 3 d)))
 unfolding noneRemoved
 some-removed zero a b c d = refl
@@ -85,8 +83,8 @@ some-removed (suc (suc zero)) a b c d = simp (removed-first, and-true, or-false,
 some-removed (suc (suc (suc zero))) a b c d = simp (removed-first, and-true, or-false, not-or)
 some-removed (suc (suc (suc (suc l)))) a b c d =
     let n = suc (suc (suc (suc l))) in
-    rw (names-four l a b c d, lt-ltb 0 n (omega arith), lt-ltb 1 n (omega arith), lt-ltb 2 n (omega arith), lt-ltb 3 n (omega arith))
-    (simp (removed-first, rest-removed, and-true, not-or))
+    rw (names-many l a b c d, lt-ltb 0 n (omega arith), lt-ltb 1 n (omega arith), lt-ltb 2 n (omega arith), lt-ltb 3 n (omega arith))
+    (simp (rest-removed, removed-first, not-or))
 
 pub removed-is : (xs : Args) → not (noneRemoved (argNames xs)) ≡ removedAt (xs .len) 0 (xs .a0) || (removedAt (xs .len) 1 (xs .a1) || (removedAt (xs .len) 2 (xs .a2) || removedAt (xs .len) 3 (xs .a3)))
 removed-is xs = ap not (some-removed (xs .len) (xs .a0) (xs .a1) (xs .a2) (xs .a3)) ∙ twice _
@@ -95,7 +93,7 @@ removed-is xs = ap not (some-removed (xs .len) (xs .a0) (xs .a1) (xs .a2) (xs .a
     twice true = refl
     twice false = refl
 
-declared-in : (n l a b c d : ℕ) → allDeclared n (names l a b c d) ≡ declaredAt n l 0 a && (declaredAt n l 1 b && (declaredAt n l 2 c && (declaredAt n l 3 d && declaredAt n l 4 0)))
+declared-in : (n l a b c d : ℕ) → allDeclared n (names l a b c d) ≡ declaredAt n l 0 a && (declaredAt n l 1 b && (declaredAt n l 2 c && declaredAt n l 3 d))
 unfolding allDeclared
 declared-in n zero a b c d = refl
 declared-in n (suc zero) a b c d = simp (declared-first)
@@ -103,14 +101,11 @@ declared-in n (suc (suc zero)) a b c d = simp (declared-first)
 declared-in n (suc (suc (suc zero))) a b c d = simp (declared-first)
 declared-in n (suc (suc (suc (suc l)))) a b c d =
     let m = suc (suc (suc (suc l))) in
-    rw (names-four l a b c d, lt-ltb 0 m (omega arith), lt-ltb 1 m (omega arith), lt-ltb 2 m (omega arith), lt-ltb 3 m (omega arith))
-    (simp (declared-first, rest-declared, ltb-four))
-  where
-    ltb-four : ltb 4 (suc (suc (suc (suc l)))) ≡ ltb 0 l
-    ltb-four = byOrder 0 l (λ h. rw (lt-ltb 0 l h, lt-ltb 4 (suc (suc (suc (suc l)))) (omega arith))) (λ h. rw (le-ltb 0 l h, le-ltb 4 (suc (suc (suc (suc l)))) (omega arith)))
+    rw (names-many l a b c d, lt-ltb 0 m (omega arith), lt-ltb 1 m (omega arith), lt-ltb 2 m (omega arith), lt-ltb 3 m (omega arith))
+    (simp (rest-declared, declared-first))
 
 pub declared-is : (n : ℕ) (xs : Args)
-    → allDeclared n (argNames xs) ≡ declaredAt n (xs .len) 0 (xs .a0) && (declaredAt n (xs .len) 1 (xs .a1) && (declaredAt n (xs .len) 2 (xs .a2) && (declaredAt n (xs .len) 3 (xs .a3) && declaredAt n (xs .len) 4 0)))
+    → allDeclared n (argNames xs) ≡ declaredAt n (xs .len) 0 (xs .a0) && (declaredAt n (xs .len) 1 (xs .a1) && (declaredAt n (xs .len) 2 (xs .a2) && declaredAt n (xs .len) 3 (xs .a3)))
 declared-is n xs = declared-in n (xs .len) (xs .a0) (xs .a1) (xs .a2) (xs .a3)
 
 -- ---- as code finds them

@@ -160,7 +160,7 @@ fn some_removed(xs: Args) -> bool
     either(a, either(b, either(c, d)))
 }
 
-// The places past the fourth are variable 0.
+// Arguments past the fourth repeat the fourth.
 fn all_declared(vars: u8, xs: Args) -> bool
     ensures { λ r. ⌜ r ≡ allDeclared vars (argNames xs) ⌝ }
 {
@@ -168,8 +168,7 @@ fn all_declared(vars: u8, xs: Args) -> bool
     let b = declared_at(xs.len, 1, xs.a1, vars);
     let c = declared_at(xs.len, 2, xs.a2, vars);
     let d = declared_at(xs.len, 3, xs.a3, vars);
-    let e = declared_at(xs.len, 4, 0, vars);
-    both(a, both(b, both(c, both(d, e))))
+    both(a, both(b, both(c, d)))
 }
 
 // A call's variables, which in closed form may be removed.

@@ -1,21 +1,21 @@
 -- Where the code's search leads is where the arcs lead: the new arcs are the definition's.
-use Prim.Native.Nat.{ℕ, _*_, _^_, _<_}
+use Prim.Native.Nat.{ℕ, _*_, _<_}
 use native.Mathlib.Omega.{arith}
 use mathlib.Core.Path.{_≡_, refl, sym, _∙_, subst}
-use mathlib.Core.Bool.{true, false, false≢true}
-use mathlib.Core.Logic.{_⊎_, inl, inr, _↔_}
+use mathlib.Core.Bool.{false}
+use mathlib.Core.Logic.{_⊎_, inl, inr}
 use mathlib.Core.List.{List, [], _∷_, List·Memᴰ, List·Memᴰ·head, List·Memᴰ·tail, List·Memᴰ·not-nil}
 use Rattle.table.specs.Mask.{bit, members, maskOf}
-use Rattle.table.specs.MaskLaws.{maskOf-lt}
 use Rattle.table.specs.Table.{procAt, nodeAt, arcs, arcTo, arcNo, keeping}
 use Rattle.table.specs.declared.Node.{Node}
 use Rattle.table.specs.declared.Table.{Table}
-use Rattle.closing.specs.Dirty.{Unkept, Leads, target, through}
-use Rattle.closing.specs.Closing.{dirty, kept}
-use Rattle.closing.specs.Close.{unkeptArcs, keptAmong, newArc}
-use Rattle.closing.specs.KeptLaws.{unkept-is}
+use Rattle.closing.specs.Dirty.{Unkept, never-kept, Leads, target, through}
+use Rattle.closing.specs.ClosedTable.{NewArc}
+use Rattle.closing.specs.Closing.{dirty}
+use Rattle.closing.specs.Close.{unkeptArcs, newArc}
+use Rattle.closing.specs.KeptLaws.{unkept-is, kept-is}
 use Rattle.closing.specs.ArcLaws.{arc-is}
-use Rattle.masks.specs.Bits.{bit-ext}
+use Rattle.closing.specs.ClosedTableLaws.{arc-only}
 use Rattle.masks.specs.Cells.{Filled}
 use Rattle.flow.specs.declared.Flow.{Flow}
 use Rattle.flow.specs.Flow.{low, flowOf}
@@ -24,7 +24,7 @@ use Rattle.analysis.specs.Decides.{Decides}
 use Rattle.analysis.specs.Steps.{keptIn}
 use Rattle.analysis.specs.NodeLaws.{low-in, low-only, no-arc, targets, aims, flow-places}
 use Rattle.analysis.specs.Decide.{present}
-use Rattle.analysis.specs.KeptLaws.{same-test, kept-bit}
+use Rattle.analysis.specs.KeptLaws.{kept-bit}
 use Rattle.reach.specs.Reach as Search
 use Rattle.closer.specs.Parts.{endOf, arcIn}
 
@@ -40,11 +40,6 @@ module _ (t : Table) (p : ℕ) where
   widen f (target d) = target (f _ d)
   widen f (through n u d l) = through n u d (widen f l)
 
-  -- a new arc is a mask of 32 places
-  arc-small : (to : ℕ) → newArc t (dirty t) p (unkeptArcs t (dirty t) p) to < 2 ^ 32
-  unfolding newArc keptAmong
-  arc-small to = maskOf-lt 32 _
-
 module _ (t : Table) (o : Ready t) (l : List ℕ) (d : Decides t l) (p : ℕ) (hp : p < 8) (ends : List ℕ) (ends-are : Filled (λ n. endOf (nodeAt t p n) n) 32 ends) where
   keeps : ℕ
   keeps = maskOf 32 (keptIn (procAt t p) (p * 32) l)
@@ -53,9 +48,9 @@ module _ (t : Table) (o : Ready t) (l : List ℕ) (d : Decides t l) (p : ℕ) (h
   unfolding arcTo arcNo
   has-arc n m a = present t o p n (λ e. no-arc (subst (λ (x : Node). List·Memᴰ m (arcs x)) e a)) .1
 
-  is-kept : (n : ℕ) → kept (dirty t) p n (nodeAt t p n) ≡ true → n < 32
-  unfolding kept keeping
-  is-kept n h = present t o p n (λ e. false≢true (rw e at h)) .1
+  is-kept : (n : ℕ) → (Unkept t p n → ⊥) → n < 32
+  unfolding keeping
+  is-kept n h = present t o p n (λ e. h (never-kept (rw e))) .1
 
   unkept : (n : ℕ) → n < 32 → bit n keeps ≡ false → Unkept t p n
   unfolding keeps
@@ -90,16 +85,16 @@ module _ (t : Table) (o : Ready t) (l : List ℕ) (d : Decides t l) (p : ℕ) (h
 
   -- ---- the two ways are the same
 
-  to-leads : {n k : ℕ} → n < 32 → Search.Leads keeps ends n k → Leads t p (n ∷ []) k × (kept (dirty t) p k (nodeAt t p k) ≡ true)
+  to-leads : {n k : ℕ} → n < 32 → Search.Leads keeps ends n k → Leads t p (n ∷ []) k × (Unkept t p k → ⊥)
   unfolding keeps
-  to-leads {n} h (Search.here e) = (target (List·Memᴰ·head refl), sym (kept-bit t o l d p n hp h) ∙ e)
+  to-leads {n} h (Search.here e) = (target (List·Memᴰ·head refl), kept-is t p n .0 (sym (kept-bit t o l d p n hp h) ∙ e))
   to-leads {n} {k} h (Search.via m e a r) = go (to-leads (low-end a) r) (end-arc n h m a)
     where
       low-end : Search.IsEnd ends n m → m < 32
       low-end (inl z) = omega arith
       low-end (inr z) = omega arith
 
-      go : Leads t p (m ∷ []) k × (kept (dirty t) p k (nodeAt t p k) ≡ true) → List·Memᴰ m (arcs (nodeAt t p n)) ⊎ (m ≡ n) → Leads t p (n ∷ []) k × (kept (dirty t) p k (nodeAt t p k) ≡ true)
+      go : Leads t p (m ∷ []) k × (Unkept t p k → ⊥) → List·Memᴰ m (arcs (nodeAt t p n)) ⊎ (m ≡ n) → Leads t p (n ∷ []) k × (Unkept t p k → ⊥)
       go w (inl b) = (before t p (unkept n h e) b (w .0), w .1)
       go w (inr z) = (rw z at (w .0), w .1)
 
@@ -113,11 +108,11 @@ module _ (t : Table) (o : Ready t) (l : List ℕ) (d : Decides t l) (p : ℕ) (h
   -- ---- so the new arcs are the definition's
 
   module _ (cells : List ℕ) (r : Search.Reaches (maskOf 32 (keptIn (procAt t p) (p * 32) l)) ends cells) where
-    arc-bit : (to k : ℕ) → One to → (bit k (arcIn cells to) ≡ true) ↔ (Leads t p (members to) k × (kept (dirty t) p k (nodeAt t p k) ≡ true))
+    arc-bit : (to : ℕ) → One to → NewArc t p to (arcIn cells to)
     unfolding keeps
-    arc-bit to k one = (
+    arc-bit to one k = (
       λ e. let w = to-leads h (r .right (low to) k h .0 e) in (widen t p out (w .0), w .1),
-      λ w. r .right (low to) k h .1 (from-leads (widen t p back (w .0)) (Search.here (kept-bit t o l d p k hp (is-kept k (w .1)) ∙ w .1))),
+      λ w. r .right (low to) k h .1 (from-leads (widen t p back (w .0)) (Search.here (kept-bit t o l d p k hp (is-kept k (w .1)) ∙ kept-is t p k .1 (w .1)))),
     )
       where
         h : low to < 32
@@ -131,4 +126,4 @@ module _ (t : Table) (o : Ready t) (l : List ℕ) (d : Decides t l) (p : ℕ) (h
         back m b = List·Memᴰ·head (low-only one b)
 
     pub arc-right : (to : ℕ) → One to → arcIn cells to ≡ newArc t (dirty t) p (unkeptArcs t (dirty t) p) to
-    arc-right to one = bit-ext 32 (arcIn cells to) (newArc t (dirty t) p (unkeptArcs t (dirty t) p) to) (r .masks .below (low to)) (arc-small t p to) (λ k _. same-test _ _ (arc-bit to k one) (arc-is t p to k))
+    arc-right to one = arc-only t p to _ _ (arc-bit to one) (arc-is t p to)

@@ -10,7 +10,7 @@ use lib.Dec.{ltb}
 use lib.Pow.{pow-lt}
 use borrow.Author.Tests.{ltb-true, ltb-false}
 use Rattle.table.specs.Mask.{pick, bit, maskOf}
-use Rattle.table.specs.MaskLaws.{maskOf-lt, bit-maskOf, bit-maskOf-above}
+use Rattle.table.specs.MaskLaws.{maskOf-lt, bit-maskOf, bit-maskOf-above, bit-ext}
 use Rattle.table.specs.Table.{removed, procAt, nodeAt, noSlot, noQueue, outside}
 use Rattle.table.specs.declared.Args.{Args}
 use Rattle.table.specs.declared.Node.{Node}
@@ -23,7 +23,6 @@ use Rattle.closing.specs.ReachLaws.{cases}
 use Rattle.closing.specs.Dirty.{Fact, useAt, dropped, blank}
 use Rattle.closing.specs.Closing.{dirty, isDirty, kept}
 use Rattle.closing.specs.Close.{mapFrom, unkeptArcs, newArc, argsOr, closedNode, closedSlot, closedProc, closedQueue, closedWith, closeTable}
-use Rattle.masks.specs.Bits.{bit-ext}
 use Rattle.masks.specs.Cells.{cell}
 use Rattle.analysis.specs.Ready.{One, FitsNode, Ready}
 use Rattle.analysis.specs.Decides.{Decides}

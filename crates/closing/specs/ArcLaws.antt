@@ -2,7 +2,7 @@
 use Prim.Native.Nat.{ℕ, _<_}
 use mathlib.Core.Path.{_≡_, refl, sym, _∙_, ap}
 use mathlib.Core.Bool.{Bool, true, false, false≢true, _&&_}
-use mathlib.Core.Logic.{_⊎_, inl, inr, _↔_}
+use mathlib.Core.Logic.{_⊎_, inl, inr}
 use mathlib.Core.List.{List, List·Memᴰ, List·Memᴰ·not-nil, List·Memᴰ·append-cases, Memᴰ·map}
 use lib.ListN.{length, List·getD-eq-default}
 use lib.Dec.{eqb, ltb}
@@ -15,10 +15,11 @@ use Rattle.table.specs.declared.Table.{Table}
 use Rattle.closing.specs.Reach.{Reach, source, edge, mem, closure}
 use Rattle.closing.specs.ReachLaws.{cases, closure-sound, closure-complete}
 use Rattle.closing.specs.Dirty.{Unkept, Leads, target, through}
+use Rattle.closing.specs.ClosedTable.{NewArc}
 use Rattle.closing.specs.Closing.{upTo, dirty, kept}
 use Rattle.closing.specs.Close.{unkeptArcs, keptAmong, newArc}
 use Rattle.closing.specs.ListLaws.{All, all-nil, all-map, all-each, in-each, in-upTo}
-use Rattle.closing.specs.KeptLaws.{unkept-is}
+use Rattle.closing.specs.KeptLaws.{unkept-is, kept-is}
 
 -- a member has a place in a mask
 member-below : {k : ℕ} (m : ℕ) → List·Memᴰ k (members m) → k < 32
@@ -65,9 +66,9 @@ module _ (t : Table) (p : ℕ) where
       go (inr e) = member-below _ e
 
   -- the new arc of an arc m
-  pub arc-is : (m k : ℕ) → (bit k (newArc t (dirty t) p (unkeptArcs t (dirty t) p) m) ≡ true) ↔ (Leads t p (members m) k × (kept (dirty t) p k (nodeAt t p k) ≡ true))
+  pub arc-is : (m : ℕ) → NewArc t p m (newArc t (dirty t) p (unkeptArcs t (dirty t) p) m)
   unfolding newArc keptAmong
-  arc-is m k = (out, λ h. bit-maskOf 32 k passes (leads-below m k (h .0)) ∙ rw (closure-complete eqb eqb-true (λ x. eq-eqb x x refl) (members m) es k (leads-reach (members m) k (h .0)), h .1))
+  arc-is m k = (out, λ h. bit-maskOf 32 k passes (leads-below m k (h .0)) ∙ rw (closure-complete eqb eqb-true (λ x. eq-eqb x x refl) (members m) es k (leads-reach (members m) k (h .0)), kept-is t p k .1 (h .1)))
     where
       passes : ℕ → Bool
       passes k = mem eqb k (closure eqb (members m) es) && kept (dirty t) p k (nodeAt t p k)
@@ -76,7 +77,7 @@ module _ (t : Table) (p : ℕ) where
       both true b e = (refl, e)
       both false b e = absurd (false≢true e)
 
-      out : bit k (maskOf 32 passes) ≡ true → Leads t p (members m) k × (kept (dirty t) p k (nodeAt t p k) ≡ true)
+      out : bit k (maskOf 32 passes) ≡ true → Leads t p (members m) k × (Unkept t p k → ⊥)
       out h = cases (ltb k 32)
-          (λ l. let r = both _ _ (sym (bit-maskOf 32 k passes (ltb-true k 32 l)) ∙ h) in (reach-leads (members m) k (closure-sound eqb eqb-true (λ x. eq-eqb x x refl) (members m) es k (r .0)), r .1))
+          (λ l. let r = both _ _ (sym (bit-maskOf 32 k passes (ltb-true k 32 l)) ∙ h) in (reach-leads (members m) k (closure-sound eqb eqb-true (λ x. eq-eqb x x refl) (members m) es k (r .0)), kept-is t p k .0 (r .1)))
           (λ l. absurd (false≢true (sym (bit-maskOf-above 32 k passes (ltb-false k 32 l)) ∙ h)))

@@ -2,8 +2,8 @@
 use Prim.Native.Nat.{ℕ, zero, suc, _+_, _<_, _≤_}
 use native.Mathlib.Omega.{arith}
 use native.Mathlib.Nat.{add-zero, zero-add, add-suc, suc-add}
-use mathlib.Core.Path.{_≡_, refl, sym, _∙_, ap}
-use mathlib.Core.Bool.{true, false}
+use mathlib.Core.Path.{_≡_, refl, sym, _∙_, ap, ap₂}
+use mathlib.Core.Bool.{Bool, true, false}
 use mathlib.Core.List.{List, [], _∷_}
 use lib.ListN.{length, getD}
 use Rattle.table.specs.Mask.{bit, maskOf}
@@ -14,9 +14,10 @@ use Rattle.table.specs.declared.Slot.{Slot}
 use Rattle.table.specs.declared.Queue.{Queue}
 use Rattle.table.specs.declared.Proc.{Proc}
 use Rattle.table.specs.declared.Table.{Table}
+use Rattle.text.specs.Writer.{fault}
 use Rattle.closing.specs.Dirty.{dropped}
 use Rattle.closing.specs.Closing.{dirty, isDirty, kept}
-use Rattle.closing.specs.Close.{mapFrom, unkeptArcs, newArc, closedNode, closedSlot, closedProc, closedQueue, closedWith, closeTable}
+use Rattle.closing.specs.Close.{mapFrom, unkeptArcs, newArc, closedNode, closedSlot, closedProc, closedQueue, closedWith, closeTable, answer, close}
 
 -- place k of a list that `mapFrom` made; past the list's end the two defaults must agree
 mapFrom-at : {A B : Type 0} (f : ℕ → A → B) (i k : ℕ) (xs : List A) (a : A) (b : B) → (length xs ≤ k → f (i + k) a ≡ b) → getD (mapFrom f i xs) k b ≡ f (i + k) (getD xs k a)
@@ -28,6 +29,12 @@ mapFrom-at f i (suc k) (x ∷ xs) a b h = rw (add-suc, ← suc-add i k) (mapFrom
 -- the same of a list counted from 0
 pub map-at : {A B : Type 0} (f : ℕ → A → B) (k : ℕ) (xs : List A) (a : A) (b : B) → (length xs ≤ k → f k a ≡ b) → getD (mapFrom f zero xs) k b ≡ f k (getD xs k a)
 map-at f k xs a b h = rw zero-add at (mapFrom-at f zero k xs a b (λ l. rw zero-add (h l)))
+
+-- it is as long as the list that it was made from
+pub mapFrom-length : {A B : Type 0} (f : ℕ → A → B) (i : ℕ) (xs : List A) → length (mapFrom f i xs) ≡ length xs
+unfolding mapFrom
+mapFrom-length f i [] = refl
+mapFrom-length f i (x ∷ xs) = ap suc (mapFrom-length f (suc i) xs)
 
 module _ (t : Table) where
   -- ---- procedures
@@ -82,3 +89,19 @@ module _ (t : Table) where
       go i q [] = refl
       go i zero (x ∷ qs) = refl
       go i (suc q) (x ∷ qs) = go (suc i) q qs
+
+-- ---- a table that the closer accepts: it has no fault and is open, and the answer holds its closing
+
+pub record Accepted (t : Table) : Type 0 where
+  pub sound : fault t ≡ 0
+  pub open-form : t .closed ≡ false
+  pub answer-is : close t .table ≡ closeTable t
+
+pub accepted : (t : Table) → close t .number ≡ 0 → Accepted t
+unfolding close
+accepted t e = go (fault t) (t .closed) refl refl e
+  where
+    go : (n : ℕ) (c : Bool) → fault t ≡ n → t .closed ≡ c → answer t n c .number ≡ 0 → Accepted t
+    go zero false i j e = record { sound = i; open-form = j; answer-is = ap₂ (λ (n : ℕ) (c : Bool). answer t n c .table) i j }
+    go zero true i j e = absurd (omega arith)
+    go (suc n) c i j e = absurd (omega arith)

@@ -1,8 +1,7 @@
 -- The closed table of a value of the declared type is one too: as many places, and masks of 32 bits.
-use Prim.Native.Nat.{ℕ, suc, _^_, _<_, _≤_}
+use Prim.Native.Nat.{ℕ, _^_, _<_, _≤_}
 use native.Mathlib.Omega.{arith}
-use mathlib.Core.Path.{_≡_, refl, _∙_, ap}
-use mathlib.Core.List.{List, [], _∷_}
+use mathlib.Core.Path.{_∙_, ap}
 use lib.ListN.{length}
 use lib.Pow.{pow-mono}
 use native.Mathlib.Nat.{lt-of-lt-of-le}
@@ -15,13 +14,8 @@ use Rattle.table.specs.declared.Table.{Table}
 use Rattle.table.specs.Shape.{Shaped}
 use Rattle.closing.specs.ReachLaws.{cases}
 use Rattle.closing.specs.Closing.{dirty, kept}
-use Rattle.closing.specs.Close.{mapFrom, unkeptArcs, keptAmong, newArc, closedNode, closedProc, closedWith, closeTable}
-use Rattle.closing.specs.CloseLaws.{close-proc, kept-node, unkept-node}
-
-mapFrom-length : {A B : Type 0} (f : ℕ → A → B) (i : ℕ) (xs : List A) → length (mapFrom f i xs) ≡ length xs
-unfolding mapFrom
-mapFrom-length f i [] = refl
-mapFrom-length f i (x ∷ xs) = ap suc (mapFrom-length f (suc i) xs)
+use Rattle.closing.specs.Close.{unkeptArcs, keptAmong, newArc, closedNode, closedProc, closedWith, closeTable}
+use Rattle.closing.specs.CloseLaws.{mapFrom-length, close-proc, kept-node, unkept-node}
 
 module _ (t : Table) (s : Shaped t) (few : (p : ℕ) → procAt t p .params ≤ 4) where
   abbrev Low : Node → Type 0

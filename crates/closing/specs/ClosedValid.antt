@@ -31,6 +31,7 @@ use Rattle.closing.specs.Closing.{dirty, isDirty, kept}
 use Rattle.closing.specs.Close.{unkeptArcs, newArc, queueOr, argOr, argsOr, closedNode, closedProc, closedQueue, closedWith, closeTable}
 use Rattle.closing.specs.ListLaws.{All, all-nil, all-append}
 use Rattle.closing.specs.DirtyLaws.{dirty-is}
+use Rattle.closing.specs.KeptLaws.{kept-is}
 use Rattle.closing.specs.ArcLaws.{arc-is}
 use Rattle.closing.specs.CloseLaws.{map-at, close-proc, close-params, close-vars, close-nodes, close-drop, kept-node, unkept-node}
 
@@ -110,7 +111,7 @@ module _ (t : Table) (z : fault t ≡ 0) (o : t .closed ≡ false) where
 
   -- a new arc's targets do too, and are kept
   arc-in : (p m : ℕ) → Within 1 (procAt t p .nodes) (members m) → All (λ k. ((1 ≤ k) × (k < procAt t p .nodes)) × Stays p k) (members (arc p m))
-  arc-in p m w k e = let h = arc-is t p m k .0 (members-is k (arc p m) .0 e .0) in (leads-in p m k w (h .0), h .1)
+  arc-in p m w k e = let h = arc-is t p m k .0 (members-is k (arc p m) .0 e .0) in (leads-in p m k w (h .0), kept-is t p k .1 (h .1))
 
   -- ---- nodes
 
@@ -163,10 +164,10 @@ module _ (t : Table) (z : fault t ≡ 0) (o : t .closed ≡ false) where
         λ i l. arg-at t (dirty t) q xs i (omega (arith, v .lines .proc q (h .1) .params)) ∙ rw (lt-ltb i (xs .len) l)
         in
         record {
-          valid = (h .0, h .1, λ i l. rw (arg i l) (mark-at (dropped q i) (argAt xs i) (h .2 i l)), arc-valid p to (h .3));
+          valid = (h .0, h .1, λ i l u. rw (arg i l) (mark-at (dropped q i) (argAt xs i) (h .2 i l u)), arc-valid p to (h .3));
           counts = rw (close-params t q) k;
           leads = one p to (h .3);
-          removals = all-below (xs .len) _ (λ i l. rw (arg i l, close-drop t q i (omega arith)) (mark-right (isDirty (dirty t) (dropped q i)) (argAt xs i) (low (argAt xs i) (h .2 i l))));
+          removals = all-below (xs .len) _ (λ i l. rw (arg i l, close-drop t q i (omega arith)) (mark-right (isDirty (dirty t) (dropped q i)) (argAt xs i) (low (argAt xs i) (h .2 i l (omega (arith, v .lines .proc q (h .1) .params))))));
           behind = rw (args-behind t (dirty t) q (xs .len) (xs .a0) (xs .a1) (xs .a2) (xs .a3)) e;
         }
 

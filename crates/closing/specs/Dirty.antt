@@ -33,9 +33,9 @@ pub data Dirty (t : Table) : Fact → Type 0 where
   by-recv : {p n : ℕ} (q v to : ℕ) → nodeAt t p n ≡ Recv q v to → Dirty t (blank q) → Dirty t (settingAt p n)
   -- entry into a procedure, for its dropped parameters": the fact `dropped`.
   -- "A use of v at node n is dirty if along some control path from a dirty setting of v to n, after that setting, no node before n sets v":
-  -- from the node m, whose arc leads to k,
+  -- from the node m, whose arc leads to k. "Unreached nodes count like others." A variable is one of its procedure's; in a table without a fault it always is
   from-node : {p n v : ℕ} (m k : ℕ) → v < procAt t p .vars → sets (nodeAt t p m) ≡ some v → List·Memᴰ k (arcs (nodeAt t p m)) → Clear t p v n k → Dirty t (settingAt p m) → Dirty t (useAt p n v)
-  -- or from entry, which comes before node 0
+  -- or from entry, which comes before node 0. "Entry sets every other local to 0, and that is clean": no rule makes it dirty
   from-entry : {p n i : ℕ} → i < procAt t p .vars → Clear t p i n zero → Dirty t (dropped p i) → Dirty t (useAt p n i)
   -- "A parameter is dropped if its procedure is some task's top
   top : {p i : ℕ} (k : ℕ) → i < procAt t p .params → k < t .tasks → taskAt t k .top ≡ p → Dirty t (dropped p i)

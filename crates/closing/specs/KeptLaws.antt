@@ -1,8 +1,8 @@
 -- What is not kept by the computed set is what is not kept by the least solution.
 use Prim.Native.Nat.{ℕ}
-use mathlib.Core.Path.{_≡_, refl}
+use mathlib.Core.Path.{_≡_, refl, sym, _∙_}
 use mathlib.Core.Logic.{_↔_}
-use mathlib.Core.Bool.{true, false, true≢false, false≢true}
+use mathlib.Core.Bool.{Bool, true, false, true≢false, false≢true}
 use mathlib.Core.List.{List, [], _∷_, List·Memᴰ, List·Memᴰ·head, List·Memᴰ·tail}
 use borrow.Author.Tests.{not-false}
 use Rattle.table.specs.Table.{nodeAt, uses, Keeping, always, never, ifClean, keeping}
@@ -11,6 +11,12 @@ use Rattle.closing.specs.ReachLaws.{cases}
 use Rattle.closing.specs.Dirty.{Fact, useAt, Unkept, never-kept, dirty-use}
 use Rattle.closing.specs.Closing.{dirty, isDirty, anyDirty, keptBy, kept}
 use Rattle.closing.specs.DirtyLaws.{dirty-is}
+
+-- two tests of one thing are equal
+pub same-test : {P : Type 0} (a b : Bool) → (a ≡ true) ↔ P → (b ≡ true) ↔ P → a ≡ b
+same-test true b f g = sym (g .1 (f .0 refl))
+same-test false true f g = f .1 (g .0 refl)
+same-test false false f g = refl
 
 module _ (d : List Fact) (p n : ℕ) where
   -- one of some uses is dirty: which
@@ -42,3 +48,10 @@ unkept-is t p n = (out (keeping (nodeAt t p n)) refl, back)
     back : Unkept t p n → keptBy (dirty t) (keeping (nodeAt t p n)) p n (uses (nodeAt t p n)) ≡ false
     back (never-kept e) = rw e
     back (dirty-use u e m h) = rw (e, any-in (dirty t) p n u (uses (nodeAt t p n)) m (dirty-is t (useAt p n u) .1 h))
+
+-- and kept if and only if it is not one of those
+pub kept-is : (t : Table) (p n : ℕ) → (kept (dirty t) p n (nodeAt t p n) ≡ true) ↔ (Unkept t p n → ⊥)
+kept-is t p n = (
+  λ k u. true≢false (sym k ∙ unkept-is t p n .1 u),
+  λ h. cases (kept (dirty t) p n (nodeAt t p n)) (λ k. k) (λ k. absurd (h (unkept-is t p n .0 k))),
+)

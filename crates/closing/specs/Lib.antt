@@ -1,6 +1,7 @@
 pub mod Reach
 pub mod ReachLaws
 pub mod Dirty
+pub mod ClosedTable
 pub mod Closing
 pub mod ListLaws
 pub mod DirtyLaws
@@ -8,6 +9,7 @@ pub mod KeptLaws
 pub mod Close
 pub mod ArcLaws
 pub mod CloseLaws
+pub mod ClosedTableLaws
 pub mod ClosedValid
 pub mod Program
 pub mod Computing

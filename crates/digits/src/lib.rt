@@ -5,7 +5,7 @@ ghost use lib.Dec.{ltb};
 ghost use Prim.Native.Nat.{_+_, _-_, _*_, _≤_};
 ghost use lib.ListN.{length};
 ghost use Rattle.text.specs.Number.{spelt, value};
-ghost use Rattle.digits.specs.Read.{digitsOf, numberOf, capped, LeadAt};
+ghost use Rattle.digits.specs.Read.{digitOf, capped, digitsOf, numberOf, leadOf, leadFrom, fourFrom, firstOf};
 
 // The number, or 2^32 for any that is larger; or none is spelt.
 pub enum Num {
@@ -21,7 +21,7 @@ pub struct Lead {
 
 // A digit's number; more than 9 for any other byte.
 pub fn digit(b: u8) -> u8
-    ensures { λ r. ⌜ (r ≤ 9 → r + 48 ≡ b) ⌝ }
+    ensures { λ r. ⌜ r ≡ digitOf b ⌝ }
 {
     std::num::wrapping_sub_u8(b, 48)
 }
@@ -55,10 +55,10 @@ pub fn digit_run(t: &[u8]) -> Num
     Num::Good(v)
 }
 
-// The digits at a place, of which those before another say v.
-fn further_digits(s: &[u8], at: usize, from: usize, first: u64) -> Lead
-    requires { ⌜ LeadAt (now s) at first from ⌝ }
-    ensures { λ r. ⌜ LeadAt (now (s .entry)) at (r .value) (r .end) ⌝ }
+// The digits at a place, behind digits that say another number.
+fn further_digits(s: &[u8], from: usize, first: u64) -> Lead
+    requires { ⌜ (from ≤ length (now s)) × (first ≤ 4294967296) ⌝ }
+    ensures { λ r. ⌜ r ≡ leadFrom first (now (s .entry)) from ⌝ }
 {
     let mut v = first;
     let mut i = from;
@@ -83,9 +83,9 @@ fn joined(a: u8, b: u8, c: u8, d: u8) -> u64
 }
 
 // Four digits more, if there are four. All are read before one is judged, so that they can be judged at once.
-fn four_more(s: &[u8], at: usize, from: usize, first: u64) -> Lead
-    requires { ⌜ LeadAt (now s) at first from × (first ≤ 9999) ⌝ }
-    ensures { λ r. ⌜ LeadAt (now (s .entry)) at (r .value) (r .end) × (r .value ≤ first * 10000 + 9999) ⌝ }
+fn four_more(s: &[u8], from: usize, first: u64) -> Lead
+    requires { ⌜ (from ≤ length (now s)) × (first ≤ 9999) ⌝ }
+    ensures { λ r. ⌜ r ≡ fourFrom first (now (s .entry)) from ⌝ }
 {
     let none = Lead {
         value: first,
@@ -119,19 +119,19 @@ fn four_more(s: &[u8], at: usize, from: usize, first: u64) -> Lead
 // None, four or eight digits at a place.
 fn first_digits(s: &[u8], at: usize) -> Lead
     requires { ⌜ at ≤ length (now s) ⌝ }
-    ensures { λ r. ⌜ LeadAt (now (s .entry)) at (r .value) (r .end) ⌝ }
+    ensures { λ r. ⌜ r ≡ firstOf (now (s .entry)) at ⌝ }
 {
-    let four = four_more(s, at, at, 0);
+    let four = four_more(s, at, 0);
     if four.end == at {
         return four;
     }
-    four_more(s, at, four.end, four.value)
+    four_more(s, four.end, four.value)
 }
 
 // The digits at a place. One digit more keeps a number below 429,496,729 within 2^32.
 pub fn digits_at(s: &[u8], at: usize) -> Lead
     requires { ⌜ at ≤ length (now s) ⌝ }
-    ensures { λ r. ⌜ LeadAt (now (s .entry)) at (r .value) (r .end) ⌝ }
+    ensures { λ r. ⌜ r ≡ leadOf (now (s .entry)) at ⌝ }
 {
     let lead = first_digits(s, at);
     let mut v = lead.value;
@@ -143,7 +143,7 @@ pub fn digits_at(s: &[u8], at: usize) -> Lead
             return Lead { value: v, end: i };
         }
         if 429496729 <= v {
-            return further_digits(s, at, i, v);
+            return further_digits(s, i, v);
         }
         v = v * 10 + (d as u64);
         i += 1;

@@ -9,7 +9,7 @@ use lib.Dec.{eqb}
 use lib.Pow.{pow-pos, pow-mono}
 use borrow.Author.Tests.{eqb-true, eqb-false, eq-eqb, ne-eqb, lt-ltb, le-ltb, not-true}
 use Rattle.table.specs.Mask.{pick, bit, members, maskOf}
-use Rattle.table.specs.MaskLaws.{bit-above, bit-maskOf, maskOf-lt, members-is}
+use Rattle.table.specs.MaskLaws.{bit-above, bit-maskOf, maskOf-lt, members-is, bit-ext}
 use Rattle.table.specs.Table.{argAt, nodeIn, isAbsent}
 use Rattle.table.specs.declared.Args.{Args}
 use Rattle.table.specs.declared.Proc.{Proc}
@@ -18,7 +18,7 @@ use Rattle.text.specs.ValueLaws.{no}
 use Rattle.text.specs.MaskLists.{mask-bits, mask-same}
 use Rattle.text.specs.Reader.{allBelow, allPresent, isRemoved, iff}
 use Rattle.text.specs.ValidLaws.{below-all, present-all, all-present}
-use Rattle.masks.specs.Bits.{bit-and, bit-and-out, bit-ext}
+use Rattle.masks.specs.Bits.{bit-and, bit-and-out}
 use Rattle.targets.specs.MaskTests.{same-truth}
 use Rattle.checks.specs.ArgumentChecks.{removedAt}
 use Rattle.late_nodes.specs.Terms.{presentIn}

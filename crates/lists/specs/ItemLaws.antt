@@ -3,6 +3,7 @@ use Prim.Native.Nat.{ℕ, suc, _+_, _-_, _*_, _%_, _^_, _≤_, _<_}
 use mathlib.Core.Path.{_≡_, refl, sym, _∙_}
 use mathlib.Core.Bool.{Bool, true, false, _&&_, not}
 use mathlib.Core.List.{List, [], _∷_}
+use mathlib.Core.Option.{none}
 use native.Mathlib.Omega.{arith}
 use native.Mathlib.Nat.{one-mul}
 use native.Mathlib.Numerals.{add-one}
@@ -12,15 +13,16 @@ use lib.ListN.{length, take, drop, getD, drop-of-length-le, length-drop}
 use lib.Seq.{drop-cons, drop-drop}
 use borrow.Author.Tests.{lt-ltb, le-ltb, le-leb, lt-leb, ne-eqb}
 use Rattle.table.specs.Mask.{pick}
-use Rattle.text.specs.Number.{value}
+use Rattle.text.specs.Number.{spelt, value}
 use Rattle.text.specs.NumberLaws.{byOrder, cases}
-use Rattle.text.specs.Value.{split, each}
+use Rattle.text.specs.Value.{numeral, split, each}
 use Rattle.digits.specs.declared.Num.{Num}
 use Rattle.digits.specs.declared.Num.the-variants.{Good, Bad}
 use Rattle.digits.specs.Read.{numberOf, capped}
 use Rattle.digits.specs.NumeralLaws.{spelt-good, numeral-bad}
+use Rattle.lists.specs.declared.Item.{Item}
 use Rattle.lists.specs.declared.Item.the-variants.{Is, Not}
-use Rattle.lists.specs.Items.{upTo, CommaAt, more, bitOf, part, ItemAt}
+use Rattle.lists.specs.Items.{upTo, nextComma, CommaAt, more, bitOf, part, itemFor, itemOf}
 
 -- ---- up to the next comma
 pub record Seeking (t : List ℕ) (from i : ℕ) : Type 0 where
@@ -97,23 +99,60 @@ bit-capped lo n x v c u =
     go false true = refl
     go false false = refl
 
+-- ---- an item
 module _ {t : List ℕ} {from to : ℕ} (c : CommaAt t from to) {w : Num} (d : w ≡ numberOf (part t from to)) (lo n : ℕ) where
-  pub item-bad : w ≡ Bad → ItemAt lo n t from Not
-  unfolding each
-  item-bad h = record { is = rw (comma-split c, numeral-bad (part t from to) d h) }
+  pub item-bad : w ≡ Bad → Not ≡ itemOf lo n t from
+  unfolding itemOf
+  item-bad h = rw (← c .same, ← d, h)
 
-  pub item-good : {v m : ℕ} → w ≡ Good v → n ≤ 32 → m ≡ bitOf lo n v → ItemAt lo n t from (Is to m)
-  item-good {v} {m} h u b =
-      let g = spelt-good (part t from to) d h in
-      record {
-        is = record {
-          from-on = c .from-on;
-          within = c .within;
-          good = g .0;
-          bit = b ∙ bit-capped lo n (value (part t from to)) v (g .1) u;
-          split = comma-split c;
-        };
-      }
+  pub item-good : {v m : ℕ} → w ≡ Good v → m ≡ bitOf lo n v → Is to m ≡ itemOf lo n t from
+  unfolding itemOf
+  item-good h b = rw (← c .same, ← d, h, b)
+
+-- an item that is a number, and the others
+pub record Itemized (lo n : ℕ) (t : List ℕ) (from to m : ℕ) : Type 0 where
+  pub from-on : from ≤ to
+  pub within : to ≤ length t
+  pub good : spelt (part t from to) ≡ true
+  pub bit : m ≡ bitOf lo n (value (part t from to))
+  pub split : split (drop from t) ≡ part t from to ∷ more t to
+
+-- what an item says of the items from a place on
+abbrev pub ItemIs : ℕ → ℕ → List ℕ → ℕ → Item → Type 0
+ItemIs lo n t from (Is to m) = Itemized lo n t from to m
+ItemIs lo n t from Not = each numeral (split (drop from t)) ≡ none
+
+pub record ItemAt (lo n : ℕ) (t : List ℕ) (from : ℕ) (r : Item) : Type 0 where
+  pub is : ItemIs lo n t from r
+
+up-short : (s : List ℕ) → upTo s ≤ length s
+unfolding upTo
+up-short [] = omega arith
+up-short (b ∷ s) = cases (eqb b 44) (λ e. rw e (omega arith)) (λ e. rw e (omega (arith, up-short s)))
+
+pub comma-here : (t : List ℕ) (from : ℕ) → from ≤ length t → CommaAt t from (nextComma t from)
+comma-here t from h = record { same = refl; from-on = omega arith; within = omega (arith, up-short (drop from t), length-drop from t) }
+
+pub item-read : (lo n : ℕ) (t : List ℕ) (from : ℕ) {r : Item} → r ≡ itemOf lo n t from → from ≤ length t → n ≤ 32 → ItemAt lo n t from r
+unfolding itemOf each
+item-read lo n t from q h u = rw q (go (nextComma t from) (comma-here t from h) (numberOf (part t from (nextComma t from))) refl)
+  where
+    go : (to : ℕ) → CommaAt t from to → (w : Num) → w ≡ numberOf (part t from to) → ItemAt lo n t from (itemFor lo n to w)
+    go to c Bad d = record { is = rw (comma-split c, numeral-bad (part t from to) d refl) }
+    go to c (Good v) d =
+        let g = spelt-good (part t from to) d refl in
+        record {
+          is = record {
+            from-on = c .from-on;
+            within = c .within;
+            good = g .0;
+            bit = bit-capped lo n (value (part t from to)) v (g .1) u;
+            split = comma-split c;
+          };
+        }
+
+pub item-next : (lo n : ℕ) (t : List ℕ) (to : ℕ) {r : Item} → r ≡ itemOf lo n t (to + 1) → to < length t → n ≤ 32 → ItemAt lo n t (to + 1) r
+item-next lo n t to q h u = item-read lo n t (to + 1) q (omega arith) u
 
 pub kept-none : (m : ℕ) (b : Bool) → m ≡ 0 → false ≡ b && not (eqb m 0)
 kept-none m true h = rw h

@@ -1,14 +1,15 @@
 -- What the readers of a list's items answer.
 use Prim.Native.Nat.{ℕ, suc, _+_, _-_, _^_, _≤_}
 use mathlib.Core.Path.{_≡_}
-use mathlib.Core.Bool.{Bool, true, _&&_}
+use mathlib.Core.Bool.{Bool, _&&_}
 use mathlib.Core.List.{List, [], _∷_}
-use mathlib.Core.Option.{none}
 use lib.Dec.{ltb, leb, eqb}
 use lib.ListN.{length, take, drop}
 use Rattle.table.specs.Mask.{pick}
-use Rattle.text.specs.Number.{spelt, value}
-use Rattle.text.specs.Value.{numeral, split, each}
+use Rattle.text.specs.Value.{split}
+use Rattle.digits.specs.declared.Num.{Num}
+use Rattle.digits.specs.declared.Num.the-variants.{Good, Bad}
+use Rattle.digits.specs.Read.{numberOf}
 use Rattle.lists.specs.declared.Item.{Item}
 use Rattle.lists.specs.declared.Item.the-variants.{Is, Not}
 
@@ -17,8 +18,12 @@ unfoldable pub upTo : List ℕ → ℕ
 upTo [] = 0
 upTo (b ∷ s) = pick (eqb b 44) 0 (suc (upTo s))
 
+-- the place of the next comma, or the end
+abbrev pub nextComma : List ℕ → ℕ → ℕ
+nextComma t from = from + upTo (drop from t)
+
 pub record CommaAt (t : List ℕ) (from r : ℕ) : Type 0 where
-  pub same : r ≡ from + upTo (drop from t)
+  pub same : r ≡ nextComma t from
   pub from-on : from ≤ r
   pub within : r ≤ length t
 
@@ -35,16 +40,11 @@ bitOf lo n x = pick (inside lo n x) (2 ^ x) 0
 abbrev pub part : List ℕ → ℕ → ℕ → List ℕ
 part t from to = take (to - from) (drop from t)
 
-pub record Itemized (lo n : ℕ) (t : List ℕ) (from to m : ℕ) : Type 0 where
-  pub from-on : from ≤ to
-  pub within : to ≤ length t
-  pub good : spelt (part t from to) ≡ true
-  pub bit : m ≡ bitOf lo n (value (part t from to))
-  pub split : split (drop from t) ≡ part t from to ∷ more t to
+-- the answer for an item that ends at a place
+abbrev pub itemFor : ℕ → ℕ → ℕ → Num → Item
+itemFor lo n to (Good v) = Is to (bitOf lo n v)
+itemFor lo n to Bad = Not
 
-abbrev pub ItemIs : ℕ → ℕ → List ℕ → ℕ → Item → Type 0
-ItemIs lo n t from (Is to m) = Itemized lo n t from to m
-ItemIs lo n t from Not = each numeral (split (drop from t)) ≡ none
-
-pub record ItemAt (lo n : ℕ) (t : List ℕ) (from : ℕ) (r : Item) : Type 0 where
-  pub is : ItemIs lo n t from r
+-- the item from a place to the next comma
+unfoldable pub itemOf : ℕ → ℕ → List ℕ → ℕ → Item
+itemOf lo n t from = itemFor lo n (nextComma t from) (numberOf (part t from (nextComma t from)))

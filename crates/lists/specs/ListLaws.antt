@@ -7,6 +7,7 @@ use mathlib.Core.Option.{Option, none, some}
 use native.Mathlib.Omega.{arith}
 use native.Mathlib.Nat.{add-zero}
 use lib.Dec.{ltb}
+use lib.Pow.{pow-pos}
 use lib.ListN.{length, take, drop}
 use lib.Seq.{take-all, take-length}
 use borrow.Author.Tests.{le-ltb, ltb-false, ne-eqb}
@@ -31,7 +32,7 @@ use Rattle.lists.specs.declared.Set.{Set}
 use Rattle.lists.specs.declared.Set.the-variants.{Is, Not}
 use Rattle.lists.specs.Items.{upTo, more, inside, bitOf}
 use Rattle.lists.specs.ItemLaws.{split-first, bit-capped}
-use Rattle.lists.specs.Sets.{setEnds, setWithin, SetJudged, SetSaid, OneSaid, SetIn, SetAt}
+use Rattle.lists.specs.Sets.{setEnds, setWithin, SetJudged, SetSaid, singleOf, SetIn, SetAt}
 use Rattle.lists.specs.TotalLaws.{total, total-is, mask-none}
 use Rattle.lists.specs.SetLaws.{bit-inside}
 
@@ -103,14 +104,27 @@ module _ (t : List ℕ) (e lo n : ℕ) {w : Num} (d : w ≡ numberOf t) where
         let f : setOf (value t ∷ []) ≡ b = total-is lo n (value t ∷ []) u refl j ∙ add-zero (2 ^ value t) ∙ sym m in
         record { judged = record { same = λ l s. rw (one-said t (spelt-good t d h .0), i, f); ends = refl } }
 
-pub one-outside : {lo n v b : ℕ} (e : ℕ) → n ≤ 32 → b ≡ bitOf lo n v → b ≡ 0 → OneSaid lo n v e (Not Reference)
-one-outside {lo} {n} e u k z = record { is = λ t d. single-outside t e lo n d refl u k z }
+module _ (lo n v e : ℕ) {b : ℕ} (k : b ≡ bitOf lo n v) where
+  pub one-outside : b ≡ 0 → Not Reference ≡ singleOf lo n v e
+  unfolding singleOf
+  one-outside z = let i : inside lo n v ≡ false = sym (bit-inside lo n v b k) ∙ rw z in rw i
 
-pub one-is : {lo n v b : ℕ} (e : ℕ) → n ≤ 32 → b ≡ bitOf lo n v → (b ≡ 0 → ⊥) → OneSaid lo n v e (Is b e)
-one-is {lo} {n} e u k z = record { is = λ t d. single-is t e lo n d refl u k z }
+  pub one-is : (b ≡ 0 → ⊥) → Is b e ≡ singleOf lo n v e
+  unfolding singleOf
+  one-is z =
+      let i : inside lo n v ≡ true = sym (bit-inside lo n v b k) ∙ rw (ne-eqb b 0 z) in
+      let m : b ≡ 2 ^ v = k ∙ rw i in
+      rw (i, m)
 
-pub single-one : {lo n : ℕ} (t : List ℕ) {v e : ℕ} {w : Num} {r : Set} → w ≡ numberOf t → w ≡ Good v → OneSaid lo n v e r → SetSaid true lo n t e r
-single-one t d h a = a .is t (sym h ∙ d)
+pub one-value : (lo n : ℕ) (t : List ℕ) (v e : ℕ) {r : Set} → Good v ≡ numberOf t → n ≤ 32 → r ≡ singleOf lo n v e → SetSaid true lo n t e r
+unfolding singleOf
+one-value lo n t v e d u q =
+    cases (inside lo n v)
+    (λ i. rw (q, i) (single-is t e lo n d refl u (rw i) (λ z. omega (arith, pow-pos v))))
+    (λ i. let k : 0 ≡ bitOf lo n v = rw i in rw (q, i) (single-outside t e lo n d refl u k refl))
+
+pub single-one : (lo n : ℕ) (t : List ℕ) {v e : ℕ} {w : Num} {r : Set} → w ≡ numberOf t → w ≡ Good v → n ≤ 32 → r ≡ singleOf lo n v e → SetSaid true lo n t e r
+single-one lo n t {v} {e} d h u q = one-value lo n t v e (sym h ∙ d) u q
 
 -- ---- a list
 pub list-single : {one : Bool} {lo n : ℕ} {t : List ℕ} {e : ℕ} {r : Set} → one ≡ true → SetSaid true lo n t e r → SetSaid one lo n t e r

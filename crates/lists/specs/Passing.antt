@@ -1,64 +1,39 @@
 -- What the readers of a call's variables answer.
-use Prim.Native.Nat.{ℕ, _+_, _≤_, _<_, min}
+use Prim.Native.Nat.{ℕ, _+_, _<_, min}
 use mathlib.Core.Path.{_≡_}
-use mathlib.Core.Bool.{Bool, true, false, _||_}
-use mathlib.Core.List.{List, [], _∷_}
+use mathlib.Core.Bool.{Bool, true, false}
+use mathlib.Core.List.{List}
 use mathlib.Core.Option.{Option, none, some}
-use mathlib.Core.Logic.{_⊎_}
 use lib.Dec.{ltb, eqb}
 use lib.ListN.{length, drop}
 use Rattle.table.specs.Mask.{pick}
+use Rattle.table.specs.Table.{removed}
 use Rattle.table.specs.declared.Args.{Args}
 use Rattle.text.specs.Number.{bytes}
-use Rattle.text.specs.Value.{arguments, saidVariable, split, each, noneRemoved, said}
+use Rattle.text.specs.Value.{arguments, saidVariable, said}
 use Rattle.text.specs.Line.{Outcome, took, refused, judged, fieldOf}
-use Rattle.text.specs.Format.{variableOf, argsOf}
+use Rattle.text.specs.Format.{argsOf}
 use Rattle.numbers.specs.Answer.{mapped}
 use Rattle.lists.specs.declared.Argument.{Argument}
 use Rattle.lists.specs.declared.Argument.the-variants.{Is as IsArgument, Not as NotArgument}
 use Rattle.lists.specs.declared.Passed.{Passed}
 use Rattle.lists.specs.declared.Passed.the-variants.{Is, Not}
-use Rattle.lists.specs.Items.{more, part}
+use Rattle.lists.specs.Items.{nextComma, part}
 
 -- ---- one variable
 
-abbrev pub isDeclared : ℕ → Option ℕ → Bool
-isDeclared n none = true
-isDeclared n (some v) = ltb v n
+-- the answer for what bytes that end at a place say: a variable, and whether it is declared; 0 stands for one that is not
+abbrev pub argumentFor : Bool → ℕ → ℕ → Option (Option ℕ) → Argument
+argumentFor c n to none = NotArgument
+argumentFor c n to (some none) = pick c (IsArgument to removed true) NotArgument
+argumentFor c n to (some (some v)) = pick (ltb v n) (IsArgument to v true) (IsArgument to 0 false)
 
--- bytes say a variable, which may be `-` in closed form only
-pub record Argued (c : Bool) (n : ℕ) (w : List ℕ) (v : ℕ) (ok : Bool) : Type 0 where
-  pub name : Option ℕ
-  pub says : saidVariable w ≡ some name
-  pub allowed : c || noneRemoved (name ∷ []) ≡ true
-  pub known : ok ≡ isDeclared n name
-  pub value : ok ≡ true → v ≡ variableOf name
+unfoldable pub argumentOf : Bool → ℕ → List ℕ → ℕ → Argument
+argumentOf c n w to = argumentFor c n to (saidVariable w)
 
-abbrev pub ArgumentIs : Bool → ℕ → List ℕ → ℕ → Argument → Type 0
-ArgumentIs c n w to (IsArgument q v ok) = (q ≡ to) × Argued c n w v ok
-ArgumentIs c n w to NotArgument = (saidVariable w ≡ none) ⊎ ((saidVariable w ≡ some none) × (c ≡ false))
-
-pub record ArgumentSaid (c : Bool) (n : ℕ) (w : List ℕ) (to : ℕ) (r : Argument) : Type 0 where
-  pub is : ArgumentIs c n w to r
-
--- the first variable of those from a place on
-pub record First (c : Bool) (n : ℕ) (t : List ℕ) (from to v : ℕ) (ok : Bool) : Type 0 where
-  pub from-on : from ≤ to
-  pub within : to ≤ length t
-  pub splits : split (drop from t) ≡ part t from to ∷ more t to
-  pub argued : Argued c n (part t from to) v ok
-
--- what is said is spelt, and has `-` in closed form only
-abbrev pub spells : Bool → Option (List (Option ℕ)) → Bool
-spells c none = false
-spells c (some xs) = c || noneRemoved xs
-
-abbrev pub FirstIs : Bool → ℕ → List ℕ → ℕ → Argument → Type 0
-FirstIs c n t from (IsArgument to v ok) = First c n t from to v ok
-FirstIs c n t from NotArgument = spells c (each saidVariable (split (drop from t))) ≡ false
-
-pub record ArgumentAt (c : Bool) (n : ℕ) (t : List ℕ) (from : ℕ) (r : Argument) : Type 0 where
-  pub is : FirstIs c n t from r
+-- the one from a place to the next comma
+unfoldable pub argumentFrom : Bool → ℕ → List ℕ → ℕ → Argument
+argumentFrom c n t from = argumentOf c n (part t from (nextComma t from)) (nextComma t from)
 
 -- ---- all of them
 

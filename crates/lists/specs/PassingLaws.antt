@@ -4,7 +4,6 @@ use mathlib.Core.Path.{_≡_, refl, sym, _∙_, ap}
 use mathlib.Core.Bool.{Bool, true, false, _&&_, _||_, false≢true}
 use mathlib.Core.List.{List, [], _∷_, _++_, append-assoc, append-nil}
 use mathlib.Core.Option.{Option, none, some}
-use mathlib.Core.Logic.{_⊎_, inl, inr}
 use native.Mathlib.Omega.{arith}
 use native.Mathlib.Numerals.{add-one}
 use lib.Dec.{ltb, eqb}
@@ -34,64 +33,99 @@ use Rattle.lists.specs.declared.Argument.{Argument}
 use Rattle.lists.specs.declared.Argument.the-variants.{Is as IsArgument, Not as NotArgument}
 use Rattle.lists.specs.declared.Passed.{Passed}
 use Rattle.lists.specs.declared.Passed.the-variants.{Is, Not}
-use Rattle.lists.specs.Items.{CommaAt, more, part}
-use Rattle.lists.specs.ItemLaws.{comma-split}
-use Rattle.lists.specs.Passing.{isDeclared, Argued, ArgumentIs, ArgumentSaid, First, spells, FirstIs, ArgumentAt, pushedOf, passedIn, passedEnds, passedWithin, PassedJudged, PassedSaid, PassedAt}
+use Rattle.lists.specs.Items.{nextComma, CommaAt, more, part}
+use Rattle.lists.specs.ItemLaws.{comma-split, comma-here}
+use Rattle.lists.specs.Passing.{argumentFor, argumentOf, argumentFrom, pushedOf, passedIn, passedEnds, passedWithin, PassedJudged, PassedSaid, PassedAt}
 
 -- ---- one variable
 module _ (c : Bool) (n : ℕ) (w : List ℕ) (to : ℕ) {x : Bool} (p : x ≡ same (bytes "-") w) where
-  pub argument-removed : x ≡ true → c ≡ true → ArgumentSaid c n w to (IsArgument to 255 true)
-  argument-removed h k = record { is = (refl, record { name = none; says = rw (← p, h); allowed = rw k; known = refl; value = λ z. refl }) }
+  pub argument-removed : x ≡ true → c ≡ true → IsArgument to 255 true ≡ argumentOf c n w to
+  unfolding argumentOf
+  argument-removed h k = rw (← p, h, k)
 
-  pub argument-open : x ≡ true → c ≡ false → ArgumentSaid c n w to NotArgument
-  argument-open h k = record { is = inr (rw (← p, h), k) }
+  pub argument-open : x ≡ true → c ≡ false → NotArgument ≡ argumentOf c n w to
+  unfolding argumentOf
+  argument-open h k = rw (← p, h, k)
 
   module _ (h : x ≡ false) {d : Num} (q : d ≡ numberOf w) where
-    pub argument-bad : d ≡ Bad → ArgumentSaid c n w to NotArgument
-    argument-bad k = record { is = inl (rw (← p, h, numeral-bad w q k)) }
+    pub argument-bad : d ≡ Bad → NotArgument ≡ argumentOf c n w to
+    unfolding argumentOf
+    argument-bad k = rw (← p, h, numeral-bad w q k)
 
     module _ {v : ℕ} (k : d ≡ Good v) (u : n ≤ 256) where
-      number-said : saidVariable w ≡ some (some (value w))
-      number-said = rw (← p, h, numeral-good w q k)
-
-      allows : (b : Bool) → b || noneRemoved (some (value w) ∷ []) ≡ true
-      unfolding noneRemoved
-      allows true = refl
-      allows false = refl
-
-      pub argument-is : v < n → ArgumentSaid c n w to (IsArgument to v true)
+      pub argument-is : v < n → IsArgument to v true ≡ argumentOf c n w to
+      unfolding argumentOf
       argument-is l =
           let z : value w ≡ v = omega (arith, spelt-good w q k .1) in
-          record { is = (refl, record { name = some (value w); says = number-said; allowed = allows c; known = sym (lt-ltb (value w) n (omega arith)); value = λ i. sym z }) }
+          rw (← p, h, numeral-good w q k, z, lt-ltb v n l)
 
-      pub argument-outside : n ≤ v → ArgumentSaid c n w to (IsArgument to 0 false)
-      argument-outside l =
-          record {
-            is = (
-              refl,
-              record {
-                name = some (value w);
-                says = number-said;
-                allowed = allows c;
-                known = sym (le-ltb (value w) n (omega (arith, spelt-good w q k .1)));
-                value = λ i. absurd (false≢true i);
-              },
-            );
-          }
+      pub argument-outside : n ≤ v → IsArgument to 0 false ≡ argumentOf c n w to
+      unfolding argumentOf
+      argument-outside l = rw (← p, h, numeral-good w q k, le-ltb (value w) n (omega (arith, spelt-good w q k .1)))
 
-refuses : (c : Bool) (a : Option (Option ℕ)) (o : Option (List (Option ℕ))) → (a ≡ none) ⊎ ((a ≡ some none) × (c ≡ false)) → spells c (followed a o) ≡ false
+pub argument-part : (c : Bool) (n : ℕ) {t : List ℕ} {from to : ℕ} {r : Argument} → CommaAt t from to → r ≡ argumentOf c n (part t from to) to → r ≡ argumentFrom c n t from
+unfolding argumentFrom
+argument-part c n m a = a ∙ rw (← m .same)
+
+-- ---- what a variable says of those from a place on
+abbrev pub isDeclared : ℕ → Option ℕ → Bool
+isDeclared n none = true
+isDeclared n (some v) = ltb v n
+
+-- bytes say a variable, which may be `-` in closed form only
+pub record Argued (c : Bool) (n : ℕ) (w : List ℕ) (v : ℕ) (ok : Bool) : Type 0 where
+  pub name : Option ℕ
+  pub says : saidVariable w ≡ some name
+  pub allowed : c || noneRemoved (name ∷ []) ≡ true
+  pub known : ok ≡ isDeclared n name
+  pub value : ok ≡ true → v ≡ variableOf name
+
+-- the first variable of those from a place on
+pub record First (c : Bool) (n : ℕ) (t : List ℕ) (from to v : ℕ) (ok : Bool) : Type 0 where
+  pub from-on : from ≤ to
+  pub within : to ≤ length t
+  pub splits : split (drop from t) ≡ part t from to ∷ more t to
+  pub argued : Argued c n (part t from to) v ok
+
+-- what is said is spelt, and has `-` in closed form only
+abbrev pub spells : Bool → Option (List (Option ℕ)) → Bool
+spells c none = false
+spells c (some xs) = c || noneRemoved xs
+
+abbrev pub FirstIs : Bool → ℕ → List ℕ → ℕ → Argument → Type 0
+FirstIs c n t from (IsArgument to v ok) = First c n t from to v ok
+FirstIs c n t from NotArgument = spells c (each saidVariable (split (drop from t))) ≡ false
+
+pub record ArgumentAt (c : Bool) (n : ℕ) (t : List ℕ) (from : ℕ) (r : Argument) : Type 0 where
+  pub is : FirstIs c n t from r
+
+removed-open : (o : Option (List (Option ℕ))) → spells false (followed (some none) o) ≡ false
 unfolding noneRemoved
-refuses c a o (inl h) = rw h
-refuses c a none (inr h) = rw (h .0)
-refuses c a (some xs) (inr h) = rw (h .0, h .1)
+removed-open none = refl
+removed-open (some xs) = refl
 
-pub argument-part : {c : Bool} {n : ℕ} {t : List ℕ} {from to : ℕ} {r : Argument} → CommaAt t from to → ArgumentSaid c n (part t from to) to r → ArgumentAt c n t from r
-unfolding each
-argument-part {c} {n} {t} {from} {to} {r} m a = record { is = go r (a .is) }
+or-true : (b : Bool) → b || true ≡ true
+or-true true = refl
+or-true false = refl
+
+pub argument-read : (c : Bool) (n : ℕ) (t : List ℕ) (from : ℕ) {r : Argument} → r ≡ argumentFrom c n t from → from ≤ length t → ArgumentAt c n t from r
+unfolding argumentFrom argumentOf each noneRemoved
+argument-read c n t from q h = rw q (go c (nextComma t from) (comma-here t from h) (saidVariable (part t from (nextComma t from))) refl)
   where
-    go : (r : Argument) → ArgumentIs c n (part t from to) to r → FirstIs c n t from r
-    go (IsArgument q v ok) h = rw (h .0) (record { from-on = m .from-on; within = m .within; splits = comma-split m; argued = h .1 })
-    go NotArgument h = rw (comma-split m) (refuses c (saidVariable (part t from to)) (each saidVariable (more t to)) h)
+    is : (c : Bool) {to : ℕ} → CommaAt t from to → (v : ℕ) (ok : Bool) → Argued c n (part t from to) v ok → ArgumentAt c n t from (IsArgument to v ok)
+    is c m v ok a = record { is = record { from-on = m .from-on; within = m .within; splits = comma-split m; argued = a } }
+
+    go : (c : Bool) (to : ℕ) → CommaAt t from to → (o : Option (Option ℕ)) → saidVariable (part t from to) ≡ o → ArgumentAt c n t from (argumentFor c n to o)
+    go c to m none e = record { is = rw (comma-split m, e) }
+    go true to m (some none) e = is true m 255 true (record { name = none; says = e; allowed = refl; known = refl; value = λ z. refl })
+    go false to m (some none) e = record { is = rw (comma-split m, e) (removed-open (each saidVariable (more t to))) }
+    go c to m (some (some v)) e =
+        cases (ltb v n)
+        (λ k. rw k (is c m v true (record { name = some v; says = e; allowed = or-true c; known = sym k; value = λ z. refl })))
+        (λ k. rw k (is c m 0 false (record { name = some v; says = e; allowed = or-true c; known = sym k; value = λ z. absurd (false≢true z) })))
+
+pub argument-next : (c : Bool) (n : ℕ) (t : List ℕ) (to : ℕ) {r : Argument} → r ≡ argumentFrom c n t (to + 1) → to < length t → ArgumentAt c n t (to + 1) r
+argument-next c n t to q h = argument-read c n t (to + 1) q (omega arith)
 
 -- ---- one variable more
 pub place-same : (n i v old : ℕ) → n ≡ i → v ≡ pick (eqb n i) v old
@@ -182,13 +216,15 @@ module _ {c : Bool} {n : ℕ} {t : List ℕ} {from : ℕ} {r : Argument} (a : Ar
   argument-first : {to v : ℕ} {k : Bool} → r ≡ IsArgument to v k → First c n t from to v k
   argument-first q = rw q at (a .is)
 
-  pub argument-less : {to v last : ℕ} {k : Bool} → r ≡ IsArgument to v k → from ≡ last + 1 → last < length t → length t - to < length t - last
-  argument-less q e h = omega (arith, argument-first q .from-on)
-
   argument-said : {to v : ℕ} {k : Bool} → r ≡ IsArgument to v k
       → each saidVariable (split (drop from t)) ≡ followed (saidVariable (part t from to)) (each saidVariable (more t to))
   unfolding each
   argument-said q = rw (argument-first q .splits)
+
+-- the text left behind it falls
+pub argument-less : (c : Bool) (n : ℕ) (t : List ℕ) (last : ℕ) {r : Argument} {to v : ℕ} {k : Bool} → r ≡ argumentFrom c n t (last + 1) → last < length t
+    → r ≡ IsArgument to v k → length t - to < length t - last
+argument-less c n t last a h q = omega (arith, argument-first (argument-next c n t last a h) q .from-on)
 
 pub record Going (c : Bool) (n e : ℕ) (t : List ℕ) (to : ℕ) (a : Args) (ok : Bool) : Type 0 where
   pub within-text : to ≤ length t

@@ -25,7 +25,8 @@ use Rattle.lists.specs.declared.Item.{Item}
 use Rattle.lists.specs.declared.Item.the-variants.{Is as IsItem, Not as NotItem}
 use Rattle.lists.specs.declared.Set.{Set}
 use Rattle.lists.specs.declared.Set.the-variants.{Is, Not}
-use Rattle.lists.specs.Items.{more, inside, bitOf, part, Itemized, ItemAt}
+use Rattle.lists.specs.Items.{more, inside, bitOf, part, itemOf}
+use Rattle.lists.specs.ItemLaws.{Itemized, ItemAt, item-next}
 use Rattle.lists.specs.Sets.{setIn, SetJudged}
 use Rattle.lists.specs.TotalLaws.{total, total-first, within-first, total-is}
 
@@ -76,23 +77,28 @@ module _ {lo n : ℕ} {t : List ℕ} {from : ℕ} {r : Item} (a : ItemAt lo n t 
   item-is : {to m : ℕ} → r ≡ IsItem to m → Itemized lo n t from to m
   item-is q = rw q at (a .is)
 
-  pub item-from : {to m : ℕ} → r ≡ IsItem to m → from ≤ to
-  item-from q = item-is q .from-on
-
-  pub item-to : {to m : ℕ} → r ≡ IsItem to m → to ≤ length t
-  item-to q = item-is q .within
-
-  pub item-spelt : {to m : ℕ} → r ≡ IsItem to m → spelt (part t from to) ≡ true
-  item-spelt q = item-is q .good
-
-  -- the text left behind an item falls
-  pub item-less : {to m last : ℕ} → r ≡ IsItem to m → from ≡ last + 1 → last < length t → length t - to < length t - last
-  item-less q e h = omega (arith, item-is q .from-on)
-
   -- what the items from here on say
   item-said : {to m : ℕ} → r ≡ IsItem to m → each numeral (split (drop from t)) ≡ followed (some (value (part t from to))) (each numeral (more t to))
   unfolding each
   item-said q = rw (item-is q .split, item-is q .good)
+
+-- an item behind a comma
+module _ (lo n : ℕ) (t : List ℕ) (last : ℕ) {r : Item} (a : r ≡ itemOf lo n t (last + 1)) (h : last < length t) (u : n ≤ 32) {to m : ℕ} (q : r ≡ IsItem to m) where
+  next : Itemized lo n t (last + 1) to m
+  next = item-is (item-next lo n t last a h u) q
+
+  pub item-from : last + 1 ≤ to
+  item-from = next .from-on
+
+  pub item-to : to ≤ length t
+  item-to = next .within
+
+  pub item-spelt : spelt (part t (last + 1) to) ≡ true
+  item-spelt = next .good
+
+  -- the text left behind it falls
+  pub item-less : length t - to < length t - last
+  item-less = omega (arith, next .from-on)
 
 pub bit-inside : (lo n x m : ℕ) → m ≡ bitOf lo n x → not (eqb m 0) ≡ inside lo n x
 bit-inside lo n x m q = rw q (go (inside lo n x))

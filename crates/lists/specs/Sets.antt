@@ -1,18 +1,19 @@
 -- What the readers of sets answer.
-use Prim.Native.Nat.{ℕ, _<_}
+use Prim.Native.Nat.{ℕ, _^_, _<_}
 use mathlib.Core.Path.{_≡_}
-use mathlib.Core.Bool.{Bool, true}
+use mathlib.Core.Bool.{Bool}
 use mathlib.Core.List.{List}
 use mathlib.Core.Option.{Option}
 use lib.ListN.{length, drop}
+use Rattle.table.specs.Mask.{pick}
+use Rattle.text.specs.declared.Fault.the-variants.{Reference}
 use Rattle.text.specs.Value.{ascending, said}
 use Rattle.text.specs.Line.{Outcome, took, refused, judged, valueOf, fieldOf}
 use Rattle.text.specs.Format.{setOf}
-use Rattle.digits.specs.declared.Num.the-variants.{Good}
-use Rattle.digits.specs.Read.{numberOf}
 use Rattle.numbers.specs.Answer.{mapped}
 use Rattle.lists.specs.declared.Set.{Set}
 use Rattle.lists.specs.declared.Set.the-variants.{Is, Not}
+use Rattle.lists.specs.Items.{inside}
 
 abbrev pub setIn : ℕ → List ℕ → Set → Outcome ℕ
 setIn l s (Is m e) = took m l (drop e s)
@@ -35,8 +36,8 @@ pub record SetSaid (one : Bool) (lo n : ℕ) (t : List ℕ) (e : ℕ) (r : Set) 
   pub judged : SetJudged one lo n (said (ascending one lo n) t) e r
 
 -- the answer for a list of one number v
-pub record OneSaid (lo n v e : ℕ) (r : Set) : Type 0 where
-  pub is : (t : List ℕ) → Good v ≡ numberOf t → SetSaid true lo n t e r
+unfoldable pub singleOf : ℕ → ℕ → ℕ → ℕ → Set
+singleOf lo n v e = pick (inside lo n v) (Is (2 ^ v) e) (Not Reference)
 
 -- the answer for the list at a place
 pub record SetIn (one : Bool) (lo n : ℕ) (s : List ℕ) (at : ℕ) (r : Set) : Type 0 where

@@ -1,24 +1,33 @@
--- What the readers of short numbers answer.
-use Prim.Native.Nat.{ℕ, _<_}
-use mathlib.Core.Path.{_≡_}
-use mathlib.Core.Bool.{false}
+-- What the reader of short numbers that ascend answers.
+use Prim.Native.Nat.{ℕ, zero, suc, _+_}
 use mathlib.Core.List.{List}
-use lib.ListN.{length, take}
-use Rattle.text.specs.Line.{run}
+use lib.Dec.{leb, eqb}
+use lib.ListN.{length, getD}
+use Rattle.table.specs.Mask.{pick}
+use Rattle.text.specs.Line.{stops}
+use Rattle.numbers.specs.declared.Short.{Short}
+use Rattle.numbers.specs.declared.Short.the-variants.{Is as IsShort, Not as NotShort}
+use Rattle.numbers.specs.Numerals.{shortOf}
 use Rattle.lists.specs.declared.ShortList.{ShortList}
 use Rattle.lists.specs.declared.ShortList.the-variants.{Is as IsQuick, Not as NotQuick}
-use Rattle.lists.specs.declared.Set.the-variants.{Is as IsSet}
-use Rattle.lists.specs.Sets.{SetSaid}
+use Rattle.lists.specs.Items.{bitOf}
 
--- the value at a text's start ends at e, and says the set m
-pub record Listed (lo n : ℕ) (u : List ℕ) (m e : ℕ) : Type 0 where
-  pub ends : run u ≡ e
-  pub within : e < length u
-  pub said : (q : ℕ) → SetSaid false lo n (take e u) q (IsSet m q)
+-- an item that is short goes on as said; any other is read another way
+abbrev pub onShort : Short → (ℕ → ℕ → ShortList) → ShortList
+onShort (IsShort v to) f = f v to
+onShort NotShort f = NotQuick
 
-abbrev pub quickIs : ℕ → ℕ → List ℕ → ShortList → Type 0
-quickIs lo n u (IsQuick m e) = Listed lo n u m e
-quickIs lo n u NotQuick = Unit {0}
+-- behind the items up to a place, of the set m: the list ends before the byte c, or goes on behind a comma
+abbrev pub endedBy : ℕ → ℕ → ℕ → ShortList → ShortList
+endedBy c m to rest = pick (stops c) (IsQuick m to) (pick (eqb c 44) rest NotQuick)
 
-pub record QuickAt (lo n : ℕ) (u : List ℕ) (r : ShortList) : Type 0 where
-  pub is : quickIs lo n u r
+-- the items from a place on, of which each is short and above the set m of those before; the first argument bounds their count
+unfoldable pub quickFrom : ℕ → ℕ → ℕ → List ℕ → ℕ → ℕ → ShortList
+quickFrom zero lo n u from m = NotQuick
+quickFrom (suc k) lo n u from m =
+    onShort (shortOf u from) (λ v to.
+    pick (leb (bitOf lo n v) m) NotQuick (endedBy (getD u to 0) (m + bitOf lo n v) to (quickFrom k lo n u (to + 1) (m + bitOf lo n v))))
+
+-- the list at a text's start
+unfoldable pub quickOf : ℕ → ℕ → List ℕ → ShortList
+quickOf lo n u = quickFrom (length u) lo n u 0 0

@@ -12,27 +12,28 @@ use lib.Dec.{ltb, leb, eqb}
 use lib.Pow.{pow-mono}
 use lib.ListN.{length, take, drop, getD, drop-of-length-le, length-drop}
 use lib.Seq.{take-all, drop-cons, drop-drop, take-nil, take-take, getD-take, length-take-le}
-use borrow.Author.Tests.{lt-ltb, ltb-true, ne-eqb}
+use borrow.Author.Tests.{lt-ltb, ltb-true, le-leb, lt-leb, leb-false, eq-eqb, ne-eqb, eqb-true}
+use Rattle.table.specs.Mask.{pick}
 use Rattle.text.specs.Number.{bytes, value, allDigits}
 use Rattle.text.specs.NumberLaws.{byOrder, and-right, cases, all-head, all-tail, spelt-all}
-use Rattle.text.specs.Value.{same, split, each, said}
+use Rattle.text.specs.Value.{same}
 use Rattle.text.specs.Line.{run, stops}
 use Rattle.scan.specs.PlaceLaws.{count-more, count-none, Running, running-start, running-digits, run-turn, value-ends}
 use Rattle.numbers.specs.declared.Short.{Short}
-use Rattle.numbers.specs.declared.Short.the-variants.{Is}
-use Rattle.numbers.specs.Numerals.{Spelt, ShortAt}
-use Rattle.numbers.specs.NumeralLaws.{short-is, short-numeral}
+use Rattle.numbers.specs.declared.Short.the-variants.{Is as IsShort, Not as NotShort}
+use Rattle.numbers.specs.Numerals.{shortOf}
+use Rattle.numbers.specs.NumeralLaws.{Spelt, short-few, short-is, short-numeral}
 use Rattle.lists.specs.declared.Item.the-variants.{Is as IsItem}
 use Rattle.lists.specs.declared.ShortList.{ShortList}
 use Rattle.lists.specs.declared.ShortList.the-variants.{Is as IsQuick, Not as NotQuick}
 use Rattle.lists.specs.declared.Set.{Set}
 use Rattle.lists.specs.declared.Set.the-variants.{Is as IsSet}
-use Rattle.lists.specs.Items.{upTo, CommaAt, inside, bitOf, part, ItemAt}
-use Rattle.lists.specs.ItemLaws.{comma-split}
-use Rattle.lists.specs.Sets.{OneSaid, SetIn}
+use Rattle.lists.specs.Items.{upTo, CommaAt, inside, bitOf, part}
+use Rattle.lists.specs.ItemLaws.{comma-split, ItemAt}
+use Rattle.lists.specs.Sets.{SetSaid, singleOf, SetIn}
 use Rattle.lists.specs.SetLaws.{Rising, rising-start, rising-end, rising-turn}
-use Rattle.lists.specs.ListLaws.{list-rising, set-step}
-use Rattle.lists.specs.Short.{Listed, QuickAt}
+use Rattle.lists.specs.ListLaws.{one-value, list-rising, set-step}
+use Rattle.lists.specs.Short.{onShort, endedBy, quickFrom, quickOf}
 
 -- ---- digits are no commas
 digits-up : (k : ℕ) (s : List ℕ) → k ≤ length s → allDigits (take k s) ≡ true → upTo s ≡ k + upTo (drop k s)
@@ -99,11 +100,17 @@ module _ {u : List ℕ} {from to v : ℕ} (g : Running u 0 from) (p : Spelt u fr
         }
 
 -- ---- one short number
-pub single-at : {s : List ℕ} {at : ℕ} {a : Short} {v to : ℕ} {lo n : ℕ} {z : Bool} {r : Set} → ShortAt s at a → a ≡ Is v to → at ≤ length s
-    → z ≡ stops (getD s to 0) → z ≡ true → OneSaid lo n v to r → SetIn true lo n s at r
-single-at {s} {at} {a} {v} {to} i j h q k d =
-    let m = short-numeral i j h (sym q ∙ k) in
-    set-step (value-ends (m .run) (m .inside)) refl (d .is (part s at to) (m .same))
+pub single-at : (s : List ℕ) (at lo n : ℕ) {a : Short} {v to : ℕ} {z : Bool} {r : Set} → a ≡ shortOf s at → a ≡ IsShort v to → at ≤ length s → n ≤ 32
+    → z ≡ stops (getD s to 0) → z ≡ true → r ≡ singleOf lo n v to → SetIn true lo n s at r
+single-at s at lo n {a} {v} {to} i j h u q k d =
+    let m = short-numeral s at i j h (sym q ∙ k) in
+    set-step (value-ends (m .run) (m .inside)) refl (one-value lo n (part s at to) v to (m .same) u d)
+
+-- ---- the value at a text's start ends at e, and says the set m
+pub record Listed (lo n : ℕ) (u : List ℕ) (m e : ℕ) : Type 0 where
+  pub ends : run u ≡ e
+  pub within : e < length u
+  pub said : (q : ℕ) → SetSaid false lo n (take e u) q (IsSet m q)
 
 -- ---- what is read so far: nothing; or items, and a comma
 pub data Listing (lo n : ℕ) (u : List ℕ) : ℕ → ℕ → Type 0 where
@@ -161,11 +168,8 @@ running-of {u = u} none = running-start u 0 (omega arith)
 running-of (some g l low w r) = g
 
 -- ---- one item more
-module _ {lo n : ℕ} {u : List ℕ} {from m : ℕ} (s : Listing lo n u from m) {a : Short} (i : ShortAt u from a) {v to : ℕ} (j : a ≡ Is v to) {b : ℕ}
+module _ {lo n : ℕ} {u : List ℕ} {from m : ℕ} (s : Listing lo n u from m) {v to : ℕ} (p : Spelt u from to v) {b : ℕ}
     (q : b ≡ bitOf lo n v) (h : m < b) (k : n ≤ 32) where
-  p : Spelt u from to v
-  p = short-is i j
-
   g : Running u 0 to
   g = running-to (running-of s) p
 
@@ -174,22 +178,20 @@ module _ {lo n : ℕ} {u : List ℕ} {from m : ℕ} (s : Listing lo n u from m) 
       let d : run (drop to u) ≡ 0 = rw (drop-cons u to 0 (p .within)) (count-none (getD u to 0) (drop (suc to) u) e) in
       omega (arith, g .same, d)
 
-  pub list-end : {z : Bool} → z ≡ stops (getD u to 0) → z ≡ true → QuickAt lo n u (IsQuick (m + b) to)
+  list-end : stops (getD u to 0) ≡ true → Listed lo n u (m + b) to
   unfolding upTo
-  list-end x y =
-      let r : run u ≡ to = ended (sym x ∙ y) in
+  list-end x =
+      let r : run u ≡ to = ended x in
       let l : length (whole u) ≤ to = rw (whole-length u) (omega arith) in
       let c : upTo (drop to (whole u)) ≡ 0 = rw (drop-of-length-le (whole u) l) in
       let w : whole u ≡ take to u = rw r in
       record {
-        is = record {
-          ends = r;
-          within = p .within;
-          said = λ e. rw (← w) (list-rising refl refl (no-none s p) (rising-end (rise s p q h k c e) l refl));
-        };
+        ends = r;
+        within = p .within;
+        said = λ e. rw (← w) (list-rising refl refl (no-none s p) (rising-end (rise s p q h k c e) l refl));
       }
 
-  pub list-turn : getD u to 0 ≡ 44 → Listing lo n u (to + 1) (m + b)
+  list-turn : getD u to 0 ≡ 44 → Listing lo n u (to + 1) (m + b)
   unfolding upTo
   list-turn e =
       let f : Running u 0 (to + 1) = run-turn g (p .within) (λ z. omega arith) (λ z. omega arith) in
@@ -201,19 +203,106 @@ module _ {lo n : ℕ} {u : List ℕ} {from m : ℕ} (s : Listing lo n u from m) 
       let low : 2 ^ value (part (whole u) from to) ≤ m + b = rw y (omega (arith, bit-power lo n v q h)) in
       some f r low (no-none s p) (rise s p q h k c)
 
-pub list-open : (lo n : ℕ) (u : List ℕ) → QuickAt lo n u NotQuick
-list-open lo n u = record { is = tt }
+-- ---- what is left to read gives the whole
+pub record Left (lo n : ℕ) (u : List ℕ) (from m : ℕ) : Type 0 where
+  pub bound : ℕ
+  pub enough : length u ≤ from + bound
+  pub same : quickFrom bound lo n u from m ≡ quickOf lo n u
 
-pub list-start : (lo n : ℕ) (u : List ℕ) → Listing lo n u 0 0
-list-start lo n u = none
+pub left-start : (lo n : ℕ) (u : List ℕ) → Left lo n u 0 0
+unfolding quickOf
+left-start lo n u = record { bound = length u; enough = omega arith; same = refl }
+
+module _ {lo n : ℕ} {u : List ℕ} {from m : ℕ} (s : Left lo n u from m) {a : Short} (i : a ≡ shortOf u from) where
+  left-no : ((k : ℕ) → NotQuick ≡ quickFrom k lo n u from m) → NotQuick ≡ quickOf lo n u
+  left-no f = f (s .bound) ∙ s .same
+
+  pub left-none : a ≡ NotShort → NotQuick ≡ quickOf lo n u
+  unfolding quickFrom
+  left-none j = left-no go
+    where
+      go : (k : ℕ) → NotQuick ≡ quickFrom k lo n u from m
+      go zero = refl
+      go (suc k) = rw (← i, j)
+
+  module _ {v to : ℕ} (j : a ≡ IsShort v to) {b : ℕ} (q : b ≡ bitOf lo n v) where
+    pub left-low : b ≤ m → NotQuick ≡ quickOf lo n u
+    unfolding quickFrom
+    left-low h = left-no go
+      where
+        go : (k : ℕ) → NotQuick ≡ quickFrom k lo n u from m
+        go zero = refl
+        go (suc k) = rw (← i, j, ← q, le-leb b m h)
+
+    module _ (h : m < b) {z : Bool} (e : z ≡ stops (getD u to 0)) where
+      more : (k : ℕ) → quickFrom (suc k) lo n u from m ≡ endedBy (getD u to 0) (m + b) to (quickFrom k lo n u (to + 1) (m + b))
+      unfolding quickFrom
+      more k = rw (← i, j, ← q, lt-leb b m h)
+
+      pub left-end : from < length u → z ≡ true → IsQuick (m + b) to ≡ quickOf lo n u
+      left-end l x = go (s .bound) (s .enough) (s .same)
+        where
+          go : (k : ℕ) → length u ≤ from + k → quickFrom k lo n u from m ≡ quickOf lo n u → IsQuick (m + b) to ≡ quickOf lo n u
+          go zero d f = absurd (omega arith)
+          go (suc k) d f = rw (← e, x) at (sym (more k) ∙ f)
+
+      pub left-other : z ≡ false → (getD u to 0 ≡ 44 → ⊥) → NotQuick ≡ quickOf lo n u
+      left-other x y = left-no go
+        where
+          go : (k : ℕ) → NotQuick ≡ quickFrom k lo n u from m
+          go zero = (unfold quickFrom in refl)
+          go (suc k) = sym (more k ∙ rw (← e, x, ne-eqb (getD u to 0) 44 y))
+
+      pub left-turn : from < length u → z ≡ false → getD u to 0 ≡ 44 → Left lo n u (to + 1) (m + b)
+      left-turn l x y = go (s .bound) (s .enough) (s .same)
+        where
+          go : (k : ℕ) → length u ≤ from + k → quickFrom k lo n u from m ≡ quickOf lo n u → Left lo n u (to + 1) (m + b)
+          go zero d f = absurd (omega arith)
+          go (suc k) d f = record { bound = k; enough = omega (arith, short-is u from i j .from); same = rw (← e, x, eq-eqb (getD u to 0) 44 y) at (sym (more k) ∙ f) }
+
+pub left-over : {lo n : ℕ} {u : List ℕ} {from m : ℕ} → Left lo n u from m → length u ≤ from → NotQuick ≡ quickOf lo n u
+left-over {lo} {n} {u} {from} s h = left-none s (short-few u from (omega arith)) refl
+
+-- ---- what is read
+no-list : {P : Type 0} {m e : ℕ} → NotQuick ≡ IsQuick m e → P
+no-list e = absurd (let z : _≡_ {A = ℕ} 0 1 = cc in omega arith)
+
+module _ (lo n : ℕ) (u : List ℕ) (h : n ≤ 32) (x e : ℕ) where
+  listed-item : (k : ℕ) {from m : ℕ} → Listing lo n u from m → ((f w : ℕ) → Listing lo n u f w → quickFrom k lo n u f w ≡ IsQuick x e → Listed lo n u x e)
+      → (o : Short) → o ≡ shortOf u from
+      → onShort o (λ v to. pick (leb (bitOf lo n v) m) NotQuick (endedBy (getD u to 0) (m + bitOf lo n v) to (quickFrom k lo n u (to + 1) (m + bitOf lo n v)))) ≡ IsQuick x e
+      → Listed lo n u x e
+  listed-item k s f NotShort i q = no-list q
+  listed-item k {from} {m} s f (IsShort v to) i q =
+      let b = bitOf lo n v in
+      let p : Spelt u from to v = short-is u from i refl in
+      cases (leb b m)
+      (λ z. no-list (rw z at q))
+      (λ z.
+      let l : m < b = leb-false b m z in
+      cases (stops (getD u to 0))
+      (λ y.
+      let r : IsQuick (m + b) to ≡ IsQuick x e = rw (z, y) at q in
+      let c : x ≡ m + b = cc in
+      let d : e ≡ to = cc in
+      rw (c, d) (list-end s p refl l h y))
+      (λ y. cases (eqb (getD u to 0) 44)
+      (λ w. f (to + 1) (m + b) (list-turn s p refl l h (eqb-true (getD u to 0) 44 w)) (rw (z, y, w) at q))
+      (λ w. no-list (rw (z, y, w) at q))))
+
+  listed-from : (k : ℕ) {from m : ℕ} → Listing lo n u from m → quickFrom k lo n u from m ≡ IsQuick x e → Listed lo n u x e
+  unfolding quickFrom
+  listed-from zero s q = no-list q
+  listed-from (suc k) {from} s q = listed-item k s (λ f w t z. listed-from k t z) (shortOf u from) refl q
 
 -- ---- the list at a place
-module _ {lo n : ℕ} (s : List ℕ) (at : ℕ) {r : ShortList} (i : QuickAt lo n (take (length s - at) (drop at s)) r) {m k : ℕ} (q : r ≡ IsQuick m k) where
+module _ (lo n : ℕ) (s : List ℕ) (at : ℕ) {r : ShortList} (i : r ≡ quickOf lo n (take (length s - at) (drop at s))) (u : n ≤ 32) {m k : ℕ} (q : r ≡ IsQuick m k) where
   rest : take (length s - at) (drop at s) ≡ drop at s
   rest = take-all (length s - at) (drop at s) (simp length-drop (omega arith))
 
   listed : Listed lo n (drop at s) m k
-  listed = rw rest at (rw q at (i .is))
+  unfolding quickOf
+  listed = listed-from lo n (drop at s) u m k (length (drop at s)) none (rw rest at (sym i ∙ q))
 
   many-within : at ≤ length s → at + k < length s
   many-within h = let z = listed .within in omega (arith, length-drop at s)

@@ -8,10 +8,10 @@ ghost use lib.ListN.{length};
 ghost use Rattle.table.specs.Mask.{pick};
 ghost use Rattle.text.specs.Value.{numeral, saidVariable, split, each};
 ghost use Rattle.text.specs.Format.{argsOf};
-ghost use Rattle.lists.specs.Items.{CommaAt, bitOf, ItemAt};
-ghost use Rattle.lists.specs.Sets.{SetJudged, SetSaid, OneSaid, SetIn, SetAt};
-ghost use Rattle.lists.specs.Short.{QuickAt};
-ghost use Rattle.lists.specs.Passing.{pushedOf, ArgumentSaid, ArgumentAt, PassedJudged, PassedSaid, PassedAt};
+ghost use Rattle.lists.specs.Items.{CommaAt, bitOf, itemOf};
+ghost use Rattle.lists.specs.Sets.{SetJudged, SetSaid, singleOf, SetIn, SetAt};
+ghost use Rattle.lists.specs.Short.{quickOf};
+ghost use Rattle.lists.specs.Passing.{argumentOf, argumentFrom, pushedOf, PassedJudged, PassedSaid, PassedAt};
 
 // One item of a list of numbers: where it ends, and its bit, 0 for one that is outside.
 enum Item {
@@ -76,7 +76,7 @@ fn bit(v: u64, lo: u64, below: u64) -> u32
 
 fn item_at(t: &[u8], from: usize, lo: u64, below: u64) -> Item
     requires { ⌜ (from ≤ length (now t)) × (below ≤ 32) ⌝ }
-    ensures { λ r. ⌜ ItemAt lo below (now (t .entry)) from r ⌝ }
+    ensures { λ r. ⌜ r ≡ itemOf lo below (now (t .entry)) from ⌝ }
 {
     let to = comma(t, from);
     let digits::Num::Good(v) = digits::number(&t[from..to]) else {
@@ -133,7 +133,7 @@ fn rising(t: &[u8], e: usize, lo: u64, below: u64) -> Set
 // A list of one number v.
 fn one_of(v: u64, e: usize, lo: u64, below: u64) -> Set
     requires { ⌜ below ≤ 32 ⌝ }
-    ensures { λ r. ⌜ OneSaid lo below v e r ⌝ }
+    ensures { λ r. ⌜ r ≡ singleOf lo below v e ⌝ }
 {
     let b = bit(v, lo, below);
     if b == 0 {
@@ -171,7 +171,7 @@ fn ascending_value(t: &[u8], e: usize, one: bool, lo: u64, below: u64) -> Set
 // The list at a text's start, if its numbers are short, inside and ascend.
 fn short_list(u: &[u8], lo: u64, below: u64) -> ShortList
     requires { ⌜ below ≤ 32 ⌝ }
-    ensures { λ r. ⌜ QuickAt lo below (now (u .entry)) r ⌝ }
+    ensures { λ r. ⌜ r ≡ quickOf lo below (now (u .entry)) ⌝ }
 {
     let mut from = 0;
     let mut mask = 0u32;
@@ -285,7 +285,7 @@ pub fn ascending_word(
 
 fn argument_value(w: &[u8], to: usize, closed: bool, vars: u64) -> Argument
     requires { ⌜ vars ≤ 256 ⌝ }
-    ensures { λ r. ⌜ ArgumentSaid closed vars (now (w .entry)) to r ⌝ }
+    ensures { λ r. ⌜ r ≡ argumentOf closed vars (now (w .entry)) to ⌝ }
 {
     if scan::is_word(w, b"-") {
         if closed {
@@ -304,7 +304,7 @@ fn argument_value(w: &[u8], to: usize, closed: bool, vars: u64) -> Argument
 
 fn argument_at(t: &[u8], from: usize, closed: bool, vars: u64) -> Argument
     requires { ⌜ (from ≤ length (now t)) × (vars ≤ 256) ⌝ }
-    ensures { λ r. ⌜ ArgumentAt closed vars (now (t .entry)) from r ⌝ }
+    ensures { λ r. ⌜ r ≡ argumentFrom closed vars (now (t .entry)) from ⌝ }
 {
     let to = comma(t, from);
     argument_value(&t[from..to], to, closed, vars)

@@ -3,5 +3,8 @@ pub mod Step
 pub mod Run
 pub mod Report
 pub mod Program
-pub mod History
+pub mod Computing
 pub mod StepLaws
+pub mod KeptLaws
+pub mod StopLaws
+pub mod ClosedRun

@@ -101,7 +101,7 @@ exec (Assert v to) m vs = goes to m vs
 exec (Out v to) m vs = goes to m vs
 exec Return m vs = goes 0 m vs
 
--- ---- arcs: "One target: a plain arc. Two or more: a toss, value i choosing the i-th from 0. None: `none`."
+-- ---- arcs: "One target: a plain arc. Two or more: a toss, value i choosing the i-th from 0 .. None: `none`."
 
 pub data Choice : Type 0 where
   nowhere : List ℤ → Choice

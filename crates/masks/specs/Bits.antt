@@ -1,4 +1,4 @@
--- What is in the masks that code computes with `|`, `&`, `^` and shifts. So masks are sets: two with the same members are equal.
+-- What is in the masks that code computes with `|`, `&`, `^` and shifts.
 use Prim.Native.Nat.{ℕ, zero, suc, _+_, _-_, _*_, _/_, _%_, _^_, _<_, _≤_}
 use native.Mathlib.Omega.{arith}
 use native.Mathlib.Nat.{mod-lt, zero-lt-suc, pow-suc, div-one, zero-div, div-self, div-eq-of-lt, mul-mod-left, one-mul, mod-eq-of-lt, lt-of-lt-of-le, lt-of-le-of-lt}
@@ -12,7 +12,7 @@ use lib.Count.{trailingZeros, under}
 use lib.Pow.{pow-pos, pow-lt, pow-mono, ones-lt, pow-add, shr-shr, shl-shr, shl-exact}
 use borrow.Author.Tests.{eqb-true, eqb-false, eq-eqb, ltb-true, ltb-false}
 use Rattle.table.specs.Mask.{pick, bit, maskOf}
-use Rattle.table.specs.MaskLaws.{maskOf-lt}
+use Rattle.table.specs.MaskLaws.{maskOf-lt, lt2, bit-half, one-bit, bit-ext}
 
 -- a test as it stands in code
 pub bit-of : (k m : ℕ) → m / 2 ^ k % 2 ≡ 1 → bit k m ≡ true
@@ -22,9 +22,6 @@ bit-of k m h = eq-eqb _ _ h
 pub bit-is : (k m : ℕ) → bit k m ≡ true → m / 2 ^ k % 2 ≡ 1
 unfolding bit
 bit-is k m h = eqb-true _ _ h
-
-lt2 : (n : ℕ) → n % 2 < 2
-lt2 n = mod-lt n (zero-lt-suc 1)
 
 or2 : (a b : ℕ) → a < 2 → b < 2 → eqb (bitOr a b) 1 ≡ eqb a 1 || eqb b 1
 or2 zero zero p q = refl
@@ -107,37 +104,6 @@ bit-one-out k j h = go (ltb k j) refl (ltb j k) refl
     go true p b q = absurd (omega (arith, even (ltb-true k j p), bit-is k (2 ^ j) h))
     go false p true q = absurd (omega (arith, none (ltb-true j k q), bit-is k (2 ^ j) h))
     go false p false q = omega (arith, ltb-false k j p, ltb-false j k q)
-
--- two masks with the same elements are equal
-pub bit-half : (k m : ℕ) → bit k (m / 2) ≡ bit (suc k) m
-unfolding bit
-bit-half k m = ap (λ (x : ℕ). eqb (x % 2) 1) (shr-shr m 1 k ∙ ap (λ (x : ℕ). m / 2 ^ x) (omega arith))
-
-one-bit : (x : ℕ) → bit 0 x ≡ eqb (x % 2) 1
-unfolding bit
-one-bit x = ap (λ (y : ℕ). eqb (y % 2) 1) (div-one x)
-
-pub bit-ext : (n a b : ℕ) → a < 2 ^ n → b < 2 ^ n → ((k : ℕ) → k < n → bit k a ≡ bit k b) → a ≡ b
-bit-ext zero a b p q h = omega arith
-bit-ext (suc n) a b p q h =
-    let e : a / 2 ≡ b / 2 = bit-ext n (a / 2) (b / 2) (half p) (half q) (λ k l. bit-half k a ∙ h (suc k) (omega arith) ∙ sym (bit-half k b)) in
-    let f : a % 2 ≡ b % 2 = low in
-    omega arith
-  where
-    half : {x : ℕ} → x < 2 ^ suc n → x / 2 < 2 ^ n
-    half {x} l = let l2 : x < 2 ^ n * 2 = rw pow-suc at l in omega arith
-
-    low2 : (x y : ℕ) → x < 2 → y < 2 → eqb x 1 ≡ eqb y 1 → x ≡ y
-    low2 zero zero r s e = refl
-    low2 zero (suc zero) r s e = absurd (false≢true e)
-    low2 zero (suc (suc y)) r s e = absurd (omega arith)
-    low2 (suc zero) zero r s e = absurd (false≢true (sym e))
-    low2 (suc zero) (suc zero) r s e = refl
-    low2 (suc zero) (suc (suc y)) r s e = absurd (omega arith)
-    low2 (suc (suc x)) y r s e = absurd (omega arith)
-
-    low : a % 2 ≡ b % 2
-    low = low2 (a % 2) (b % 2) (lt2 a) (lt2 b) (sym (one-bit a) ∙ h 0 (omega arith) ∙ one-bit b)
 
 -- 1 << k as code computes it
 pub one-shl : (w k : ℕ) → k < w → 1 * 2 ^ k % 2 ^ w ≡ 2 ^ k

@@ -2,12 +2,12 @@
 use Prim.Native.Nat.{ℕ, _≤_, _<_}
 use mathlib.Core.Path.{_≡_}
 use mathlib.Core.List.{List}
+use mathlib.Core.Bool.{cond, _&&_}
+use lib.Dec.{leb, ltb}
 use lib.ListN.{length, drop}
 use Rattle.text.specs.declared.Fault.{Fault}
 use Rattle.text.specs.Value.{number, said}
 use Rattle.text.specs.Line.{Outcome, took, refused, judged, valueOf, fieldOf}
-use Rattle.digits.specs.declared.Num.the-variants.{Good}
-use Rattle.digits.specs.Read.{numberOf}
 use Rattle.numbers.specs.declared.Number.{Number}
 use Rattle.numbers.specs.declared.Number.the-variants.{Is, Not}
 
@@ -27,10 +27,11 @@ pub record NumberSaid (lo n : ℕ) (f : Fault) (t : List ℕ) (e : ℕ) (r : Num
   pub same : (l : ℕ) (s : List ℕ) → numberIn l s r ≡ judged (number lo n f) (said (number lo n f) t) l (drop e s)
   pub ends : numberEnds lo n e r
 
--- the answer for a number v, and for the number at a place
-pub record NumberIs (lo n : ℕ) (f : Fault) (v e : ℕ) (r : Number) : Type 0 where
-  pub is : (t : List ℕ) → Good v ≡ numberOf t → NumberSaid lo n f t e r
+-- the answer for a number v that ends at e
+unfoldable pub withinOf : ℕ → ℕ → Fault → ℕ → ℕ → Number
+withinOf lo n f v e = cond (leb lo v && ltb v n) (Is v e) (Not f)
 
+-- for the number at a place, and behind a key
 pub record NumberIn (lo n : ℕ) (f : Fault) (s : List ℕ) (at : ℕ) (r : Number) : Type 0 where
   pub same : (l : ℕ) → numberIn l s r ≡ valueOf (number lo n f) l (drop at s)
   pub within : numberWithin lo n s r

@@ -1,10 +1,11 @@
 -- What the readers of numbers answer at a place.
-use Prim.Native.Nat.{ℕ, _-_, _≤_, _<_}
+use Prim.Native.Nat.{ℕ, _+_, _-_, _*_, _≤_, _<_}
 use mathlib.Core.Path.{_≡_}
-use mathlib.Core.Bool.{true}
+use mathlib.Core.Bool.{cond}
 use mathlib.Core.List.{List}
-use lib.ListN.{length, take, drop}
-use Rattle.text.specs.Number.{spelt, value}
+use lib.Dec.{leb, eqb}
+use lib.ListN.{length, take, drop, getD}
+use Rattle.text.specs.Number.{isDigit}
 use Rattle.digits.specs.declared.Num.{Num}
 use Rattle.digits.specs.declared.Num.the-variants.{Good, Bad as NoNumber}
 use Rattle.digits.specs.Read.{digitsOf, numberOf}
@@ -37,24 +38,19 @@ pub record NumeralAt (s : List ℕ) (at : ℕ) (r : Numeral) : Type 0 where
 
 -- ---- numbers of one or two digits
 
-pub record Spelt (u : List ℕ) (at to v : ℕ) : Type 0 where
-  pub from : at < to
-  pub within : to < length u
-  pub good : spelt (take (to - at) (drop at u)) ≡ true
-  pub value : value (take (to - at) (drop at u)) ≡ v
-  pub small : v < 100
+-- a digit that no digit follows, or two with no needless zero; and where they end
+abbrev pub shortBytes : ℕ → ℕ → ℕ → Short
+shortBytes at a b =
+    cond (isDigit a) (cond (isDigit b) (cond (eqb a 48) NotShort (IsShort ((a - 48) * 10 + (b - 48)) (at + 2))) (IsShort (a - 48) (at + 1))) NotShort
 
-abbrev pub shortIs : List ℕ → ℕ → Short → Type 0
-shortIs u at (IsShort v to) = Spelt u at to v
-shortIs u at NotShort = Unit {0}
+-- those at a place, where three bytes are left
+unfoldable pub shortOf : List ℕ → ℕ → Short
+shortOf u at = cond (leb 3 (length u - at)) (shortBytes at (getD u at 0) (getD u (at + 1) 0)) NotShort
 
-pub record ShortAt (u : List ℕ) (at : ℕ) (r : Short) : Type 0 where
-  pub is : shortIs u at r
+-- those that a space ends
+abbrev pub beforeSpace : List ℕ → Short → Short
+beforeSpace s (IsShort v e) = cond (eqb (getD s e 0) 32) (IsShort v e) NotShort
+beforeSpace s NotShort = NotShort
 
--- one that is a whole value
-abbrev pub shortTo : List ℕ → ℕ → Short → Type 0
-shortTo s at (IsShort v e) = NumeralTo s at e (Good v)
-shortTo s at NotShort = Unit {0}
-
-pub record ShortTo (s : List ℕ) (at : ℕ) (r : Short) : Type 0 where
-  pub is : shortTo s at r
+unfoldable pub shortValueOf : List ℕ → ℕ → Short
+shortValueOf s at = beforeSpace s (shortOf s at)

@@ -27,7 +27,7 @@ use Rattle.numbers.specs.declared.Numeral.the-variants.{Is as IsNumeral,
 use Rattle.scan.specs.Place.{AfterKey, RunEnd}
 use Rattle.numbers.specs.Numerals.{NumeralTo, NumeralAt}
 use Rattle.scan.specs.PlaceLaws.{value-ends, value-over}
-use Rattle.numbers.specs.Answer.{numberEnds, numberWithin, NumberSaid, NumberIs, NumberIn, NumberAt, mapped}
+use Rattle.numbers.specs.Answer.{numberEnds, numberWithin, NumberSaid, withinOf, NumberIn, NumberAt, mapped}
 
 and-false : (a : Bool) → a && false ≡ false
 and-false true = refl
@@ -73,14 +73,24 @@ mapped-refused g (took v k r) e = absurd (let z : _≡_ {A = ℕ} 0 1 = cc in om
 mapped-refused g (refused h k) e = cc
 
 -- ---- a number at a place, and behind a key
-pub is-low : {lo n v : ℕ} (f : Fault) (e : ℕ) → n ≤ 256 → v < lo → NumberIs lo n f v e (Not f)
-is-low {lo} {n} f e u k = record { is = λ t d. number-low t e lo n f d refl u k }
+module _ (lo n : ℕ) (f : Fault) (v e : ℕ) where
+  pub is-low : v < lo → Not f ≡ withinOf lo n f v e
+  unfolding withinOf
+  is-low k = rw (lt-leb lo v k)
 
-pub is-high : {lo n v : ℕ} (f : Fault) (e : ℕ) → n ≤ 256 → n ≤ v → NumberIs lo n f v e (Not f)
-is-high {lo} {n} f e u k = record { is = λ t d. number-high t e lo n f d refl u k }
+  pub is-high : n ≤ v → Not f ≡ withinOf lo n f v e
+  unfolding withinOf
+  is-high k = rw (le-ltb v n k, and-false (leb lo v))
 
-pub is-good : {lo n v : ℕ} (f : Fault) (e : ℕ) → n ≤ 256 → lo ≤ v → v < n → NumberIs lo n f v e (Is v e)
-is-good {lo} {n} f e u k g = record { is = λ t d. number-good t e lo n f d refl u k g }
+  pub is-good : lo ≤ v → v < n → Is v e ≡ withinOf lo n f v e
+  unfolding withinOf
+  is-good k g = rw (le-leb lo v k, lt-ltb v n g)
+
+  within-said : (t : List ℕ) → Good v ≡ numberOf t → n ≤ 256 → NumberSaid lo n f t e (withinOf lo n f v e)
+  within-said t d u =
+      byOrder v lo
+      (λ k. rw (← is-low k) (number-low t e lo n f d refl u k))
+      (λ k. byOrder v n (λ g. rw (← is-good k g) (number-good t e lo n f d refl u k g)) (λ g. rw (← is-high g) (number-high t e lo n f d refl u g)))
 
 module _ {s : List ℕ} {at : ℕ} {r : Numeral} (m : NumeralAt s at r) where
   number-to : {lo n : ℕ} {f : Fault} {e : ℕ} {a : Number} → RunEnd s at e → e < length s → NumberSaid lo n f (take (e - at) (drop at s)) e a → NumberIn lo n f s at a
@@ -91,10 +101,10 @@ module _ {s : List ℕ} {at : ℕ} {r : Numeral} (m : NumeralAt s at r) where
       reach (Is v p) h g = (rw (h .0) g, h .1, h .2)
       reach (Not f) h g = tt
 
-  pub number-is : {lo n : ℕ} {f : Fault} {v e : ℕ} {a : Number} → r ≡ IsNumeral v e → NumberIs lo n f v e a → NumberIn lo n f s at a
-  number-is {v = v} {e = e} q d =
+  pub number-is : {lo n : ℕ} {f : Fault} {v e : ℕ} {a : Number} → r ≡ IsNumeral v e → n ≤ 256 → a ≡ withinOf lo n f v e → NumberIn lo n f s at a
+  number-is {lo} {n} {f} {v} {e} q u d =
       let i : NumeralTo s at e (Good v) = rw q at (m .is) in
-      number-to (i .run) (i .inside) (d .is (take (e - at) (drop at s)) (i .same))
+      rw d (number-to (i .run) (i .inside) (within-said lo n f v e (take (e - at) (drop at s)) (i .same) u))
 
   pub number-none : (lo n : ℕ) (f : Fault) → r ≡ BadNumeral → NumberIn lo n f s at (Not Misspelt)
   number-none lo n f q =

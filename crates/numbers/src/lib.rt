@@ -3,8 +3,9 @@ use scan::Found;
 ghost use Prim.Native.Nat.{_+_, _-_, _≤_, _<_};
 ghost use lib.ListN.{length};
 ghost use mathlib.Core.List.{[], _∷_};
-ghost use Rattle.numbers.specs.Numerals.{DigitsTo, NumeralAt, ShortAt, ShortTo};
-ghost use Rattle.numbers.specs.Answer.{NumberIs, NumberIn, NumberAt};
+ghost use mathlib.Core.Path.{_≡_};
+ghost use Rattle.numbers.specs.Numerals.{DigitsTo, NumeralAt, shortOf, shortValueOf};
+ghost use Rattle.numbers.specs.Answer.{withinOf, NumberIn, NumberAt};
 
 // A number of one or two digits, and where it ends.
 pub enum Short {
@@ -75,10 +76,10 @@ pub fn numeral_at(s: &[u8], at: usize) -> Numeral
     any_numeral(s, at)
 }
 
-// A number of one or two digits, where the text goes on behind it.
+// A number of one or two digits, where three bytes are left.
 pub fn short_number(u: &[u8], at: usize) -> Short
     requires { ⌜ at ≤ length (now u) ⌝ }
-    ensures { λ r. ⌜ ShortAt (now (u .entry)) at r ⌝ }
+    ensures { λ r. ⌜ r ≡ shortOf (now (u .entry)) at ⌝ }
 {
     if u.len() - at < 3 {
         return Short::Not;
@@ -101,7 +102,7 @@ pub fn short_number(u: &[u8], at: usize) -> Short
 // A short number that a space ends.
 pub fn short_value(s: &[u8], at: usize) -> Short
     requires { ⌜ at ≤ length (now s) ⌝ }
-    ensures { λ r. ⌜ ShortTo (now (s .entry)) at r ⌝ }
+    ensures { λ r. ⌜ r ≡ shortValueOf (now (s .entry)) at ⌝ }
 {
     let item = short_number(s, at);
     let Short::Is(v, e) = item else {
@@ -127,7 +128,7 @@ pub fn value_number(s: &[u8], at: usize) -> Numeral
 
 fn within(v: u64, e: usize, lo: u64, below: u64, fault: text::Fault) -> Number
     requires { ⌜ below ≤ 256 ⌝ }
-    ensures { λ r. ⌜ NumberIs lo below fault v e r ⌝ }
+    ensures { λ r. ⌜ r ≡ withinOf lo below fault v e ⌝ }
 {
     if v < lo {
         return Number::Not(fault);

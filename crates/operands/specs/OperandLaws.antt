@@ -41,7 +41,8 @@ use Rattle.numbers.specs.declared.Number.the-variants.{Is, Not}
 use Rattle.operands.specs.declared.Operand.{Operand as OperandAnswer}
 use Rattle.operands.specs.declared.Operand.the-variants.{Is as IsOperand, Not as NotOperand}
 use Rattle.scan.specs.Place.{AfterKey, RunEnd, ValueAt, refusalOf}
-use Rattle.numbers.specs.Numerals.{NumeralTo, NumeralAt, ShortTo}
+use Rattle.numbers.specs.Numerals.{NumeralTo, NumeralAt, shortValueOf}
+use Rattle.numbers.specs.NumeralLaws.{short-whole}
 use Rattle.scan.specs.PlaceLaws.{count-more, value-ends, value-within}
 use Rattle.operands.specs.Answer.{operandEnds, operandWithin, OperandJudged, skip, operandKind, Judged, valueAs, OperandAs, OperandIn, OperandAt, variableEnds, variableWithin, VariableSaid, VariableIn, VariableAt}
 use Rattle.numbers.specs.Answer.{mapped}
@@ -319,9 +320,9 @@ not-minus (y ∷ []) {v} q =
     (λ h. rw h)
 not-minus (y ∷ z ∷ t) q = cases (eqb 45 y) (λ h. rw h) (λ h. rw h)
 
-module _ {s : List ℕ} {at : ℕ} {r : Short} (m : ShortTo s at r) (c : Bool) {n v e : ℕ} (u : n ≤ 256) (q : r ≡ IsShort v e) where
+module _ (s : List ℕ) (at : ℕ) {r : Short} (m : r ≡ shortValueOf s at) (h : at ≤ length s) (c : Bool) {n v e : ℕ} (u : n ≤ 256) (q : r ≡ IsShort v e) where
   whole : NumeralTo s at e (Good v)
-  whole = rw q at (m .is)
+  whole = short-whole s at m q h
 
   abbrev part : List ℕ
   part = take (e - at) (drop at s)

@@ -13,7 +13,7 @@ use Rattle.machine.specs.declared.Running.{Running}
 use Rattle.machine.specs.State.{standsBefore, standstill}
 use Rattle.machine.specs.Step.{failing}
 use Rattle.machine.specs.Run.{Ran, run}
-use Rattle.machine.specs.History.{history}
+use Rattle.promise.specs.History.{history}
 use Rattle.promise.specs.Demand3.{SameRun, Tosses}
 use Rattle.promise.specs.Theorems.{demand-3, same-standstill, same-failure}
 
@@ -32,8 +32,6 @@ ran-is m = sym (λ ι. record { answer = m .answered ι; log = m .logged ι })
 pub record CallsAgree (t c : Table) (vs : List ℤ) (ks : List ℕ) (most most′ : ℕ) (log log′ : List ℕ) (ts : List ℤ) : Type 0 where
   -- the whole run completes and uses the tosses up
   pub completes : (r : Running) (left : List ℕ) → RunCall c ks ts most′ log′ r left → (r .stop ≡ 0) × (r .used ≡ length ts)
-  -- each toss can be passed as an i32
-  pub tosses : Tosses ts
   -- the runs of the first n task numbers
   pub agree : (n : ℕ) → n ≤ length ks
       → (r r′ : Running) (left left′ : List ℕ) → RunCall t (take n ks) vs most log r left → RunCall c (take n ks) ts most′ log′ r′ left′
@@ -46,23 +44,25 @@ pub record CallsAgree (t c : Table) (vs : List ℤ) (ks : List ℕ) (most most�
       → (k v to : ℕ) → k < t .tasks → standsBefore c (r′ .state) k ≡ Assert v to → (v ≡ removed → ⊥)
       → failing t (r .state) k ≡ failing c (r′ .state) k
 
--- `close(t)` answered c with number 0, and `run(t, ks, vs, most, log)` answered r with stop 0
+-- `close(t)` answered c with number 0, and `run(t, ks, vs, most, log)` answered r with stop 0: there are tosses, each of which can be passed as an i32 and at
+-- most one for each step, with which every call of the closed table agrees, whatever number of dropped nodes it allows and whatever its log buffer held
 pub closed-calls : (t : Table) (c : Closing) → c ≡ close t → c .number ≡ 0
-    → (vs : List ℤ) (ks : List ℕ) (most most′ : ℕ) (log log′ : List ℕ) → length log′ ≡ length log
+    → (vs : List ℤ) (ks : List ℕ) (most : ℕ) (log : List ℕ)
     → (r : Running) (left : List ℕ) → RunCall t ks vs most log r left → r .stop ≡ 0
-    → (ts : List ℤ) × CallsAgree t (c .table) vs ks most most′ log log′ ts
-closed-calls t c e ok vs ks most most′ log log′ long r left m stop =
+    → (ts : List ℤ) × Tosses ts × (length ts ≤ length ks)
+    × ((most′ : ℕ) (log′ : List ℕ) → length log′ ≡ length log → CallsAgree t (c .table) vs ks most most′ log log′ ts)
+closed-calls t c e ok vs ks most log r left m stop =
     let ok′ : close t .number ≡ 0 = rw e at ok in
     let stop′ : run t ks vs most log .answer .stop ≡ 0 = rw (ran-is m) stop in
-    let d = demand-3 t ok′ vs ks most most′ log log′ long stop′ in
-    let p = d .2 in (
+    let d = demand-3 t ok′ vs ks most log stop′ in (
       d .0,
-      rw e (record {
+      d .1,
+      d .2,
+      λ most′ log′ long. let p = d .3 most′ log′ long in rw e (record {
         completes = λ x l u. (rw (ran-is u) at (p .completes), rw (ran-is u) at (p .used-up));
-        tosses = d .1;
         agree = λ n h x y l l′ u w. rw (ran-is u, ran-is w) at (p .agree n h);
-        at-standstill = λ n h x y l l′ u w. rw (ran-is u, ran-is w) at (same-standstill t ok′ vs ks most most′ log log′ long stop′ (d .0) p n h);
+        at-standstill = λ n h x y l l′ u w. rw (ran-is u, ran-is w) at (same-standstill t ok′ vs ks most most′ log log′ (d .0) p n h);
         at-failure = λ n h x y l l′ u w k v to i b g.
-            rw (ran-is u, ran-is w) at (same-failure t ok′ vs ks most most′ log log′ long stop′ (d .0) p n k v to h i (rw (ran-is w) b) g);
+            rw (ran-is u, ran-is w) at (same-failure t ok′ vs ks most most′ log log′ (d .0) p n k v to h i (rw (ran-is w) b) g);
       }),
     )

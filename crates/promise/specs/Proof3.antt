@@ -1,13 +1,14 @@
 -- Demand 3 and its consequences, proved from what the reader grants of an accepted table, and from the closed table's having no fault.
-use Prim.Native.Nat.{ℕ, zero, suc, _-_, _<_, _≤_}
+use Prim.Native.Nat.{ℕ, zero, suc, _+_, _-_, _*_, _<_, _≤_}
 use native.Mathlib.Omega.{arith}
 use native.Mathlib.Nat.{zero-add}
-use mathlib.Core.Path.{_≡_, refl, sym, _∙_, ap, ap₂}
+use mathlib.Core.Path.{_≡_, refl, sym, _∙_, ap, ap₂, subst}
 use mathlib.Core.Logic.{_≢_}
 use mathlib.Core.Bool.{Bool, true, false, not, _&&_}
 use mathlib.Core.Option.{Option, none, some}
 use mathlib.Core.List.{List, [], List·Memᴰ·head}
-use lib.ListN.{length, take}
+use lib.ListN.{length, take, getD}
+use lib.Seq.{take-all}
 use lib.Dec.{eqb}
 use lib.IntN.{ℤ, pos}
 use Rattle.table.specs.Values.{eqZ}
@@ -20,38 +21,26 @@ use Rattle.text.specs.Reader.{allBelow}
 use Rattle.closing.specs.ReachLaws.{cases}
 use Rattle.closing.specs.Dirty.{useAt, Dirty}
 use Rattle.closing.specs.Closing.{dirty}
-use Rattle.closing.specs.Close.{useOr, closedNode, closedWith, closeTable, answer, close}
+use Rattle.closing.specs.Close.{useOr, closedNode, closedWith, closeTable, close}
+use Rattle.closing.specs.CloseLaws.{Accepted, accepted}
 use Rattle.machine.specs.declared.State.{State}
+use Rattle.machine.specs.declared.Running.{Running}
 use Rattle.machine.specs.State.{openFrames, topmost, varAt, standsBefore, standstill, Begun, spent, begun, begin}
 use Rattle.machine.specs.Step.{valuesSpent, Kept, keptOf, keptIn, fails, failing}
+use Rattle.machine.specs.KeptLaws.{allKept, kept-closed}
+use Rattle.machine.specs.StopLaws.{stopped-covered}
+use Rattle.machine.specs.ClosedRun.{AlikeRuns, closed-alike, few-tosses}
 use Rattle.machine.specs.Run.{Ran, runFrom, runBegun, runChecked, run}
-use Rattle.machine.specs.History.{History, lastSetting, historyFrom, historyBegun, history}
-use Rattle.promise.specs.Demand3.{CleanSetting, SameState, openRun, closedRun, Tosses, Demand3, SameStandstill, SameFailure}
+use Rattle.promise.specs.History.{History, lastSetting, historyFrom, historyBegun, history}
+use Rattle.promise.specs.Demand3.{CleanSetting, SameLog, SameState, Partner, openRun, closedRun, Tosses, Demand3, Demand3Stopped, SameStandstill, SameFailure}
 use Rattle.promise.specs.Sim.Wf.{Wf}
 use Rattle.promise.specs.Sim.Locals.{settingOf, D, keptAt, not-dirty}
 use Rattle.promise.specs.Sim.Exec.{closing}
-use Rattle.promise.specs.Sim.Walk.{allKept}
 use Rattle.promise.specs.Sim.Same.{Same}
 use Rattle.promise.specs.Sim.Blocked.{same-state, stands-closed, same-blocked}
-use Rattle.promise.specs.Sim.Log.{same-log}
+use Rattle.promise.specs.Sim.Log.{same-log, kept-log}
 use Rattle.promise.specs.Sim.Begin.{WhenBegun, BothBegin, begin-sim}
 use Rattle.promise.specs.Sim.Run.{stop-number, Strong, run-sim}
-
--- ---- a table that the closer accepts: it has no fault and is open, and the answer holds its closing
-
-pub record Accepted (t : Table) : Type 0 where
-  pub sound : fault t ≡ 0
-  pub open-form : t .closed ≡ false
-  pub answer-is : close t .table ≡ closeTable t
-
-pub accepted : (t : Table) → close t .number ≡ 0 → Accepted t
-unfolding close
-accepted t e = go (fault t) (t .closed) refl refl e
-  where
-    go : (n : ℕ) (c : Bool) → fault t ≡ n → t .closed ≡ c → answer t n c .number ≡ 0 → Accepted t
-    go zero false i j e = record { sound = i; open-form = j; answer-is = ap₂ (λ (n : ℕ) (c : Bool). answer t n c .table) i j }
-    go zero true i j e = absurd (omega arith)
-    go (suc n) c i j e = absurd (omega arith)
 
 -- ---- the two runs, from their first states on
 
@@ -67,9 +56,9 @@ history-is u ks vs most log b i = ap (historyBegun u ks most log) i
 open-kept : (t : Table) → t .closed ≡ false → keptIn t ≡ keptAt t
 open-kept t e = ap (keptOf t) e
 
-closed-kept : (t : Table) → keptIn (closeTable t) ≡ allKept
+is-closed : (t : Table) → closeTable t .closed ≡ true
 unfolding closeTable closedWith
-closed-kept t = refl
+is-closed t = refl
 
 module _ (wf : (t : Table) → close t .number ≡ 0 → Wf t) (sound : (t : Table) → close t .number ≡ 0 → fault (close t .table) ≡ 0) where
   module _ (t : Table) (ok : close t .number ≡ 0) (vs : List ℤ) (ks : List ℕ) (most most′ : ℕ) (log log′ : List ℕ) (size : length log′ ≡ length log) where
@@ -80,10 +69,10 @@ module _ (wf : (t : Table) → close t .number ≡ 0 → Wf t) (sound : (t : Tab
     acc = accepted t ok
 
     abbrev opened : ℕ → Ran
-    opened n = openRun t vs ks most most′ log log′ n
+    opened n = openRun t vs ks most log n
 
     abbrev shut : List ℤ → ℕ → Ran
-    shut ts n = closedRun t vs ks most most′ log log′ ts n
+    shut ts n = closedRun t ts ks most′ log′ n
 
     -- all that the proof knows of the runs
     record Followed (ts : List ℤ) : Type 0 where
@@ -101,7 +90,7 @@ module _ (wf : (t : Table) → close t .number ≡ 0 → Wf t) (sound : (t : Tab
     shut-is : (js : List ℕ) (ts : List ℤ) (s : State) → begin (closeTable t) ts ≡ begun s ts → run (close t .table) js ts most′ log′ ≡ runFrom (closeTable t) allKept most′ ts js 0 s ts log′
     shut-is js ts s i = ap (λ (u : Table). run u js ts most′ log′) (acc .answer-is)
         ∙ run-is (closeTable t) js ts most′ log′ (begun s ts) (sym (ap fault (acc .answer-is)) ∙ sound t ok) i
-        ∙ ap (λ (keep : Kept). runFrom (closeTable t) keep most′ ts js 0 s ts log′) (closed-kept t)
+        ∙ ap (λ (keep : Kept). runFrom (closeTable t) keep most′ ts js 0 s ts log′) (kept-closed (closeTable t) (is-closed t))
 
     follow : run t ks vs most log .answer .stop ≡ 0 → (ts : List ℤ) × Followed ts
     follow c = go (begin t vs) refl (begin-sim t t-wf (acc .open-form) vs)
@@ -121,27 +110,61 @@ module _ (wf : (t : Table) → close t .number ≡ 0 → Wf t) (sound : (t : Tab
               },
             )
 
-  -- ---- demand 3
+  -- ---- demand 3: the tosses of the closed run with no dropped node allowed and the open run's log buffer serve every other
+
+  -- a log whose first n entries are those of another
+  log-by : (n : ℕ) (log l l′ : List ℕ) → ((i : ℕ) → i < 8 * n → getD l i 0 ≡ getD l′ i 0) → SameLog n log l → SameLog n log l′
+  log-by n log l l′ e q = record {
+    task = λ i h. q .task i h ∙ e (8 * i) (omega arith);
+    proc = λ i h. q .proc i h ∙ e (8 * i + 1) (omega arith);
+    node = λ i h. q .node i h ∙ e (8 * i + 2) (omega arith);
+    flag = λ i h f. q .flag i h (e (8 * i + 3) (omega arith) ∙ f);
+    value = λ i b h k f. q .value i b h k (e (8 * i + 3) (omega arith) ∙ f) ∙ e (8 * i + 4 + b) (omega arith);
+  }
+
+  module _ (t : Table) (ok : close t .number ≡ 0) (vs : List ℤ) (ks : List ℕ) (most : ℕ) (log : List ℕ) (ts : List ℤ) (f : Followed t ok vs ks most 0 log log refl ts) where
+    abbrev c : Table
+    c = close t .table
+
+    c-closed : c .closed ≡ true
+    c-closed = ap (λ (u : Table). u .closed) (accepted t ok .answer-is) ∙ is-closed t
+
+    few : length ts ≤ length ks
+    few =
+        let steps : run c ks ts 0 log .answer .steps ≡ length ks = ap (λ (js : List ℕ). run c js ts 0 log .answer .steps) (sym (take-all (length ks) ks (omega arith))) ∙ f .each (length ks) (omega arith) .closed-steps in
+        omega (arith, few-tosses c c-closed ks ts 0 log, f .used-up)
+
+    module _ (most′ : ℕ) (log′ : List ℕ) (size : length log′ ≡ length log) where
+      alike : (n : ℕ) → AlikeRuns (run c (take n ks) ts 0 log) (run c (take n ks) ts most′ log′)
+      alike n = closed-alike c c-closed (take n ks) ts 0 most′ log log′ (sym size)
+
+      whole : AlikeRuns (run c ks ts 0 log) (run c ks ts most′ log′)
+      whole = closed-alike c c-closed ks ts 0 most′ log log′ (sym size)
+
+      partner : Partner t vs ks most most′ log log′ ts
+      partner = record {
+        completes = ap (λ (r : Running). r .stop) (sym (whole .answers)) ∙ f .completes;
+        used-up = ap (λ (r : Running). r .used) (sym (whole .answers)) ∙ f .used-up;
+        agree = λ n l. let g = f .each n l in let a = alike n in let opened = run t (take n ks) vs most log in let shut = run c (take n ks) ts 0 log in record {
+          open-completes = g .open-completes;
+          closed-completes = ap (λ (r : Running). r .stop) (sym (a .answers)) ∙ g .closed-completes;
+          open-steps = g .open-steps;
+          closed-steps = ap (λ (r : Running). r .steps) (sym (a .answers)) ∙ g .closed-steps;
+          logs = log-by n (opened .log) (shut .log) (run c (take n ks) ts most′ log′ .log) (λ i h. a .logs i (omega (arith, g .closed-steps))) (same-log t n (opened .log) (shut .log) (g .logs));
+          kept-nodes = kept-log t n (opened .log) (shut .log) (g .logs);
+          states = subst (λ (r : Running). SameState t (history t (take n ks) vs most log) (opened .answer .state) (r .state)) (a .answers) (same-state t _ _ _ (g .states));
+        };
+      }
 
   pub demand-3 : Demand3
-  demand-3 t ok vs ks most most′ log log′ size c =
-      let r = follow t ok vs ks most most′ log log′ size c in
-      let f = r .1 in (
-        r .0,
-        f .small,
-        record {
-          completes = f .completes;
-          used-up = f .used-up;
-          agree = λ n l. let g = f .each n l in record {
-            open-completes = g .open-completes;
-            closed-completes = g .closed-completes;
-            open-steps = g .open-steps;
-            closed-steps = g .closed-steps;
-            logs = same-log n _ _ (g .logs);
-            states = same-state t _ _ _ (g .states);
-          };
-        },
-      )
+  demand-3 t ok vs ks most log c =
+      let r = follow t ok vs ks most 0 log log refl c in
+      (r .0, r .1 .small, few t ok vs ks most log (r .0) (r .1), λ most′ log′ size. partner t ok vs ks most log (r .0) (r .1) most′ log′ size)
+
+  pub demand-3-stopped : Demand3Stopped
+  demand-3-stopped t ok vs ks most log c =
+      let e = stopped-covered t ks vs most log c in
+      (e, demand-3 t ok vs _ most log (ap (λ (r : Ran). r .answer .stop) e))
 
   -- ---- its consequences: of the open run the proof knows more than a partner says
 
@@ -202,14 +225,22 @@ module _ (wf : (t : Table) → close t .number ≡ 0 → Wf t) (sound : (t : Tab
           let z = stands-closed t h s s′ w q k k< (r .task k k< .some-open) (r .task k k< .keeps) in
           fail-at (standsBefore t s k) refl v to (sym z ∙ i) c ∙ ap (fails (topmost s′ k .vars)) (sym z)
 
+  -- what the proof knows of the open run beside a partner
+  module _ (t : Table) (ok : close t .number ≡ 0) (vs : List ℤ) (ks : List ℕ) (most most′ : ℕ) (log log′ : List ℕ) (ts : List ℤ) (f : Partner t vs ks most most′ log log′ ts) where
+    open-is-complete : run t ks vs most log .answer .stop ≡ 0
+    open-is-complete = ap (λ (js : List ℕ). run t js vs most log .answer .stop) (sym (take-all (length ks) ks (omega arith))) ∙ f .agree (length ks) (omega arith) .open-completes
+
+    known : (n : ℕ) → n ≤ length ks → (s″ : State) × Same t (history t (take n ks) vs most log) (openRun t vs ks most log n .answer .state) s″
+    known n l = (_, follow t ok vs ks most 0 log log refl open-is-complete .1 .each n l .states)
+
   pub same-standstill : SameStandstill
-  same-standstill t ok vs ks most most′ log log′ size c ts f n l =
-      let g = follow t ok vs ks most most′ log log′ size c .1 .each n l in
+  same-standstill t ok vs ks most most′ log log′ ts f n l =
+      let g = known t ok vs ks most most′ log log′ ts f n l in
       let a = accepted t ok .answer-is in
-      rw a (stand-still t (wf t ok) _ _ _ _ (rw a at (f .agree n l .states)) (g .states))
+      rw a (stand-still t (wf t ok) _ _ _ (g .0) (rw a at (f .agree n l .states)) (g .1))
 
   pub same-failure : SameFailure
-  same-failure t ok vs ks most most′ log log′ size c ts f n k v to l k< i j =
-      let g = follow t ok vs ks most most′ log log′ size c .1 .each n l in
+  same-failure t ok vs ks most most′ log log′ ts f n k v to l k< i j =
+      let g = known t ok vs ks most most′ log log′ ts f n l in
       let a = accepted t ok .answer-is in
-      rw a (fail-alike t (wf t ok) _ _ _ _ (rw a at (f .agree n l .states)) (g .states) k k< v to (rw a at i) j)
+      rw a (fail-alike t (wf t ok) _ _ _ (g .0) (rw a at (f .agree n l .states)) (g .1) k k< v to (rw a at i) j)

@@ -2,9 +2,11 @@
 use Prim.Native.Nat.{ℕ, suc, _+_, _-_, _*_, _≤_, _<_}
 use mathlib.Core.Path.{_≡_}
 use mathlib.Core.List.{List}
+use lib.Dec.{ltb}
 use lib.ListN.{length, take, drop, getD}
+use Rattle.table.specs.Mask.{pick}
 use Rattle.text.specs.declared.Fault.{Fault}
-use Rattle.text.specs.declared.Fault.the-variants.{Form}
+use Rattle.text.specs.declared.Fault.the-variants.{Form, Ended}
 use Rattle.text.specs.Value.{ValueKind, Of, said}
 use Rattle.text.specs.Line.{Outcome, took, refused, After, at as stands, differs, broken, after, run as count, judged, valueOf, fieldOf, feed as endOf}
 use Rattle.scan.specs.declared.Found.{Found}
@@ -51,6 +53,19 @@ pub record RunEnd (s : List ℕ) (at r : ℕ) : Type 0 where
   pub from : at ≤ r
   pub within : r ≤ length s
 
+-- where the value at a place begins and ends; one that the text's end breaks off is an early end
+unfoldable pub valueToken : List ℕ → ℕ → Token
+valueToken s at = pick (ltb (at + count (drop at s)) (length s)) (Between at (at + count (drop at s))) (Not Ended)
+
+-- and the one that begins at a place behind a key
+abbrev pub tokenAfter : List ℕ → ℕ → After → Token
+tokenAfter s b (stands t) = valueToken s b
+tokenAfter s b differs = Not Form
+tokenAfter s b broken = Not Ended
+
+unfoldable pub keyToken : List ℕ → List ℕ → ℕ → Token
+keyToken key s at = tokenAfter s (at + length key) (after key (drop at s))
+
 -- the outcome for a value of any kind that begins and ends so
 abbrev pub tokenIn : (k : ValueKind) → ℕ → List ℕ → Token → Outcome (Of k)
 tokenIn k l s (Between b e) = judged k (said k (take (e - b) (drop b s))) l (drop e s)
@@ -61,10 +76,12 @@ tokenWithin s (Between b e) = (b ≤ e) × (e < length s)
 tokenWithin s (Not f) = Unit {0}
 
 pub record ValueAt (s : List ℕ) (at : ℕ) (r : Token) : Type 0 where
+  pub is : r ≡ valueToken s at
   pub same : (k : ValueKind) (l : ℕ) → tokenIn k l s r ≡ valueOf k l (drop at s)
   pub within : tokenWithin s r
 
 pub record TokenAt (key s : List ℕ) (at : ℕ) (r : Token) : Type 0 where
+  pub is : r ≡ keyToken key s at
   pub same : (k : ValueKind) (l : ℕ) → tokenIn k l s r ≡ fieldOf key k l (drop at s)
   pub within : tokenWithin s r
 

@@ -20,7 +20,7 @@ use Rattle.scan.specs.declared.Found.the-variants.{At, Differs, Broken}
 use Rattle.scan.specs.declared.Token.{Token}
 use Rattle.scan.specs.declared.Token.the-variants.{At as Between, Not}
 use Rattle.scan.specs.declared.Ended.the-variants.{Is as Fed, Not as Unfed}
-use Rattle.scan.specs.Place.{AfterKey, quadNumber, Bytes, QuadAt, RunEnd, ValueAt, TokenAt, FeedAt}
+use Rattle.scan.specs.Place.{AfterKey, quadNumber, Bytes, QuadAt, RunEnd, valueToken, keyToken, ValueAt, TokenAt, FeedAt}
 
 -- ---- a key, byte by byte
 pub record Matching (key s : List ℕ) (at j : ℕ) : Type 0 where
@@ -233,31 +233,53 @@ module _ {s : List ℕ} {b e : ℕ} (u : RunEnd s b e) where
   size = omega (arith, u .same)
 
   pub value-ends : e < length s → ValueAt s b (Between b e)
+  unfolding valueToken
   value-ends h =
       let l : e - b < length (drop b s) = simp length-drop (omega (arith, u .from)) in
       let d : b + (e - b) ≡ e = omega (arith, u .from) in
-      record { same = λ k n. rw (size, lt-ltb (e - b) (length (drop b s)) l, drop-drop (e - b) b s, d); within = (u .from, h) }
+      record {
+        is = rw (← u .same, lt-ltb e (length s) h);
+        same = λ k n. rw (size, lt-ltb (e - b) (length (drop b s)) l, drop-drop (e - b) b s, d);
+        within = (u .from, h);
+      }
 
   pub value-over : length s ≤ e → ValueAt s b (Not Ended)
+  unfolding valueToken
   value-over h =
       let l : length (drop b s) ≤ e - b = simp length-drop (omega arith) in
-      record { same = λ k n. rw (size, le-ltb (e - b) (length (drop b s)) l); within = tt }
+      record { is = rw (← u .same, le-ltb e (length s) h); same = λ k n. rw (size, le-ltb (e - b) (length (drop b s)) l); within = tt }
+
+-- what stands after a key is shorter by the key
+after-length : (k s : List ℕ) {t : List ℕ} → stands t ≡ after k s → length k + length t ≡ length s
+unfolding after
+after-length [] s {t} e = let q : t ≡ s = cc in rw q (omega arith)
+after-length (x ∷ k) [] e = absurd (let z : _≡_ {A = ℕ} 0 1 = cc in omega arith)
+after-length (x ∷ k) (y ∷ s) {t} e =
+    cases (eqb x y)
+    (λ h. omega (arith, after-length k s (rw h at e)))
+    (λ h. absurd (let g : stands t ≡ differs = rw h at e in let z : _≡_ {A = ℕ} 0 1 = cc in omega arith))
 
 module _ {key s : List ℕ} {at : ℕ} {r : Found} (m : AfterKey key s at r) where
   pub found-within : {b : ℕ} → r ≡ At b → b ≤ length s
   found-within e = rw e at (m .within)
 
-  pub token-found : {b : ℕ} {t : Token} → r ≡ At b → ValueAt s b t → TokenAt key s at t
-  unfolding fieldOf
-  token-found q u = record { same = λ k l. u .same k l ∙ rw (← m .same, q); within = u .within }
+  found-place : {b : ℕ} → r ≡ At b → at ≤ length s → b ≡ at + length key
+  found-place {b} q h =
+      let k : b ≤ length s = found-within q in
+      omega (arith, after-length key (drop at s) (rw q at (m .same)), length-drop at s, length-drop b s)
+
+  pub token-found : {b : ℕ} {t : Token} → r ≡ At b → at ≤ length s → ValueAt s b t → TokenAt key s at t
+  unfolding fieldOf keyToken
+  token-found q h u =
+      record { is = u .is ∙ rw (← m .same, q, ← found-place q h); same = λ k l. u .same k l ∙ rw (← m .same, q); within = u .within }
 
   pub token-differs : r ≡ Differs → TokenAt key s at (Not Form)
-  unfolding fieldOf
-  token-differs e = record { same = λ k l. rw (← m .same, e); within = tt }
+  unfolding fieldOf keyToken
+  token-differs e = record { is = rw (← m .same, e); same = λ k l. rw (← m .same, e); within = tt }
 
   pub token-broken : r ≡ Broken → TokenAt key s at (Not Ended)
-  unfolding fieldOf
-  token-broken e = record { same = λ k l. rw (← m .same, e); within = tt }
+  unfolding fieldOf keyToken
+  token-broken e = record { is = rw (← m .same, e); same = λ k l. rw (← m .same, e); within = tt }
 
 module _ {s : List ℕ} {at : ℕ} {r : Token} (m : ValueAt s at r) where
   pub value-within : {b e : ℕ} → r ≡ Between b e → (b ≤ e) × (e < length s)

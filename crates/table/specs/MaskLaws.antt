@@ -1,14 +1,14 @@
--- What is in a mask: `maskOf` holds what passes its test, and `members` lists what is held.
+-- What is in a mask: `maskOf` holds what passes its test, and `members` lists what is held. So masks are sets: two with the same members are equal.
 use Prim.Native.Nat.{ℕ, zero, suc, _+_, _-_, _*_, _/_, _%_, _^_, _<_, _≤_}
 use native.Mathlib.Omega.{arith}
-use native.Mathlib.Nat.{add-zero, pow-suc, div-eq-of-lt, add-div-right, add-mul-div-right, add-mul-mod-self-right, lt-of-lt-of-le}
-use mathlib.Core.Path.{_≡_, refl, _∙_, ap}
-use mathlib.Core.Bool.{Bool, true, false}
+use native.Mathlib.Nat.{mod-lt, zero-lt-suc, div-one, add-zero, pow-suc, div-eq-of-lt, add-div-right, add-mul-div-right, add-mul-mod-self-right, lt-of-lt-of-le}
+use mathlib.Core.Path.{_≡_, refl, sym, _∙_, ap}
+use mathlib.Core.Bool.{Bool, true, false, false≢true}
 use mathlib.Core.Logic.{_↔_}
 use mathlib.Core.List.{List·Memᴰ, List·Memᴰ·head, List·Memᴰ·tail, List·Memᴰ·not-nil}
 use lib.ListN.{length}
 use lib.Dec.{eqb}
-use lib.Pow.{pow-pos, pow-mono, pow-add}
+use lib.Pow.{pow-pos, pow-mono, pow-add, shr-shr}
 use borrow.Author.Tests.{eqb-true, eqb-false}
 use Rattle.table.specs.Mask.{pick, bit, also, membersFrom, members, maskOf}
 
@@ -109,3 +109,37 @@ from-few (suc n) k m = go (bit k m) (from-few n (suc k) m)
 
 pub members-few : (m : ℕ) → length (members m) ≤ 32
 members-few m = from-few 32 0 m
+
+pub lt2 : (n : ℕ) → n % 2 < 2
+lt2 n = mod-lt n (zero-lt-suc 1)
+
+-- two masks with the same elements are equal
+pub bit-half : (k m : ℕ) → bit k (m / 2) ≡ bit (suc k) m
+unfolding bit
+bit-half k m = ap (λ (x : ℕ). eqb (x % 2) 1) (shr-shr m 1 k ∙ ap (λ (x : ℕ). m / 2 ^ x) (omega arith))
+
+pub one-bit : (x : ℕ) → bit 0 x ≡ eqb (x % 2) 1
+unfolding bit
+one-bit x = ap (λ (y : ℕ). eqb (y % 2) 1) (div-one x)
+
+pub bit-ext : (n a b : ℕ) → a < 2 ^ n → b < 2 ^ n → ((k : ℕ) → k < n → bit k a ≡ bit k b) → a ≡ b
+bit-ext zero a b p q h = omega arith
+bit-ext (suc n) a b p q h =
+    let e : a / 2 ≡ b / 2 = bit-ext n (a / 2) (b / 2) (half p) (half q) (λ k l. bit-half k a ∙ h (suc k) (omega arith) ∙ sym (bit-half k b)) in
+    let f : a % 2 ≡ b % 2 = low in
+    omega arith
+  where
+    half : {x : ℕ} → x < 2 ^ suc n → x / 2 < 2 ^ n
+    half {x} l = let l2 : x < 2 ^ n * 2 = rw pow-suc at l in omega arith
+
+    low2 : (x y : ℕ) → x < 2 → y < 2 → eqb x 1 ≡ eqb y 1 → x ≡ y
+    low2 zero zero r s e = refl
+    low2 zero (suc zero) r s e = absurd (false≢true e)
+    low2 zero (suc (suc y)) r s e = absurd (omega arith)
+    low2 (suc zero) zero r s e = absurd (false≢true (sym e))
+    low2 (suc zero) (suc zero) r s e = refl
+    low2 (suc zero) (suc (suc y)) r s e = absurd (omega arith)
+    low2 (suc (suc x)) y r s e = absurd (omega arith)
+
+    low : a % 2 ≡ b % 2
+    low = low2 (a % 2) (b % 2) (lt2 a) (lt2 b) (sym (one-bit a) ∙ h 0 (omega arith) ∙ one-bit b)

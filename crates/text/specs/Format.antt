@@ -172,9 +172,9 @@ argOf xs i = variableOf (getD xs i (some 0))
 abbrev pub argsOf : List (Option ℕ) → Args
 argsOf xs = record { len = min (length xs) 5; a0 = argOf xs 0; a1 = argOf xs 1; a2 = argOf xs 2; a3 = argOf xs 3 }
 
--- places past the fourth are 0
+-- arguments past the fourth repeat the fourth
 abbrev pub argNames : Args → List (Option ℕ)
-argNames x = map nameOf (take (x .len) (argPlaces x ++ replicate (x .len - 4) 0))
+argNames x = map nameOf (take (x .len) (argPlaces x ++ replicate (x .len - 4) (x .a3)))
 
 unfoldable pub nodeOf : (c : Scope) (k : NodeKind) → Vals (fields c k) → Node
 nodeOf c start w = Start (setOf (w .0))

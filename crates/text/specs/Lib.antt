@@ -14,6 +14,7 @@ pub mod Structure
 pub mod Right
 pub mod RightLaws
 pub mod Valid
+pub mod ArgsLaws
 pub mod LinedLaws
 pub mod EndsLaws
 pub mod StructureLaws
@@ -21,6 +22,8 @@ pub mod ValidLaws
 pub mod RowLaws
 pub mod NodeLaws
 pub mod TableLaws
+pub mod MadeLaws
 pub mod ShapeLaws
 pub mod RoundTrip
+pub mod ReadShaped
 pub mod TextLength

@@ -1,17 +1,16 @@
 -- The lines of a table have no fault if and only if the table is `Lined`.
-use Prim.Native.Nat.{ℕ, zero, suc, _+_, _-_, _≤_, _<_}
-use mathlib.Core.Path.{_≡_, refl, _∙_, ap}
+use Prim.Native.Nat.{ℕ, zero, suc, _+_, _≤_, _<_, min}
+use mathlib.Core.Path.{_≡_, refl}
 use mathlib.Core.Logic.{_↔_, inl, inr}
 use mathlib.Core.List.{List, [], _∷_, _++_, List·Memᴰ·append-cases, List·Memᴰ·not-nil}
-use mathlib.Core.Option.{Option, none, some}
+use mathlib.Core.Option.{Option, none}
 use mathlib.Core.Bool.{Bool, true, false, false≢true}
 use native.Mathlib.Omega.{arith}
 use lib.Dec.{ltb, eqb}
-use lib.ListN.{length, getD, take, replicate, length-take, length-replicate, length-map, List·getD-map}
-use lib.Seq.{getD-take}
+use lib.ListN.{getD, replicate}
 use borrow.Author.Tests.{ltb-true, lt-ltb, eqb-true, eqb-false, not-true}
 use Rattle.table.specs.Mask.{bit, membersFrom, members}
-use Rattle.table.specs.Table.{removed, argPlaces, argAt, taskAt, semAt, queueAt, procAt, nodeIn, arcTo, arcNo, arcs}
+use Rattle.table.specs.Table.{removed, argAt, taskAt, semAt, queueAt, procAt, nodeIn, arcTo, arcNo, arcs}
 use Rattle.table.specs.declared.Args.{Args}
 use Rattle.table.specs.declared.Node.{Node}
 use Rattle.table.specs.declared.Node.the-variants.{Absent, Start, Set, Test, Read, Call, Wait, Signal, Send, Recv, Assert, Out, Return}
@@ -27,6 +26,7 @@ use Rattle.text.specs.Writer.{queueVals, procVals, scope}
 use Rattle.text.specs.MaskLists.{members-ascends}
 use Rattle.text.specs.Right.{KindRight, Right, Rights, NameIn, Within}
 use Rattle.text.specs.RightLaws.{unless-is, else-is, and-is, line-is}
+use Rattle.text.specs.ArgsLaws.{names-length, name-any, name-at}
 use Rattle.text.specs.Structure.{firstOf, placeFault, nodesFault, procFault, headFault, countsFault, tasksFault, semsFault, queuesFault, procsFault, linesFault}
 use Rattle.text.specs.Valid.{Named, Arc, NodeValid, ProcValid, Lined}
 
@@ -66,26 +66,10 @@ all-same d zero j = refl
 all-same d (suc n) zero = refl
 all-same d (suc n) (suc j) = all-same d n j
 
-padded : (xs : List ℕ) (n i : ℕ) → getD (xs ++ replicate n 0) i 0 ≡ getD xs i 0
-padded [] n i = all-same 0 n i
-padded (x ∷ xs) n zero = refl
-padded (x ∷ xs) n (suc i) = padded xs n i
-
--- as many names as arguments, those of the four places and then 0
-pub names-length : (x : Args) → length (argNames x) ≡ x .len
-names-length x =
-    length-map (take (x .len) (argPlaces x ++ replicate (x .len - 4) 0)) nameOf ∙ length-take (x .len) (argPlaces x ++ replicate (x .len - 4) 0)
-    ∙ omega (arith, length-replicate (x .len - 4) (zero))
-
-pub name-at : (x : Args) (i : ℕ) → i < x .len → getD (argNames x) i (some 0) ≡ nameOf (argAt x i)
-name-at x i l =
-    let ys = argPlaces x ++ replicate (x .len - 4) 0 in
-    List·getD-map nameOf (take (x .len) ys) i 0 ∙ ap nameOf (getD-take (x .len) ys i 0 l ∙ padded (argPlaces x) (x .len - 4) i)
-
-args-is : (c : Scope) (x : Args) → Right (arguments (c .closed) (c .vars)) (argNames x) ↔ ((i : ℕ) → i < x .len → Named c (argAt x i))
+args-is : (c : Scope) (x : Args) → Right (arguments (c .closed) (c .vars)) (argNames x) ↔ ((i : ℕ) → i < x .len → i < 4 → Named c (argAt x i))
 args-is c x = (
-  λ h i l. name-is c (argAt x i) .0 (rw (name-at x i l) at (h i (omega (arith, names-length x)))),
-  λ h i l. let u : i < x .len = omega (arith, names-length x) in rw (name-at x i u) (name-is c (argAt x i) .1 (h i u)),
+  λ h i l u. name-is c (argAt x i) .0 (rw (name-at x i l u) at (h i (omega (arith, names-length x)))),
+  λ h i l. let u : i < x .len = omega (arith, names-length x) in rw (name-any x i u) (name-is c (argAt x (min i 3)) .1 (h (min i 3) (omega arith) (omega arith))),
 )
 
 -- ---- places
@@ -201,7 +185,7 @@ valid-proc t p v =
 
 -- ---- tables
 
-lines-is : (t : Table)
+pub lines-is : (t : Table)
     → (linesFault t ≡ none) ↔ ((headFault t ≡ none) × (countsFault t ≡ none) × (tasksFault t ≡ none) × (semsFault t ≡ none) × (queuesFault t ≡ none) × (procsFault t ≡ none))
 unfolding linesFault
 lines-is t =

@@ -28,6 +28,7 @@ use Rattle.text.specs.MaskLists.{members-set, set-members}
 use Rattle.text.specs.Format.{Scope, fields, nodeLine, variableOf, nameOf, setOf, argsOf, argNames, nodeOf, Described, noLine, described, describe}
 use Rattle.text.specs.Reader.{Numbered, nodeRow, slotOf, ifKey, furtherNodes, nodesOf, countRight}
 use Rattle.text.specs.Writer.{nodeText, all, isZero, argsEmpty}
+use Rattle.text.specs.ArgsLaws.{args-again}
 use Rattle.text.specs.RowLaws.{Faultless, or-left, or-right, unless-none, faultless, line-only, Rows, Row, Filled, fill-done, fill-step, rows-fill}
 
 -- ---- values
@@ -119,7 +120,7 @@ args-forth x z l = go (x .len) (x .a0) (x .a1) (x .a2) (x .a3) z l
         let e : suc (suc (suc (suc (suc n)))) - 4 ≡ suc n = omega arith in
         absurd (big (rw e at l))
       where
-        big : min (suc (suc (suc (suc (length (map nameOf (take (suc n) (replicate (suc n) 0)))))))) 5 ≤ 4 → ⊥
+        big : min (suc (suc (suc (suc (length (map nameOf (take (suc n) (replicate (suc n) d)))))))) 5 ≤ 4 → ⊥
         big l = omega arith
 
 -- ---- a node and the values of its line
@@ -174,6 +175,28 @@ node-describe t c (Assert v to) h f = rw (number-back v, set-members to (h .1))
 node-describe t c (Out v to) h f = rw (number-back v, set-members to (h .1))
 node-describe t c Return h f = refl
 
+-- the line of node j has no fault; only in closed form, and there behind place 0, does a node lack one
+abbrev pub FaultlessNode : (c : Scope) → ℕ → Described c → Type 0
+FaultlessNode c j noLine = (0 < j) × (c .closed ≡ true)
+FaultlessNode c j (described k w) = Faultless (nodeLine c j (suc j)) (j, (k, w))
+
+-- a line without fault makes a node whose line has no fault either
+describe-fine : (c : Scope) (j : ℕ) (k : NodeKind) (w : Vals (fields c k)) → c .vars ≤ removed → c .nodes ≤ 32 → Faultless (nodeLine c j (suc j)) (j, (k, w)) → FaultlessNode c j (describe c (nodeOf c k w))
+unfolding nodeOf describe
+describe-fine c j start w v n f = rw (list-back _ 1 (c .nodes) (w .0) n (f .1 .1 .0)) f
+describe-fine c j setting w v n f = rw (list-back _ 1 (c .nodes) (w .1 .1 .1 .1 .0) n (f .1 .1 .1 .1 .1 .1 .0)) f
+describe-fine c j test w v n f = rw (list-back _ 1 (c .nodes) (w .1 .1 .1 .0) n (f .1 .1 .1 .1 .1 .0), list-back _ 1 (c .nodes) (w .1 .1 .1 .1 .0) n (f .1 .1 .1 .1 .1 .1 .0)) f
+describe-fine c j read w v n f = rw (list-back _ 1 (c .nodes) (w .1 .0) n (f .1 .1 .1 .0)) f
+describe-fine c j call w v n f =
+    rw (list-back _ 1 (c .nodes) (w .1 .1 .0) n (f .1 .1 .1 .1 .0)) (f .0, (f .1 .0, (f .1 .1 .0, (args-again (c .closed) (c .vars) (w .1 .0) v (f .1 .1 .1 .0), f .1 .1 .1 .1))))
+describe-fine c j wait w v n f = rw (list-back _ 1 (c .nodes) (w .1 .0) n (f .1 .1 .1 .0)) f
+describe-fine c j signal w v n f = rw (list-back _ 1 (c .nodes) (w .1 .0) n (f .1 .1 .1 .0)) f
+describe-fine c j send w v n f = rw (variable-back (c .closed) (c .vars) (w .1 .0) v (f .1 .1 .1 .0), list-back _ 1 (c .nodes) (w .1 .1 .0) n (f .1 .1 .1 .1 .0)) f
+describe-fine c j recv w v n f = rw (variable-back (c .closed) (c .vars) (w .1 .0) v (f .1 .1 .1 .0), list-back _ 1 (c .nodes) (w .1 .1 .0) n (f .1 .1 .1 .1 .0)) f
+describe-fine c j assert w v n f = rw (variable-back (c .closed) (c .vars) (w .0) v (f .1 .1 .0), list-back _ 1 (c .nodes) (w .1 .0) n (f .1 .1 .1 .0)) f
+describe-fine c j out w v n f = rw (variable-back (c .closed) (c .vars) (w .0) v (f .1 .1 .0), list-back _ 1 (c .nodes) (w .1 .0) n (f .1 .1 .1 .0)) f
+describe-fine c j return w v n f = f
+
 -- a node made of a line has nothing behind its arguments
 node-args : (c : Scope) (k : NodeKind) (w : Vals (fields c k)) → argsEmpty (nodeOf c k w) ≡ true
 unfolding nodeOf argsEmpty all
@@ -199,11 +222,6 @@ node-args c out w = refl
 node-args c return w = refl
 
 -- ---- a procedure's node lines
-
--- the line of node j has no fault
-abbrev pub FaultlessNode : (c : Scope) → ℕ → Described c → Type 0
-FaultlessNode c j noLine = Unit {0}
-FaultlessNode c j (described k w) = Faultless (nodeLine c j (suc j)) (j, (k, w))
 
 -- the text does not begin with a node line
 abbrev pub NoNode : List ℕ → Type 0
@@ -238,7 +256,7 @@ abbrev pub nodeRows : Table → Scope → Rows Slot
 nodeRows t c = record {
   text = λ j x. nodeText c j (describe c (x .node));
   empty = noSlot;
-  Fine = λ j x. (argsEmpty (x .node) ≡ true) × (FitsIn t (x .node) → FaultlessNode c j (describe c (x .node)));
+  Fine = λ j x. (argsEmpty (x .node) ≡ true) × FaultlessNode c j (describe c (x .node));
   Fits = λ x. FitsIn t (x .node);
   Clean = λ x. CleanNode (x .node);
   Next = NotBefore c;
@@ -270,7 +288,7 @@ module _ (t : Table) (c : Scope) (few-vars : c .vars ≤ removed) (few-nodes : c
       let b = line-read (nodeLine c lo n) l s v l′ r e in
       let f = faultless (nodeLine c lo n) v (b .2) in
       record {
-        fine = (node-args c k w, λ g. rw (describe-node t c k w few-vars few-nodes (f .1 .1) g) (own-number (v .0) _, f .1));
+        fine = (node-args c k w, describe-fine c (v .0) k w few-vars few-nodes (own-number (v .0) _, f .1));
         same = λ g. rw (describe-node t c k w few-vars few-nodes (f .1 .1) g) (b .0);
         only = λ g b s′ h x q. go g b s′ h x (describe c (b .node)) refl q;
       }
@@ -284,9 +302,9 @@ module _ (t : Table) (c : Scope) (few-vars : c .vars ≤ removed) (few-nodes : c
           (ap (λ (y : Node). record { node = y }) (known b h (described k w) p (rw m g) ∙ m), o .1)
 
   -- no line of number j stands there
-  absent-row : (j : ℕ) (s : List ℕ) → ((k : NodeKind) (w : Vals (fields c k)) (s′ : List ℕ) → s ≡ nodeText c j (described k w) ++ s′ → ⊥) → Row (nodeRows t c) j s noSlot s
+  absent-row : c .closed ≡ true → (j : ℕ) (s : List ℕ) → 0 < j → ((k : NodeKind) (w : Vals (fields c k)) (s′ : List ℕ) → s ≡ nodeText c j (described k w) ++ s′ → ⊥) → Row (nodeRows t c) j s noSlot s
   unfolding describe argsEmpty
-  absent-row j s h = record { fine = (refl, λ g. tt); same = λ g. refl; only = λ g b s′ u x q. go g b s′ u (describe c (b .node)) refl q }
+  absent-row o j s m h = record { fine = (refl, (m, o)); same = λ g. refl; only = λ g b s′ u x q. go g b s′ u (describe c (b .node)) refl q }
     where
       go : FitsIn t Absent → (b : Slot) (s′ : List ℕ) → CleanNode (b .node) → (d : Described c) → describe c (b .node) ≡ d → s ≡ nodeText c j d ++ s′ → (b ≡ noSlot) × (s′ ≡ s)
       go g b s′ u noLine p q = (ap (λ (y : Node). record { node = y }) (known b u noLine p g), sym q)
@@ -326,40 +344,40 @@ module _ (t : Table) (c : Scope) (few-vars : c .vars ≤ removed) (few-nodes : c
       → furtherNodes c f last l k s ≡ took L k′ r → Filled (nodeRows t c) n i (c .nodes) l L s r
 
   -- no line for place i: it stays empty
-  skip : (n : ℕ) → Further n → (f last i : ℕ) (l : List Slot) (k : ℕ) (s : List ℕ) (L : List Slot) (k′ : ℕ) (r : List ℕ) → c .nodes ≡ i + suc n → last < i → c .nodes ≤ i + f → c .nodes ≤ length l
+  skip : c .closed ≡ true → (n : ℕ) → Further n → (f last i : ℕ) (l : List Slot) (k : ℕ) (s : List ℕ) (L : List Slot) (k′ : ℕ) (r : List ℕ) → c .nodes ≡ i + suc n → last < i → c .nodes ≤ i + f → c .nodes ≤ length l
       → ((j : ℕ) → i ≤ j → getD l j noSlot ≡ noSlot) → furtherNodes c f last l k s ≡ took L k′ r
       → ((k₁ : NodeKind) (w : Vals (fields c k₁)) (s₁ : List ℕ) → s ≡ nodeText c i (described k₁ w) ++ s₁ → ⊥)
       → ((v : Vals (nodeLine c (suc last) (c .nodes))) (l′ : ℕ) (r′ : List ℕ) → line (nodeLine c (suc last) (c .nodes)) k s ≡ took v l′ r′ → suc i ≤ v .0)
       → Filled (nodeRows t c) (suc n) i (c .nodes) l L s r
-  skip n ih f last i l k s L k′ r a b d h z e free due =
+  skip w n ih f last i l k s L k′ r a b d h z e free due =
       let m : set l i noSlot ≡ l = ap (set l i) (sym (z i (omega arith))) ∙ set-getD l i noSlot in
-      fill-step (nodeRows t c) n i (c .nodes) l s noSlot s L r a (omega arith) (absent-row i s free)
+      fill-step (nodeRows t c) n i (c .nodes) l s noSlot s L r a (omega arith) (absent-row w i s (omega arith) free)
       (rw m (ih f last (suc i) l k s L k′ r (omega arith) (omega arith) (omega arith) h (λ j u. z j (omega arith)) due e))
 
-  further : (n : ℕ) → Further n
-  further zero f last i l k s L k′ r a b d h z due e = further-read f last l k s L k′ r e
+  further : c .closed ≡ true → (n : ℕ) → Further n
+  further w zero f last i l k s L k′ r a b d h z due e = further-read f last l k s L k′ r e
       (λ p q u. let j : c .nodes ≡ i = omega arith in rw (← j, ← p, ← q) (fill-done (nodeRows t c) (c .nodes) l s))
       (λ g v k₁ s₁ p q u. let x = due v k₁ s₁ q in let y = number-of (suc last) (c .nodes) k s v k₁ s₁ q in absurd (omega arith))
-  further (suc n) f last i l k s L k′ r a b d h z due e = further-read f last l k s L k′ r e
+  further w (suc n) f last i l k s L k′ r a b d h z due e = further-read f last l k s L k′ r e
       (λ p q u.
       let x = u (omega arith) in
-      skip n (further n) f last i l k s L k′ r a b d h z e (no-node c i s x) (λ v l′ r′ y. absurd (no-line c (suc last) (c .nodes) k s x v l′ r′ y)))
+      skip w n (further w n) f last i l k s L k′ r a b d h z e (no-node c i s x) (λ v l′ r′ y. absurd (no-line c (suc last) (c .nodes) k s x v l′ r′ y)))
       (λ g v k₁ s₁ p q u. byOrder i (v .0)
       (λ x.
-      skip n (further n) f last i l k s L k′ r a b d h z e (λ k₂ w s₂ y. let m = one-number c (suc last) (c .nodes) k s v k₁ s₁ q i k₂ w s₂ y in omega arith)
+      skip w n (further w n) f last i l k s L k′ r a b d h z e (λ k₂ x₂ s₂ y. let m = one-number c (suc last) (c .nodes) k s v k₁ s₁ q i k₂ x₂ s₂ y in omega arith)
       (λ v′ l′ r′ y. let m : v ≡ v′ = cc (q, y) in rw (← m) x))
       (λ x.
       let m = due v k₁ s₁ q in
       let y = number-of (suc last) (c .nodes) k s v k₁ s₁ q in
       let j : i ≡ v .0 = omega arith in
       rw j (fill-step (nodeRows t c) n (v .0) (c .nodes) l s _ s₁ L r (omega arith) (omega arith) (node-row (suc last) (c .nodes) k s v k₁ s₁ q)
-      (further n g (v .0) (suc (v .0)) (set l (v .0) _) k₁ s₁ L k′ r (omega arith) (omega arith) (omega arith) (rw (length-set l (v .0) _) h)
+      (further w n g (v .0) (suc (v .0)) (set l (v .0) _) k₁ s₁ L k′ r (omega arith) (omega arith) (omega arith) (rw (length-set l (v .0) _) h)
       (λ j′ o. getD-set-other l (v .0) j′ _ noSlot (λ p. omega arith) ∙ z j′ (omega arith)) (λ v′ l′ r′ o. number-of (suc (v .0)) (c .nodes) k₁ s₁ v′ l′ r′ o .0) u))))
 
   -- a procedure's node lines fill its places, in either form
-  pub nodes-fill : (closed : Bool) (k : ℕ) (s : List ℕ) (L : List Slot) (k′ : ℕ) (r : List ℕ) → 1 ≤ c .nodes → nodesOf c closed k s ≡ took L k′ r
+  pub nodes-fill : (closed : Bool) → c .closed ≡ closed → (k : ℕ) (s : List ℕ) (L : List Slot) (k′ : ℕ) (r : List ℕ) → 1 ≤ c .nodes → nodesOf c closed k s ≡ took L k′ r
       → Filled (nodeRows t c) (c .nodes) 0 (c .nodes) noSlots L s r
-  nodes-fill false k s L k′ r h e = rows-fill (nodeRows t c) _ row (c .nodes) 0 (c .nodes) noSlots k s L k′ r (omega arith) few-nodes e
+  nodes-fill false o k s L k′ r h e = rows-fill (nodeRows t c) _ row (c .nodes) 0 (c .nodes) noSlots k s L k′ r (omega arith) few-nodes e
     where
       row : (i l : ℕ) (s : List ℕ) (a : Slot) (l′ : ℕ) (r : List ℕ) → onto (nodeRow c i (suc i) l s) (λ x. give (slotOf x)) ≡ took a l′ r → Row (nodeRows t c) i s a r
       row i l s a l′ r e = onto-read (nodeRow c i (suc i) l s) _ a l′ r e (λ x l₁ s₁ p q. row-read i (suc i) l s x l₁ s₁ p (λ v u h.
@@ -368,11 +386,11 @@ module _ (t : Table) (c : Scope) (few-vars : c .vars ≤ removed) (few-nodes : c
           let n : record { node = nodeOf c (v .1 .0) (v .1 .1) } ≡ a = ap slotOf h ∙ cc q in
           let o : s₁ ≡ r = cc q in
           rw (← m, ← n, ← o) (node-row i (suc i) l s v l₁ s₁ u)))
-  nodes-fill true k s L k′ r h e = onto-read (nodeRow c 0 1 k s) _ L k′ r e (λ x k₁ s₁ p q. row-read 0 1 k s x k₁ s₁ p (λ v u w.
+  nodes-fill true o k s L k′ r h e = onto-read (nodeRow c 0 1 k s) _ L k′ r e (λ x k₁ s₁ p q. row-read 0 1 k s x k₁ s₁ p (λ v u w.
       let y = number-of 0 1 k s v k₁ s₁ u in
       let z : v .0 ≡ 0 = omega arith in
       let n : suc (c .nodes - 1) ≡ c .nodes = omega arith in
       subst (λ (m : ℕ). Filled (nodeRows t c) m 0 (c .nodes) noSlots L s r) n
       (fill-step (nodeRows t c) (c .nodes - 1) 0 (c .nodes) noSlots s _ s₁ L r (omega arith) (omega arith) (rw z at (node-row 0 1 k s v k₁ s₁ u))
-      (further (c .nodes - 1) (c .nodes) 0 1 (set noSlots 0 _) k₁ s₁ L k′ r (omega arith) (omega arith) (omega arith) few-nodes
-      (λ j o. getD-set-other noSlots 0 j _ noSlot (λ p. omega arith) ∙ getD-all 32 j noSlot) (λ v′ l′ r′ o. number-of 1 (c .nodes) k₁ s₁ v′ l′ r′ o .0) (rw (← w) at q)))))
+      (further o (c .nodes - 1) (c .nodes) 0 1 (set noSlots 0 _) k₁ s₁ L k′ r (omega arith) (omega arith) (omega arith) few-nodes
+      (λ j m. getD-set-other noSlots 0 j _ noSlot (λ p. omega arith) ∙ getD-all 32 j noSlot) (λ v′ l′ r′ m. number-of 1 (c .nodes) k₁ s₁ v′ l′ r′ m .0) (rw (← w) at q)))))

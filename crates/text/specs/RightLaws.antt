@@ -120,7 +120,7 @@ all-names false n [] f = (refl, refl)
 all-names c n (none ∷ xs) f = let ih = all-names c n xs (λ i l. f (suc i) (omega arith)) in (rw (f 0 (omega arith)), ih .1)
 all-names c n (some v ∷ xs) f = let ih = all-names c n xs (λ i l. f (suc i) (omega arith)) in (ih .0, rw (lt-ltb v n (f 0 (omega arith))) (ih .1))
 
-check-right : (k : ValueKind) (v : Of k) → check k v ≡ none → Right k v
+pub check-right : (k : ValueKind) (v : Of k) → check k v ≡ none → Right k v
 unfolding check
 check-right (number lo n f) v e = range-is lo v n .0 (unless-is _ f .0 e)
 check-right (choice a b) v e = tt
@@ -134,7 +134,7 @@ check-right (ascending one lo n) v e =
     (a .0, λ o. rw o at (a .1), within-all lo n v (unless-is _ _ .0 (h .1)))
 check-right (arguments c n) v e = let h = else-is _ _ .0 e in names-all c n v (unless-is _ _ .0 (h .0)) (unless-is _ _ .0 (h .1))
 
-right-check : (k : ValueKind) (v : Of k) → Right k v → check k v ≡ none
+pub right-check : (k : ValueKind) (v : Of k) → Right k v → check k v ≡ none
 unfolding check
 right-check (number lo n f) v h = unless-is _ f .1 (range-is lo v n .1 h)
 right-check (choice a b) v h = refl

@@ -14,7 +14,7 @@ use Rattle.text.specs.Fault.{number}
 use Rattle.text.specs.NumberLaws.{cases}
 use Rattle.text.specs.Reader.{Result, good, bad, readLines, reading, read}
 use Rattle.text.specs.Writer.{text, tidy, faultIn, fault}
-use Rattle.text.specs.TableLaws.{Lines, accepted}
+use Rattle.text.specs.TableLaws.{Fitting, Lines, accepted}
 
 -- an accepted text, read and written, is the same text
 pub read-write : (s : List ℕ) (t : Table) → readLines s ≡ good t → text t ≡ s
@@ -54,6 +54,9 @@ read-good s e = cases (ltb 65536 (length s))
 pub read-text : (s : List ℕ) → read s .number ≡ 0 → text (read s .table) ≡ s
 read-text s e = read-write s (read s .table) (read-good s e)
 
+pub read-fault-0 : (s : List ℕ) → read s .number ≡ 0 → fault (read s .table) ≡ 0
+read-fault-0 s e = read-fault s (read s .table) (read-good s e)
+
 -- a table without a fault is tidy, and its text says some table
 pub fault-none : (t : Table) → fault t ≡ 0 → (r : Table) × (readLines (text t) ≡ good r) × (tidy t ≡ true)
 unfolding fault
@@ -70,6 +73,6 @@ write-read t v e =
     let a = accepted (text t) (f .0) (f .1) in
     f .1 ∙ ap good (sym (a .0 .only (a .1) t v (f .2) refl))
 
--- the lines of an accepted text have no fault
-pub read-lines : (s : List ℕ) (t : Table) → readLines s ≡ good t → Lines t
-read-lines s t e = let a = accepted s t e in a .0 .lines (a .1)
+-- the lines of an accepted text have no fault, and its calls fit
+pub read-lines : (s : List ℕ) (t : Table) → readLines s ≡ good t → Lines t × Fitting t
+read-lines s t e = let a = accepted s t e in (a .0 .lines, a .1)

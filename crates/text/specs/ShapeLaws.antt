@@ -69,7 +69,7 @@ node-arcs (Assert v to) g = (search needs, search needs)
 node-arcs (Out v to) g = (search needs, search needs)
 node-arcs Return g = (search needs, search needs)
 
-absent-arcs : SmallArcs Absent
+pub absent-arcs : SmallArcs Absent
 unfolding arcTo arcNo
 absent-arcs = (search needs, search needs)
 

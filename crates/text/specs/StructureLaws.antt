@@ -20,14 +20,15 @@ use Rattle.text.specs.Fault.{number}
 use Rattle.text.specs.NumberLaws.{cases, byOrder}
 use Rattle.text.specs.Value.{unless, orElse}
 use Rattle.text.specs.Line.{Outcome}
-use Rattle.text.specs.Format.{Scope, variableOf, nameOf, argOf, argsOf, argNames, nodeOf, describe}
+use Rattle.text.specs.Format.{Scope, variableOf, nameOf, argsOf, argNames, nodeOf, describe}
 use Rattle.text.specs.Reader.{table, allBelow, allPresent, isRemoved, iff, countRight, removedRight, nodeFault, taskFault, concat, nodeLate, procLate, late, firstLate, resultOf, readLines}
 use Rattle.text.specs.Writer.{text, scope, tidy, faultIn, fault}
 use Rattle.text.specs.MaskLists.{bit-again, members-again}
 use Rattle.text.specs.Right.{Within}
 use Rattle.text.specs.Structure.{firstIn, linesFault, tableFault, numbered}
 use Rattle.text.specs.Valid.{NodeValid, Lined}
-use Rattle.text.specs.LinedLaws.{names-length, name-at, arcs-within, lined-of}
+use Rattle.text.specs.ArgsLaws.{names-length, name-at, made-at}
+use Rattle.text.specs.LinedLaws.{arcs-within, lined-of}
 use Rattle.text.specs.EndsLaws.{Ends, ends-took, ends-refused, back, ProcSame, Same, ends-table}
 
 -- ---- the same for each
@@ -70,14 +71,7 @@ variable-back : (v : ℕ) → variableOf (nameOf v) ≡ v
 variable-back v = cases (eqb v removed) (λ q. rw q (sym (eqb-true v removed q))) (λ q. rw q)
 
 arg-back : (xs : Args) (i : ℕ) → i < xs .len → i < 4 → argAt (argsOf (argNames xs)) i ≡ argAt xs i
-arg-back xs i l u = place i u ∙ ap variableOf (name-at xs i l) ∙ variable-back (argAt xs i)
-  where
-    place : (i : ℕ) → i < 4 → argAt (argsOf (argNames xs)) i ≡ argOf (argNames xs) i
-    place zero u = refl
-    place (suc zero) u = refl
-    place (suc (suc zero)) u = refl
-    place (suc (suc (suc zero))) u = refl
-    place (suc (suc (suc (suc i)))) u = absurd (omega arith)
+arg-back xs i l u = made-at (argNames xs) i u ∙ ap variableOf (name-at xs i l u) ∙ variable-back (argAt xs i)
 
 -- five stands for any count above four
 eqb-min : (a k : ℕ) → k ≤ 4 → eqb (min a 5) k ≡ eqb a k

@@ -149,7 +149,7 @@ abbrev procRows : Table → Bool → ℕ → ℕ → ℕ → Rows Proc
 procRows t closed procs sems queues = record {
   text = λ i q. write (procLine closed i) (procVals closed i q) ++ written (nodeRows t (scopeIn closed procs sems queues q)) (q .slots) (q .nodes) 0;
   empty = outside;
-  Fine = λ i q. Faultless (procLine closed i) (procVals closed i q) × (procTidy closed q ≡ true) × (FitNodes t q → FineNodes (scopeIn closed procs sems queues q) q);
+  Fine = λ i q. Faultless (procLine closed i) (procVals closed i q) × (procTidy closed q ≡ true) × FineNodes (scopeIn closed procs sems queues q) q;
   Fits = FitNodes t;
   Clean = CleanProc closed;
   Next = λ i s. NoNode s;
@@ -229,14 +229,14 @@ proc-row t closed procs sems queues i l s a l′ r e =
     let f = faultless (procLine closed i) w (b .2) in
     let vs = number-fact (w .1 .0) 17 _ (w .1 .1 .0) (f .1 .1 .0) in
     let ns = number-fact 2 33 _ (w .1 .1 .1 .0) (f .1 .1 .1 .0) in
-    let F = nodes-fill t c (omega arith) (omega arith) closed l₁ s₁ L l₂ s₂ (omega arith) u in
+    let F = nodes-fill t c (omega arith) (omega arith) closed refl l₁ s₁ L l₂ s₂ (omega arith) u in
     let m : procOf closed i w L ≡ a = cc v in
     let n : s₂ ≡ r = cc v in
     rw (← m, ← n) (record {
       fine = (
         rw (proc-back closed i w L f) f,
         rw (F .later, rest-all slotEmpty noSlot refl 32 (w .1 .1 .1 .0), below-all (w .1 .1 .1 .0) (λ j. argsEmpty (getD L j noSlot .node)) (λ j k. F .fine j (omega arith) k .0)) (no-drop closed i w),
-        λ g j k. F .fine j (omega arith) k .1 (g j k),
+        λ j k. F .fine j (omega arith) k .1,
       );
       same = λ g. b .0 ∙ rw (proc-back closed i w L f, F .same (λ j h k. g j k)) (sym (append-assoc (write (procLine closed i) w) _ s₂));
       only = λ g x s′ h y z.
@@ -250,7 +250,7 @@ proc-row t closed procs sems queues i l s a l′ r e =
 abbrev pub Fitting : Table → Type 0
 Fitting t = (p : ℕ) → p < t .procs → FitNodes t (procAt t p)
 
--- no line of the table has a fault, and its calls fit
+-- no line of the table has a fault
 pub record Lines (t : Table) : Type 0 where
   pub head : Faultless headLine (t .trap, (t .closed, tt))
   pub counts : Faultless countsLine (t .tasks, (t .procs, (t .sems, (t .queues, tt))))
@@ -259,13 +259,12 @@ pub record Lines (t : Table) : Type 0 where
   pub queues : (i : ℕ) → i < t .queues → Faultless (queueLine (t .closed) i) (queueVals (t .closed) i (queueAt t i))
   pub procs : (p : ℕ) → p < t .procs → Faultless (procLine (t .closed) p) (procVals (t .closed) p (procAt t p))
   pub nodes : (p : ℕ) → p < t .procs → (j : ℕ) → j < procAt t p .nodes → FaultlessNode (scope t (procAt t p)) j (describe (scope t (procAt t p)) (nodeAt t p j))
-  pub fits : Fitting t
 
 -- t was read from s
 pub record Parsed (s : List ℕ) (t : Table) : Type 0 where
   pub small : (q : ℕ) → procAt t q .params ≤ 4
   pub neat : tidy t ≡ true
-  pub lines : Fitting t → Lines t
+  pub lines : Lines t
   pub same : Fitting t → s ≡ text t
   pub only : Fitting t → (b : Table) → Shaped b → tidy b ≡ true → s ≡ text b → b ≡ t
 
@@ -389,15 +388,14 @@ parsed h c ts ss qs ps l m n s s₁ s₂ s₃ s₄ s₅ a b T S Q P =
         below-all (c .1 .1 .1 .0) (λ i. h .1 .0 || not (getD qs i noQueue .blank)) (λ i k. Q .fine i (omega arith) k .1),
         below-all (c .1 .0) (λ p. procTidy (h .1 .0) (getD ps p outside)) (λ i k. P .fine i (omega arith) k .1),
       );
-      lines = λ u. record {
+      lines = record {
         head = f;
         counts = g;
         tasks = λ i k. T .fine i (omega arith) k .0;
         sems = λ i k. S .fine i (omega arith) k .0;
         queues = λ i k. Q .fine i (omega arith) k .0;
         procs = λ i k. P .fine i (omega arith) k .0;
-        nodes = λ i k. P .fine i (omega arith) k .2 (u i k);
-        fits = u;
+        nodes = λ i k. P .fine i (omega arith) k .2;
       };
       same = λ u. x .0 ∙ rw (y .0, T .same (λ i j k. tt), S .same (λ i j k. tt), Q .same (λ i j k. tt), P .same (λ i j k. u i k), append-nil);
       only = λ u t v w e.
@@ -421,7 +419,7 @@ end-read : {A P : Type 0} (p : Unit {0} → Parser A) (l : ℕ) (s : List ℕ) (
 end-read p l [] a l′ r e then = then refl e
 end-read p l (b ∷ s) a l′ r e then = no (cc)
 
-table-parsed : (l : ℕ) (s : List ℕ) (t : Table) (l′ : ℕ) (r : List ℕ) → table l s ≡ took t l′ r → Parsed s t
+pub table-parsed : (l : ℕ) (s : List ℕ) (t : Table) (l′ : ℕ) (r : List ℕ) → table l s ≡ took t l′ r → Parsed s t
 unfolding table body
 table-parsed l s t l′ r e =
     onto-read (line headLine l s) _ t l′ r e (λ h l₁ s₁ a e₁.
@@ -446,7 +444,7 @@ table-parsed l s t l′ r e =
 
 -- ---- no line has a late fault
 
-abbrev AllNone : List (Option Fault) → Type 0
+abbrev pub AllNone : List (Option Fault) → Type 0
 AllNone [] = Unit {0}
 AllNone (f ∷ fs) = (f ≡ none) × AllNone fs
 
@@ -463,7 +461,7 @@ unfolding concat
 none-each f zero i h j k u = absurd (omega arith)
 none-each f (suc n) i h j k u = atOrLater (λ j. AllNone (f j)) i j k (none-left (f i) (concat f n (suc i)) h) (λ k. none-each f n (suc i) (none-right (f i) (concat f n (suc i)) h) j k (omega arith))
 
-good-late : (t u : Table) (l : ℕ) (fs : List (Option Fault)) → firstLate t l fs ≡ good u → (t ≡ u) × AllNone fs
+pub good-late : (t u : Table) (l : ℕ) (fs : List (Option Fault)) → firstLate t l fs ≡ good u → (t ≡ u) × AllNone fs
 unfolding firstLate
 good-late t u l [] e = (cc e, tt)
 good-late t u l (none ∷ fs) e = let r = good-late t u (suc l) fs e in (r .0, (refl, r .1))

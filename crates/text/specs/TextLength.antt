@@ -28,7 +28,7 @@ use Rattle.text.specs.Reader.{concat, good, readLines, read}
 use Rattle.text.specs.Writer.{queueVals, procVals, nodeText, scope, procText, text, fault}
 use Rattle.text.specs.RowLaws.{Faultless, or-right, unless-none}
 use Rattle.text.specs.NodeLaws.{number-fact, list-fact, FitsIn, few, FaultlessNode}
-use Rattle.text.specs.TableLaws.{Lines, proc-bounds}
+use Rattle.text.specs.TableLaws.{Fitting, Lines, proc-bounds}
 use Rattle.text.specs.RoundTrip.{read-write, read-lines, fault-none, write-read}
 
 -- ---- values
@@ -200,8 +200,8 @@ concat-short f m (suc n) i h =
     rw (length-append (f i) (concat f n (suc i))) (omega arith)
 
 -- a procedure has 32 node lines at most
-proc-text : (t : Table) → Lines t → (p : ℕ) → p < t .procs → length (procText t p) ≤ 137 + 32 * 249
-proc-text t h p k =
+proc-text : (t : Table) → Lines t → Fitting t → (p : ℕ) → p < t .procs → length (procText t p) ≤ 137 + 32 * 249
+proc-text t h g p k =
     let q = procAt t p in
     let c = h .counts in
     let procs = number-fact 1 9 _ (t .procs) (c .1 .0) in
@@ -210,12 +210,12 @@ proc-text t h p k =
     let b = proc-bounds (t .closed) p q (h .procs p k) in
     let x = proc-short (t .closed) p _ (omega arith) (h .procs p k) in
     let y = concat-short (λ j. nodeText (scope t q) j (describe (scope t q) (nodeIn q j))) 249 (q .nodes) 0
-    (λ j l u. node-short t (scope t q) j (nodeIn q j) (omega arith) (omega arith) (h .fits p k j (omega arith)) (h .nodes p k j (omega arith))) in
+    (λ j l u. node-short t (scope t q) j (nodeIn q j) (omega arith) (omega arith) (g p k j (omega arith)) (h .nodes p k j (omega arith))) in
     rw (length-append (write (procLine (t .closed) p) (procVals (t .closed) p q)) _) (omega arith)
 
-lines-short : (t : Table) → Lines t → length (text t) ≤ 65536
+lines-short : (t : Table) → Lines t → Fitting t → length (text t) ≤ 65536
 unfolding text
-lines-short t h =
+lines-short t h g =
     let c = h .counts in
     let tasks = number-fact 1 5 _ (t .tasks) (c .0) in
     let procs = number-fact 1 9 _ (t .procs) (c .1 .0) in
@@ -226,12 +226,12 @@ lines-short t h =
     let s₃ = concat-short (λ i. write (taskLine (t .procs) i) (i, (taskAt t i .top, tt))) 17 (t .tasks) 0 (λ i k u. write-short (taskLine (t .procs) i) _ (h .tasks i (omega arith)) (omega arith)) in
     let s₄ = concat-short (λ i. write (semLine i) (i, (semAt t i .count, tt))) 18 (t .sems) 0 (λ i k u. write-short (semLine i) _ (h .sems i (omega arith)) (omega arith)) in
     let s₅ = concat-short (λ i. write (queueLine (t .closed) i) (queueVals (t .closed) i (queueAt t i))) 30 (t .queues) 0 (λ i k u. queue-short (t .closed) i _ (omega arith) (h .queues i (omega arith))) in
-    let s₆ = concat-short (procText t) (137 + 32 * 249) (t .procs) 0 (λ i k u. proc-text t h i (omega arith)) in
+    let s₆ = concat-short (procText t) (137 + 32 * 249) (t .procs) 0 (λ i k u. proc-text t h g i (omega arith)) in
     simp length-append (omega arith)
 
 -- every accepted text has at most 65,536 bytes
 pub read-length : (s : List ℕ) (t : Table) → readLines s ≡ good t → length s ≤ 65536
-read-length s t e = rw (← read-write s t e) (lines-short t (read-lines s t e))
+read-length s t e = rw (← read-write s t e) (let h = read-lines s t e in lines-short t (h .0) (h .1))
 
 -- so has the text of every table without a fault
 pub text-length : (t : Table) → fault t ≡ 0 → length (text t) ≤ 65536

@@ -24,14 +24,15 @@ Named c v = (v ≡ removed → c .closed ≡ true) × (v ≢ removed → v < c .
 abbrev pub Arc : Scope → ℕ → Type 0
 Arc c m = Within 1 (c .nodes) (members m) × (c .closed ≡ false → (k : ℕ) × (members m ≡ k ∷ []))
 
--- the node at place n: node 0 is the only start, only a closed table lacks nodes, and only an open one reads
+-- the node at place n: node 0 is the only start, only a closed table lacks nodes, and only an open one reads.
+-- A call's arguments are those of its four places; further ones repeat the fourth
 abbrev pub NodeValid : Scope → ℕ → Node → Type 0
 NodeValid c n Absent = (0 < n) × (c .closed ≡ true)
 NodeValid c n (Start to) = (n ≡ 0) × Arc c to
 NodeValid c n (Set v o a b to) = (0 < n) × (v < c .vars) × OperandIn (c .vars) a × OperandIn (c .vars) b × Arc c to
 NodeValid c n (Test o a b y z) = (0 < n) × Compares o × OperandIn (c .vars) a × OperandIn (c .vars) b × Arc c y × Arc c z
 NodeValid c n (Read v to) = (0 < n) × (c .closed ≡ false) × (v < c .vars) × Arc c to
-NodeValid c n (Call q xs to) = (0 < n) × (q < c .procs) × ((i : ℕ) → i < xs .len → Named c (argAt xs i)) × Arc c to
+NodeValid c n (Call q xs to) = (0 < n) × (q < c .procs) × ((i : ℕ) → i < xs .len → i < 4 → Named c (argAt xs i)) × Arc c to
 NodeValid c n (Wait s to) = (0 < n) × (s < c .sems) × Arc c to
 NodeValid c n (Signal s to) = (0 < n) × (s < c .sems) × Arc c to
 NodeValid c n (Send q v to) = (0 < n) × (q < c .queues) × Named c v × Arc c to

@@ -17,9 +17,6 @@ declared-at-requires-3 c κs = search needs
 declared-at-requires-4 : tie.Need-declared-at-requires-4
 declared-at-requires-4 c κs = search needs
 
-declared-at-requires-5 : tie.Need-declared-at-requires-5
-declared-at-requires-5 c κs = search needs
-
 both-requires : tie.Need-both-requires
 both-requires c κs = search needs
 
@@ -29,11 +26,8 @@ both-requires-2 c κs = search needs
 both-requires-3 : tie.Need-both-requires-3
 both-requires-3 c κs = search needs
 
-both-requires-4 : tie.Need-both-requires-4
-both-requires-4 c κs = search needs
-
 returns : tie.Need-returns
-returns c = both-of (c .both4 .ensures) (c .before .before .before .before .before .before .before .before .declared-at .ensures) (both-of (c .before .both3 .ensures) (c .before .before .before .before .before .before .before .declared-at2 .ensures) (both-of (c .before .before .both2 .ensures) (c .before .before .before .before .before .before .declared-at3 .ensures) (both-of (c .before .before .before .both .ensures) (c .before .before .before .before .before .declared-at4 .ensures) (c .before .before .before .before .declared-at5 .ensures)))) ∙ sym (declared-is (c .before .before .before .before .before .before .before .before .before .args .vars) (c .before .before .before .before .before .before .before .before .before .args .xs))
+returns c = both-of (c .both3 .ensures) (c .before .before .before .before .before .before .declared-at .ensures) (both-of (c .before .both2 .ensures) (c .before .before .before .before .before .declared-at2 .ensures) (both-of (c .before .before .both .ensures) (c .before .before .before .before .declared-at3 .ensures) (c .before .before .before .declared-at4 .ensures))) ∙ sym (declared-is (c .before .before .before .before .before .before .before .args .vars) (c .before .before .before .before .before .before .before .args .xs))
 
 pub all-declared-spec : {M : Type 1} → statement M
 all-declared-spec =
@@ -43,9 +37,7 @@ all-declared-spec =
     declared-at-requires-2
     declared-at-requires-3
     declared-at-requires-4
-    declared-at-requires-5
     both-requires
     both-requires-2
     both-requires-3
-    both-requires-4
     returns)

@@ -1,13 +1,12 @@
 use Prim.Native.Nat.{_-_}
 use lib.ListN.{length}
-use Rattle.digits.specs.Read.{LeadAt}
-use Rattle.digits.specs.LeadLaws.{lead-small, lead-step}
+use Rattle.digits.specs.LeadLaws.{Leading, first-leading, lead-small, lead-over, lead-stop, lead-on, lead-step}
 use borrow.Author.Needs.{needs}
 use Rattle.digits.proofs.digits_at.Statement.{statement}
 use Rattle.digits.proofs.digits_at.Tie as tie
 
 abbrev Inv-loop : tie.InvT-loop
-Inv-loop s at v₀ i₀ v i = LeadAt s at v i
+Inv-loop s at v₀ i₀ v i = Leading 0 s at v i
 
 abbrev μ-loop : tie.MeasureT-loop
 μ-loop s at v₀ i₀ v i = length s - i
@@ -16,7 +15,7 @@ first-digits-requires : tie.Need-first-digits-requires Inv-loop μ-loop
 first-digits-requires c κs = search needs
 
 loop-holds : tie.Need-loop-holds Inv-loop μ-loop
-loop-holds c = search needs
+loop-holds c = search (needs, first-leading)
 
 shared-slice-read-b : tie.Need-shared-slice-read-b Inv-loop μ-loop
 shared-slice-read-b c = search needs
@@ -25,13 +24,13 @@ digit-requires : tie.Need-digit-requires Inv-loop μ-loop
 digit-requires c κs = search needs
 
 returns : tie.Need-returns Inv-loop μ-loop
-returns c = search needs
+returns c = search (needs, lead-stop)
 
 further-digits-requires : tie.Need-further-digits-requires Inv-loop μ-loop
-further-digits-requires c κs = search needs
+further-digits-requires c κs = search (needs, lead-small)
 
 returns-2 : tie.Need-returns-2 Inv-loop μ-loop
-returns-2 c = search needs
+returns-2 c = search (needs, lead-on)
 
 mul-v : tie.Need-mul-v Inv-loop μ-loop
 mul-v c = search (needs, lead-small)
@@ -52,7 +51,7 @@ loop-again : tie.Need-loop-again Inv-loop μ-loop
 loop-again c = search (needs, lead-step)
 
 returns-3 : tie.Need-returns-3 Inv-loop μ-loop
-returns-3 c = search needs
+returns-3 c = search (needs, lead-over)
 
 pub digits-at-spec : {M : Type 1} → statement M
 digits-at-spec =

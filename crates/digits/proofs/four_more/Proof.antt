@@ -1,4 +1,4 @@
-use Rattle.digits.specs.LeadLaws.{lead-four}
+use Rattle.digits.specs.LeadLaws.{four-few, four-first, four-second, four-third, four-fourth, four-is}
 use borrow.Author.Needs.{needs}
 use Rattle.digits.proofs.four_more.Statement.{statement}
 use Rattle.digits.proofs.four_more.Tie as tie
@@ -7,7 +7,7 @@ sub-if1 : tie.Need-sub-if1
 sub-if1 c = search needs
 
 returns : tie.Need-returns
-returns c = search needs
+returns c = search (needs, four-few)
 
 shared-slice-read-digit : tie.Need-shared-slice-read-digit
 shared-slice-read-digit c = search needs
@@ -43,31 +43,31 @@ digit-requires-4 : tie.Need-digit-requires-4
 digit-requires-4 c κs = search needs
 
 returns-2 : tie.Need-returns-2
-returns-2 c = search needs
+returns-2 c = search (needs, four-first)
 
 returns-3 : tie.Need-returns-3
-returns-3 c = search needs
+returns-3 c = search (needs, four-second)
 
 returns-4 : tie.Need-returns-4
-returns-4 c = search needs
+returns-4 c = search (needs, four-third)
 
 returns-5 : tie.Need-returns-5
-returns-5 c = search needs
+returns-5 c = search (needs, four-fourth)
 
-mul-t18 : tie.Need-mul-t18
-mul-t18 c = search needs
+mul-t17 : tie.Need-mul-t17
+mul-t17 c = search needs
 
 joined-requires : tie.Need-joined-requires
 joined-requires c κs = search needs
 
-add-t20 : tie.Need-add-t20
-add-t20 c = search needs
+add-t19 : tie.Need-add-t19
+add-t19 c = search needs
 
-add-t11 : tie.Need-add-t11
-add-t11 c = search needs
+add-t10 : tie.Need-add-t10
+add-t10 c = search needs
 
 returns-6 : tie.Need-returns-6
-returns-6 c = search (needs, lead-four)
+returns-6 c = search (needs, four-is)
 
 pub four-more-spec : {M : Type 1} → statement M
 four-more-spec =
@@ -90,8 +90,8 @@ four-more-spec =
     returns-3
     returns-4
     returns-5
-    mul-t18
+    mul-t17
     joined-requires
-    add-t20
-    add-t11
+    add-t19
+    add-t10
     returns-6)

@@ -1,19 +1,18 @@
 use Prim.Native.Nat.{_-_}
 use lib.ListN.{length}
-use Rattle.digits.specs.Read.{LeadAt}
-use Rattle.digits.specs.LeadLaws.{lead-small, digit-low, digit-high, lead-turn}
+use Rattle.digits.specs.LeadLaws.{digit-low, digit-high, Leading, lead-start, lead-over, lead-stop, lead-turn}
 use borrow.Author.Needs.{needs}
 use Rattle.digits.proofs.further_digits.Statement.{statement}
 use Rattle.digits.proofs.further_digits.Tie as tie
 
 abbrev Inv-loop : tie.InvT-loop
-Inv-loop s at from first v₀ i₀ v i = LeadAt s at v i
+Inv-loop s from first v₀ i₀ v i = Leading first s from v i
 
 abbrev μ-loop : tie.MeasureT-loop
-μ-loop s at from first v₀ i₀ v i = length s - i
+μ-loop s from first v₀ i₀ v i = length s - i
 
 loop-holds : tie.Need-loop-holds Inv-loop μ-loop
-loop-holds c = search needs
+loop-holds c = search (needs, lead-start)
 
 shared-slice-read-b : tie.Need-shared-slice-read-b Inv-loop μ-loop
 shared-slice-read-b c = search needs
@@ -22,10 +21,10 @@ digit-requires : tie.Need-digit-requires Inv-loop μ-loop
 digit-requires c κs = search needs
 
 returns : tie.Need-returns Inv-loop μ-loop
-returns c = search needs
+returns c = search (needs, lead-stop)
 
 push-requires : tie.Need-push-requires Inv-loop μ-loop
-push-requires c κs = search (needs, lead-small, digit-low, digit-high)
+push-requires c κs = search (needs, digit-low, digit-high)
 
 add-i : tie.Need-add-i Inv-loop μ-loop
 add-i c = search needs
@@ -37,7 +36,7 @@ loop-again : tie.Need-loop-again Inv-loop μ-loop
 loop-again c = search (needs, lead-turn)
 
 returns-2 : tie.Need-returns-2 Inv-loop μ-loop
-returns-2 c = search needs
+returns-2 c = search (needs, lead-over)
 
 pub further-digits-spec : {M : Type 1} → statement M
 further-digits-spec =

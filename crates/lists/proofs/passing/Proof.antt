@@ -1,6 +1,6 @@
 use Prim.Native.Nat.{_-_}
 use lib.ListN.{length}
-use Rattle.lists.specs.PassingLaws.{argument-less, Going, going-bad, going-start, going-end, going-outside, going-stops, going-turn}
+use Rattle.lists.specs.PassingLaws.{argument-read, argument-next, argument-less, Going, going-bad, going-start, going-end, going-outside, going-stops, going-turn}
 use borrow.Author.Needs.{needs}
 use Rattle.lists.proofs.passing.Statement.{statement}
 use Rattle.lists.proofs.passing.Tie as tie
@@ -21,7 +21,7 @@ enum-told : tie.Need-enum-told Inv-loop μ-loop
 enum-told c = search needs
 
 returns : tie.Need-returns Inv-loop μ-loop
-returns c = search (needs, going-bad)
+returns c = search (needs, going-bad, argument-read)
 
 no-args-requires : tie.Need-no-args-requires Inv-loop μ-loop
 no-args-requires c κs = search needs
@@ -30,7 +30,7 @@ pushed-requires : tie.Need-pushed-requires Inv-loop μ-loop
 pushed-requires c κs = search needs
 
 loop-holds : tie.Need-loop-holds Inv-loop μ-loop
-loop-holds c = search (needs, going-start)
+loop-holds c = search (needs, going-start, argument-read)
 
 add-next : tie.Need-add-next Inv-loop μ-loop
 add-next c = search needs
@@ -45,7 +45,7 @@ enum-told-2 : tie.Need-enum-told-2 Inv-loop μ-loop
 enum-told-2 c = search needs
 
 returns-2 : tie.Need-returns-2 Inv-loop μ-loop
-returns-2 c = search (needs, going-stops)
+returns-2 c = search (needs, going-stops, argument-next)
 
 pushed-requires-2 : tie.Need-pushed-requires-2 Inv-loop μ-loop
 pushed-requires-2 c κs = search needs
@@ -57,7 +57,7 @@ loop-less : tie.Need-loop-less Inv-loop μ-loop
 loop-less c = search (needs, argument-less)
 
 loop-again : tie.Need-loop-again Inv-loop μ-loop
-loop-again c = search (needs, going-turn)
+loop-again c = search (needs, going-turn, argument-next)
 
 returns-3 : tie.Need-returns-3 Inv-loop μ-loop
 returns-3 c = search (needs, going-end)

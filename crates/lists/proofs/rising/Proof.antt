@@ -1,4 +1,5 @@
 use Rattle.lists.specs.SetLaws.{item-less, item-from, item-to, item-spelt, Rising, first-bad, rising-start, rising-end, rising-outside, rising-bad, rising-order, rising-fits, rising-turn}
+use Rattle.lists.specs.ItemLaws.{item-read, item-next}
 use Prim.Native.Nat.{_-_}
 use lib.ListN.{length}
 use borrow.Author.Needs.{needs}
@@ -21,13 +22,13 @@ enum-told : tie.Need-enum-told Inv-loop μ-loop
 enum-told c = search needs
 
 returns : tie.Need-returns Inv-loop μ-loop
-returns c = search (needs, first-bad)
+returns c = search (needs, first-bad, item-read)
 
 kept-requires : tie.Need-kept-requires Inv-loop μ-loop
 kept-requires c κs = search needs
 
 loop-holds : tie.Need-loop-holds Inv-loop μ-loop
-loop-holds c = search (needs, rising-start)
+loop-holds c = search (needs, rising-start, item-read)
 
 add-next : tie.Need-add-next Inv-loop μ-loop
 add-next c = search needs
@@ -42,7 +43,7 @@ enum-told-2 : tie.Need-enum-told-2 Inv-loop μ-loop
 enum-told-2 c = search needs
 
 returns-2 : tie.Need-returns-2 Inv-loop μ-loop
-returns-2 c = search (needs, rising-bad)
+returns-2 c = search (needs, rising-bad, item-next)
 
 sub-less : tie.Need-sub-less Inv-loop μ-loop
 sub-less c = search (needs, item-from)
@@ -66,10 +67,10 @@ less-requires : tie.Need-less-requires Inv-loop μ-loop
 less-requires c κs = search (needs, item-spelt)
 
 returns-3 : tie.Need-returns-3 Inv-loop μ-loop
-returns-3 c = search (needs, rising-order)
+returns-3 c = search (needs, rising-order, item-next)
 
 add-mask : tie.Need-add-mask Inv-loop μ-loop
-add-mask c = search (needs, rising-fits)
+add-mask c = search (needs, rising-fits, item-next)
 
 kept-requires-2 : tie.Need-kept-requires-2 Inv-loop μ-loop
 kept-requires-2 c κs = search needs
@@ -78,7 +79,7 @@ loop-less : tie.Need-loop-less Inv-loop μ-loop
 loop-less c = search (needs, item-less)
 
 loop-again : tie.Need-loop-again Inv-loop μ-loop
-loop-again c = search (needs, rising-turn)
+loop-again c = search (needs, rising-turn, item-next)
 
 returns-4 : tie.Need-returns-4 Inv-loop μ-loop
 returns-4 c = search (needs, rising-end)

@@ -1,4 +1,4 @@
-use Rattle.numbers.specs.NumeralLaws.{short-none, short-one, short-two}
+use Rattle.numbers.specs.NumeralLaws.{short-few, short-none, short-one, short-zero, short-two}
 use borrow.Author.Needs.{needs}
 use Rattle.numbers.proofs.short_number.Statement.{statement}
 use Rattle.numbers.proofs.short_number.Tie as tie
@@ -7,7 +7,7 @@ sub-if1 : tie.Need-sub-if1
 sub-if1 c = search needs
 
 returns : tie.Need-returns
-returns c = search (needs, short-none)
+returns c = search (needs, short-few)
 
 shared-slice-read-digit : tie.Need-shared-slice-read-digit
 shared-slice-read-digit c = search needs
@@ -34,7 +34,7 @@ returns-3 : tie.Need-returns-3
 returns-3 c = search (needs, short-one)
 
 returns-4 : tie.Need-returns-4
-returns-4 c = search (needs, short-none)
+returns-4 c = search (needs, short-zero)
 
 cast-t13 : tie.Need-cast-t13
 cast-t13 c = search needs

@@ -1,4 +1,4 @@
-use Rattle.numbers.specs.NumeralLaws.{short-within, short-open, short-to}
+use Rattle.numbers.specs.NumeralLaws.{short-within, short-no, short-space, short-other}
 use borrow.Author.Needs.{needs}
 use Rattle.numbers.proofs.short_value.Statement.{statement}
 use Rattle.numbers.proofs.short_value.Tie as tie
@@ -13,16 +13,16 @@ enum-told : tie.Need-enum-told
 enum-told c = search needs
 
 returns : tie.Need-returns
-returns c = search (needs, short-open)
+returns c = search (needs, short-no)
 
 shared-slice-read-if1 : tie.Need-shared-slice-read-if1
 shared-slice-read-if1 c = search (needs, short-within)
 
 returns-2 : tie.Need-returns-2
-returns-2 c = search (needs, short-to)
+returns-2 c = search (needs, short-space)
 
 returns-3 : tie.Need-returns-3
-returns-3 c = search (needs, short-open)
+returns-3 c = search (needs, short-other)
 
 pub short-value-spec : {M : Type 1} → statement M
 short-value-spec =

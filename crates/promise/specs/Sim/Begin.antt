@@ -21,7 +21,7 @@ use Rattle.machine.specs.declared.Frame.{Frame}
 use Rattle.machine.specs.declared.Entries.{Entries}
 use Rattle.machine.specs.declared.State.{State}
 use Rattle.machine.specs.State.{noVars, openFrames, isLost, place, frameAt, entriesAt, varAt, firstState, firstInputs, Begun, spent, begun, withInputs, takeInputs, begin}
-use Rattle.machine.specs.History.{lastSetting}
+use Rattle.promise.specs.History.{lastSetting}
 use Rattle.promise.specs.Sim.Wf.{Wf}
 use Rattle.promise.specs.Sim.Stores.{frame-same, frame-other, concat-at, concat-length}
 use Rattle.promise.specs.Sim.Locals.{Locals}

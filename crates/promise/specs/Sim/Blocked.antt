@@ -15,7 +15,7 @@ use Rattle.closing.specs.CloseLaws.{close-cap, kept-node}
 use Rattle.machine.specs.declared.Entries.{Entries}
 use Rattle.machine.specs.declared.State.{State}
 use Rattle.machine.specs.State.{openFrames, frameAt, topmost, semCount, standsBefore, blockedAt, blocked}
-use Rattle.machine.specs.History.{History, lastSetting}
+use Rattle.promise.specs.History.{History, lastSetting}
 use Rattle.promise.specs.Demand3.{SameState}
 use Rattle.promise.specs.Sim.Wf.{Declared, Wf}
 use Rattle.promise.specs.Sim.Locals.{keptAt, clean-is}
@@ -28,13 +28,13 @@ module _ (t : Table) (h : History) (s s′ : State) where
   same-state q = record {
     frames = λ k l. q .task k l .depth;
     procs = λ k j l i. q .task k l .frame j i .proc;
-    calls = λ k j l i. q .task k l .frame j (omega arith) .node;
+    calls = λ k j l i. q .task k l .frame j i .node;
     next = λ k l. let r = q .task k l in rw (← r .depth) (r .frame (openFrames s k - 1) (omega (arith, r .some-open)) .node);
     open-stands = λ k l. q .task k l .open-stands;
     closed-stands = λ k l. q .task k l .closed-stands;
     sems = λ i l. ap (λ z. semCount z i) (q .shared .sems);
     lengths = λ i l. q .shared .lens i;
-    entries = λ i j l c m. ap (λ (e : Entries). getD (e .items) j (pos 0)) (q .shared .keeps i c);
+    entries = λ i l c. q .shared .keeps i c;
     vars = λ k j v l i m c. let r = q .task k l .frame j i in r .locals .agree v m (clean-is t (frameAt s k j .proc) v (lastSetting t _ v _ (h k j)) c);
   }
 

@@ -22,7 +22,7 @@ use Rattle.closing.specs.Closing.{dirty, kept}
 use Rattle.closing.specs.Close.{argOr, argsOr, closedNode}
 use Rattle.machine.specs.State.{varAt}
 use Rattle.machine.specs.Step.{passedAt, entering}
-use Rattle.machine.specs.History.{History, isAt, executed, entered, lastSetting}
+use Rattle.promise.specs.History.{History, isAt, executed, entered, lastSetting}
 use Rattle.promise.specs.Sim.Wf.{Begins, Wf}
 use Rattle.promise.specs.Sim.Stores.{concat-at, concat-length, take-at?, at-in}
 use Rattle.promise.specs.Sim.Locals.{Last, keptAt, D-false, Locals, clean-use}

@@ -5,7 +5,7 @@ use mathlib.Core.Path.{_≡_, sym}
 use mathlib.Core.Bool.{true, false}
 use mathlib.Core.Option.{some}
 use mathlib.Core.List.{List, [], _∷_, _++_, List·Memᴰ, List·Memᴰ·head, List·Memᴰ·tail, List·Memᴰ·not-nil}
-use lib.ListN.{getD, take}
+use lib.ListN.{length, getD, take}
 use borrow.Author.Tests.{eqb-true}
 use Rattle.table.specs.Mask.{bit, membersFrom}
 use Rattle.table.specs.Table.{nodeAt, procAt, taskAt, argPlaces, operandUses, uses, sets, arcTo, arcNo, arcs, isAbsent}
@@ -26,11 +26,11 @@ use Rattle.closing.specs.ListLaws.{All, all-nil, all-cons, all-append}
 use Rattle.promise.specs.Sim.Wf.{OneTarget, Declared, Wf}
 
 -- among the first k of a list: at which place
-place-of : (u k : ℕ) (l : List ℕ) → List·Memᴰ u (take k l) → (i : ℕ) × (i < k) × (getD l i 0 ≡ u)
+place-of : (u k : ℕ) (l : List ℕ) → List·Memᴰ u (take k l) → (i : ℕ) × (i < k) × (i < length l) × (getD l i 0 ≡ u)
 place-of u zero l d = absurd (List·Memᴰ·not-nil d)
 place-of u (suc k) [] d = absurd (List·Memᴰ·not-nil d)
-place-of u (suc k) (x ∷ l) (List·Memᴰ·head e) = (0, omega arith, sym e)
-place-of u (suc k) (x ∷ l) (List·Memᴰ·tail d) = let r = place-of u k l d in (suc (r .0), omega (arith, r .1), r .2)
+place-of u (suc k) (x ∷ l) (List·Memᴰ·head e) = (0, omega arith, omega arith, sym e)
+place-of u (suc k) (x ∷ l) (List·Memᴰ·tail d) = let r = place-of u k l d in (suc (r .0), omega (arith, r .1), omega (arith, r .2), r .3)
 
 operand-below : (n : ℕ) (a : Operand) → OperandIn n a → All (λ u. u < n) (operandUses a)
 operand-below n (Var x) h = all-cons (λ u. u < n) x [] h (all-nil (λ u. u < n))
@@ -61,7 +61,7 @@ module _ (t : Table) (z : fault t ≡ 0) (o : t .closed ≡ false) where
   granted p n (Test i a b y m) h k = record { uses< = operands p a b (h .2) (h .3); sets< = λ w e. no (cc); one = (h .4 .1 o, h .5 .1 o); declared = tt }
   granted p n (Read x to) h k = record { uses< = all-nil _; sets< = λ w e. let q : x ≡ w = cc in rw q at (h .2); one = h .3 .1 o; declared = tt }
   granted p n (Call q xs to) h k = record {
-    uses< = λ u d. let r = place-of u (xs .len) (argPlaces xs) d in rw (r .2) at (named p (getD (argPlaces xs) (r .0) 0) (h .2 (r .0) (r .1)));
+    uses< = λ u d. let r = place-of u (xs .len) (argPlaces xs) d in rw (r .3) at (named p (getD (argPlaces xs) (r .0) 0) (h .2 (r .0) (r .1) (r .2)));
     sets< = λ w e. no (cc);
     one = h .3 .1 o;
     declared = (eqb-true (xs .len) (procAt t q .params) k, start-at t v q (h .1));

@@ -20,7 +20,7 @@ use Rattle.closing.specs.Closing.{setsVar, dirty, isDirty, kept}
 use Rattle.closing.specs.DirtyLaws.{dirty-is, use-on, setsVar-other}
 use Rattle.machine.specs.declared.Entries.{Entries}
 use Rattle.machine.specs.State.{varAt, entriesAt}
-use Rattle.machine.specs.History.{lastSetting}
+use Rattle.promise.specs.History.{lastSetting}
 use Rattle.promise.specs.Demand3.{CleanSetting}
 
 -- by variable, where it was last set: at a node, or by the entry

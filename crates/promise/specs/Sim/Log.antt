@@ -4,6 +4,7 @@ use native.Mathlib.Omega.{arith}
 use native.Mathlib.Nat.{add-zero, add-assoc}
 use mathlib.Core.Path.{_≡_, refl, sym, _∙_, ap}
 use mathlib.Core.Logic.{inl, inr}
+use mathlib.Core.Bool.{true, true≢false}
 use mathlib.Core.Option.{Option, none, some}
 use mathlib.Core.List.{List, _∷_}
 use lib.ListN.{length, getD}
@@ -11,16 +12,22 @@ use lib.Seq.{sets}
 use lib.Dec.{eqb}
 use lib.IntN.{ℤ}
 use borrow.Author.Tests.{eqb-true, eqb-false}
+use Rattle.table.specs.declared.Table.{Table}
 use Rattle.closing.specs.ReachLaws.{cases}
+use Rattle.closing.specs.Dirty.{Unkept}
+use Rattle.closing.specs.KeptLaws.{unkept-is}
 use Rattle.machine.specs.Step.{Entry}
 use Rattle.machine.specs.Run.{flagged, entryBytes}
+use Rattle.machine.specs.ClosedRun.{bytes-length}
 use Rattle.promise.specs.Demand3.{SameLog}
 use Rattle.promise.specs.Sim.Stores.{sets-before, sets-at}
+use Rattle.promise.specs.Sim.Locals.{keptAt}
 use Rattle.promise.specs.Sim.Exec.{SameValue}
 use Rattle.promise.specs.Sim.Step.{SameEntry}
 
--- the eight bytes of an entry of the open log, and of the closed one
-pub record SameBytes (f f′ : ℕ → ℕ) : Type 0 where
+-- the eight bytes of an entry of the open log, which is that of a kept node, and of the closed one
+pub record SameBytes (t : Table) (f f′ : ℕ → ℕ) : Type 0 where
+  pub keeps : keptAt t (f 1) (f 2) ≡ true
   pub task : f 0 ≡ f′ 0
   pub proc : f 1 ≡ f′ 1
   pub node : f 2 ≡ f′ 2
@@ -31,11 +38,11 @@ pub record SameBytes (f f′ : ℕ → ℕ) : Type 0 where
 abbrev pub byte : List ℕ → ℕ → ℕ → ℕ
 byte log i b = getD log (8 * i + b) 0
 
-abbrev pub SameLogs : ℕ → List ℕ → List ℕ → Type 0
-SameLogs n log log′ = (i : ℕ) → i < n → SameBytes (byte log i) (byte log′ i)
+abbrev pub SameLogs : Table → ℕ → List ℕ → List ℕ → Type 0
+SameLogs t n log log′ = (i : ℕ) → i < n → SameBytes t (byte log i) (byte log′ i)
 
-pub same-log : (n : ℕ) (log log′ : List ℕ) → SameLogs n log log′ → SameLog n log log′
-same-log n log log′ q = record {
+pub same-log : (t : Table) (n : ℕ) (log log′ : List ℕ) → SameLogs t n log log′ → SameLog n log log′
+same-log t n log log′ q = record {
   task = λ i l. rw add-zero at (q i l .task);
   proc = λ i l. q i l .proc;
   node = λ i l. q i l .node;
@@ -43,8 +50,12 @@ same-log n log log′ q = record {
   value = λ i b l c e. rw add-assoc (q i l .value b c e);
 }
 
-bytes-by : (f f′ g g′ : ℕ → ℕ) → ((b : ℕ) → b < 8 → g b ≡ f b) → ((b : ℕ) → b < 8 → g′ b ≡ f′ b) → SameBytes f f′ → SameBytes g g′
-bytes-by f f′ g g′ e e′ r = record {
+pub kept-log : (t : Table) (n : ℕ) (log log′ : List ℕ) → SameLogs t n log log′ → (i : ℕ) → i < n → Unkept t (byte log i 1) (byte log i 2) → ⊥
+kept-log t n log log′ q i l u = true≢false (sym (q i l .keeps) ∙ unkept-is t _ _ .1 u)
+
+bytes-by : (t : Table) (f f′ g g′ : ℕ → ℕ) → ((b : ℕ) → b < 8 → g b ≡ f b) → ((b : ℕ) → b < 8 → g′ b ≡ f′ b) → SameBytes t f f′ → SameBytes t g g′
+bytes-by t f f′ g g′ e e′ r = record {
+  keeps = rw (e 1 (omega arith), e 2 (omega arith)) (r .keeps);
   task = e 0 (omega arith) ∙ r .task ∙ sym (e′ 0 (omega arith));
   proc = e 1 (omega arith) ∙ r .proc ∙ sym (e′ 1 (omega arith));
   node = e 2 (omega arith) ∙ r .node ∙ sym (e′ 2 (omega arith));
@@ -52,15 +63,9 @@ bytes-by f f′ g g′ e e′ r = record {
   value = λ b l k. e (4 + b) (omega arith) ∙ r .value b l (sym (e′ 3 (omega arith)) ∙ k) ∙ sym (e′ (4 + b) (omega arith));
 }
 
-bytes-length : (e : Entry) → length (entryBytes e) ≡ 8
-bytes-length e = ap (λ (n : ℕ). suc (suc (suc n))) (go (e .value))
-  where
-    go : (o : Option ℤ) → length (flagged o) ≡ 5
-    go none = refl
-    go (some x) = refl
-
-entry-bytes : (e e′ : Entry) → SameEntry e e′ → SameBytes (λ b. getD (entryBytes e) b 0) (λ b. getD (entryBytes e′) b 0)
-entry-bytes e e′ r = record {
+entry-bytes : (t : Table) (e e′ : Entry) → SameEntry t e e′ → SameBytes t (λ b. getD (entryBytes e) b 0) (λ b. getD (entryBytes e′) b 0)
+entry-bytes t e e′ r = record {
+  keeps = r .keeps;
   task = r .task;
   proc = r .proc;
   node = r .node;
@@ -86,9 +91,9 @@ byte-old log n i b e l m = sets-before (entryBytes e) log (8 * n) (8 * i + b) 0 
 byte-new : (log : List ℕ) (n b : ℕ) (e : Entry) → 8 * n + 8 ≤ length log → b < 8 → byte (sets log (8 * n) (entryBytes e)) n b ≡ getD (entryBytes e) b 0
 byte-new log n b e l m = sets-at (entryBytes e) log (8 * n) b 0 (rw (bytes-length e) l) (rw (bytes-length e) m)
 
-pub log-next : (n : ℕ) (log log′ : List ℕ) (e e′ : Entry) → SameLogs n log log′ → SameEntry e e′ → length log′ ≡ length log → 8 * n + 8 ≤ length log
-    → SameLogs (suc n) (sets log (8 * n) (entryBytes e)) (sets log′ (8 * n) (entryBytes e′))
-log-next n log log′ e e′ q r size room i l = cases (eqb i n)
-    (λ k. rw (eqb-true i n k) (bytes-by (λ b. getD (entryBytes e) b 0) (λ b. getD (entryBytes e′) b 0) _ _ (λ b m. byte-new log n b e room m) (λ b m. byte-new log′ n b e′ (omega arith) m) (entry-bytes e e′ r)))
+pub log-next : (t : Table) (n : ℕ) (log log′ : List ℕ) (e e′ : Entry) → SameLogs t n log log′ → SameEntry t e e′ → length log′ ≡ length log → 8 * n + 8 ≤ length log
+    → SameLogs t (suc n) (sets log (8 * n) (entryBytes e)) (sets log′ (8 * n) (entryBytes e′))
+log-next t n log log′ e e′ q r size room i l = cases (eqb i n)
+    (λ k. rw (eqb-true i n k) (bytes-by t (λ b. getD (entryBytes e) b 0) (λ b. getD (entryBytes e′) b 0) _ _ (λ b m. byte-new log n b e room m) (λ b m. byte-new log′ n b e′ (omega arith) m) (entry-bytes t e e′ r)))
     (λ k. let l′ : i < n = omega (arith, eqb-false i n k) in
-    bytes-by (byte log i) (byte log′ i) _ _ (λ b m. byte-old log n i b e l′ m) (λ b m. byte-old log′ n i b e′ l′ m) (q i l′))
+    bytes-by t (byte log i) (byte log′ i) _ _ (λ b m. byte-old log n i b e l′ m) (λ b m. byte-old log′ n i b e′ l′ m) (q i l′))

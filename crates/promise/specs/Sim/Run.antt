@@ -15,12 +15,12 @@ use Rattle.closing.specs.ListLaws.{all-nil, all-append}
 use Rattle.closing.specs.Close.{closedWith, closeTable}
 use Rattle.machine.specs.declared.State.{State}
 use Rattle.machine.specs.Step.{Stop, noSuchTask, logFull, taskLost, taskBlocked, tooMany, valuesSpent, badToss, stopNumber, Kept, Entry, Step, stopped, stepped, step}
+use Rattle.machine.specs.KeptLaws.{allKept}
 use Rattle.machine.specs.Run.{entryBytes, Ran, turn, afterStep, runFrom}
-use Rattle.machine.specs.History.{History, afterEntry, afterTurn, historyFrom}
+use Rattle.promise.specs.History.{History, afterEntry, afterTurn, historyFrom}
 use Rattle.promise.specs.Demand3.{Toss, Tosses}
 use Rattle.promise.specs.Sim.Wf.{Wf}
 use Rattle.promise.specs.Sim.Locals.{keptAt}
-use Rattle.promise.specs.Sim.Walk.{allKept}
 use Rattle.promise.specs.Sim.Same.{Same}
 use Rattle.promise.specs.Sim.Step.{WhenStepped, SameEntry, Done, step-sim}
 use Rattle.promise.specs.Sim.Log.{SameLogs, log-next}
@@ -59,7 +59,7 @@ module _ (t : Table) (wf : Wf t) (most most′ : ℕ) where
     tosses : List ℤ
     small : Tosses tosses
     closes : (ws : List ℤ) → turn t′ allKept most′ k n s′ (tosses ++ ws) log′ ≡ stepped entry′ [] state′ ws
-    entries : SameEntry e entry′
+    entries : SameEntry t e entry′
     states : Same t (afterEntry t s e ns h) s₁ state′
 
   turn-is : (u : Table) (keep : Kept) (m k n : ℕ) (s : State) (rest : List ℤ) (log : List ℕ) → k < u .tasks → 8 * n + 8 ≤ length log → turn u keep m k n s rest log ≡ step u keep m s k rest
@@ -101,7 +101,7 @@ module _ (t : Table) (wf : Wf t) (most most′ : ℕ) where
     pub closed-completes : r′ .answer .stop ≡ 0
     pub open-steps : r .answer .steps ≡ n
     pub closed-steps : r′ .answer .steps ≡ n
-    pub logs : SameLogs n (r .log) (r′ .log)
+    pub logs : SameLogs t n (r .log) (r′ .log)
     pub states : Same t h (r .answer .state) (r′ .answer .state)
 
   module _ (all : List ℤ) where
@@ -122,13 +122,13 @@ module _ (t : Table) (wf : Wf t) (most most′ : ℕ) where
       pub each : (m : ℕ) → m ≤ length ks → Strong (noted (take m ks) n s rest log h) (n + m) (opens (take m ks) n s rest log) (closes all′ (take m ks) n s′ ts log′)
 
     -- before any step
-    none-yet : (n : ℕ) (s s′ : State) (h : History) (rest : List ℤ) (log log′ : List ℕ) (ts all′ : List ℤ) → Same t h s s′ → SameLogs n log log′ → Strong (noted [] n s rest log h) (n + zero) (opens [] n s rest log) (closes all′ [] n s′ ts log′)
+    none-yet : (n : ℕ) (s s′ : State) (h : History) (rest : List ℤ) (log log′ : List ℕ) (ts all′ : List ℤ) → Same t h s s′ → SameLogs t n log log′ → Strong (noted [] n s rest log h) (n + zero) (opens [] n s rest log) (closes all′ [] n s′ ts log′)
     unfolding runFrom historyFrom
     none-yet n s s′ h rest log log′ ts all′ q l = rw add-zero (record { open-completes = refl; closed-completes = refl; open-steps = refl; closed-steps = refl; logs = l; states = q })
 
     -- one step more
     one-more : (k : ℕ) (ks : List ℕ) (n : ℕ) (s s′ : State) (h : History) (rest : List ℤ) (log log′ : List ℕ) (e : Entry) (ns : List ℕ) (s₁ : State) (vs : List ℤ) (ts all′ : List ℤ)
-        → Same t h s s′ → SameLogs n log log′
+        → Same t h s s′ → SameLogs t n log log′
         → turn t (keptAt t) most k n s rest log ≡ stepped e ns s₁ vs
         → (d : Turned h s s′ k n log log′ e ns s₁ vs)
         → Follows ks (suc n) s₁ (d .state′) (afterEntry t s e ns h) vs (sets log (8 * n) (entryBytes e)) (sets log′ (8 * n) (entryBytes (d .entry′))) ts all′
@@ -150,7 +150,7 @@ module _ (t : Table) (wf : Wf t) (most most′ : ℕ) where
         each zero a = none-yet n s s′ h rest log log′ us all′ q l
         each (suc m) a = rw (add-suc, ← suc-add n m, closed-is (take m ks), run-step t (keptAt t) most k (take m ks) n s rest log all (stepped e ns s₁ vs) i, history-step t (keptAt t) most k (take m ks) n s rest log h (stepped e ns s₁ vs) i) (f .each m (omega arith))
 
-    pub run-sim : (ks : List ℕ) (n : ℕ) (s s′ : State) (h : History) (rest : List ℤ) (log log′ : List ℕ) → Same t h s s′ → SameLogs n log log′ → length log′ ≡ length log
+    pub run-sim : (ks : List ℕ) (n : ℕ) (s s′ : State) (h : History) (rest : List ℤ) (log log′ : List ℕ) → Same t h s s′ → SameLogs t n log log′ → length log′ ≡ length log
         → opens ks n s rest log .answer .stop ≡ 0 → (ts : List ℤ) × ((all′ : List ℤ) → Follows ks n s s′ h rest log log′ ts all′)
     unfolding runFrom
     run-sim [] n s s′ h rest log log′ q l size c = ([], λ all′. record { completes = refl; used-up = sub-zero (length all′); small = all-nil Toss; each = each all′ })
@@ -162,13 +162,13 @@ module _ (t : Table) (wf : Wf t) (most most′ : ℕ) where
         (λ n₁ s₁ s₁′ h₁ vs log₁ log₁′ q₁ l₁ size₁ c₁. run-sim ks n₁ s₁ s₁′ h₁ vs log₁ log₁′ q₁ l₁ size₁ c₁)
       where
         go : (r : Step) → turn t (keptAt t) most k n s rest log ≡ r → WhenStepped (Turned h s s′ k n log log′) r
-            → ((n₁ : ℕ) (s₁ s₁′ : State) (h₁ : History) (vs : List ℤ) (log₁ log₁′ : List ℕ) → Same t h₁ s₁ s₁′ → SameLogs n₁ log₁ log₁′ → length log₁′ ≡ length log₁
+            → ((n₁ : ℕ) (s₁ s₁′ : State) (h₁ : History) (vs : List ℤ) (log₁ log₁′ : List ℕ) → Same t h₁ s₁ s₁′ → SameLogs t n₁ log₁ log₁′ → length log₁′ ≡ length log₁
             → opens ks n₁ s₁ vs log₁ .answer .stop ≡ 0 → (ts : List ℤ) × ((all′ : List ℤ) → Follows ks n₁ s₁ s₁′ h₁ vs log₁ log₁′ ts all′))
             → (ts : List ℤ) × ((all′ : List ℤ) → Follows (k ∷ ks) n s s′ h rest log log′ ts all′)
         go (stopped z) i d f = absurd (stop-number z (rw (run-step t (keptAt t) most k ks n s rest log all (stopped z) i) at c))
         go (stepped e ns s₁ vs) i d f =
             let b = f (suc n) s₁ (d .state′) (afterEntry t s e ns h) vs (sets log (8 * n) (entryBytes e)) (sets log′ (8 * n) (entryBytes (d .entry′))) (d .states)
-            (log-next n log log′ e (d .entry′) l (d .entries) size (d .room))
+            (log-next t n log log′ e (d .entry′) l (d .entries) size (d .room))
             (length-sets log′ (8 * n) (entryBytes (d .entry′)) ∙ size ∙ sym (length-sets log (8 * n) (entryBytes e)))
             (rw (run-step t (keptAt t) most k ks n s rest log all (stepped e ns s₁ vs) i) at c) in
             (d .tosses ++ b .0, λ all′. one-more k ks n s s′ h rest log log′ e ns s₁ vs (b .0) all′ q l i d (b .1 all′))

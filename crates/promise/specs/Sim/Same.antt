@@ -20,7 +20,7 @@ use Rattle.machine.specs.declared.Frame.{Frame}
 use Rattle.machine.specs.declared.State.{State}
 use Rattle.machine.specs.State.{noFrame, openFrames, isLost, place, frameAt, topmost}
 use Rattle.machine.specs.Step.{Memory, landed, called, returned}
-use Rattle.machine.specs.History.{History, lastSetting}
+use Rattle.promise.specs.History.{History, lastSetting}
 use Rattle.promise.specs.Sim.Stores.{frame-same, frame-other}
 use Rattle.promise.specs.Sim.Locals.{Last, keptAt, Locals, Shared}
 

@@ -23,12 +23,13 @@ use Rattle.machine.specs.declared.Frame.{Frame}
 use Rattle.machine.specs.declared.State.{State}
 use Rattle.machine.specs.State.{openFrames, isLost, frameAt, topmost, standsBefore, blockedAt, blocked}
 use Rattle.machine.specs.Step.{Memory, Did, exec, choose, Walk, halts, arrives, along, onward, walk, calls, returns, stays, flow, Entry, Step, stopped, stepped, taskBlocked, landed, settled, entering, called, returned, memory, flowed, entryOf, stepOf, before, unless, step}
-use Rattle.machine.specs.History.{History, executed, entered, afterFlow, afterEntry, lastSetting}
+use Rattle.machine.specs.KeptLaws.{allKept}
+use Rattle.promise.specs.History.{History, executed, entered, afterFlow, afterEntry, lastSetting}
 use Rattle.promise.specs.Demand3.{Toss, Tosses}
 use Rattle.promise.specs.Sim.Wf.{Wf}
 use Rattle.promise.specs.Sim.Locals.{Last, keptAt, mark, marks, marks-append, mark-other, sets-nothing, Locals, still, move, Shared}
 use Rattle.promise.specs.Sim.Exec.{SameValue, arcOf, closing, Leading, by-to, Matched, exec-sim, log-sim}
-use Rattle.promise.specs.Sim.Walk.{WhenArrives, allKept, Landed, along-sim}
+use Rattle.promise.specs.Sim.Walk.{WhenArrives, Landed, along-sim}
 use Rattle.promise.specs.Sim.Same.{IsCall, Touched, stays-touch, call-touch, return-touch, lastOf, SameFrame, nodeOf, SameTask, Same, rebuild}
 use Rattle.promise.specs.Sim.Call.{executed-here, executed-other, entered-here, entered-other, first-kept, call-kept, call-arc, call-locals}
 use Rattle.promise.specs.Sim.Blocked.{same-state, stands-closed, same-blocked}
@@ -39,7 +40,8 @@ abbrev pub WhenStepped : (Entry → List ℕ → State → List ℤ → Type 0) 
 WhenStepped P (stopped c) = Unit {0}
 WhenStepped P (stepped e ns s vs) = P e ns s vs
 
-pub record SameEntry (e e′ : Entry) : Type 0 where
+pub record SameEntry (t : Table) (e e′ : Entry) : Type 0 where
+  pub keeps : keptAt t (e .proc) (e .node) ≡ true
   pub task : e .task ≡ e′ .task
   pub proc : e .proc ≡ e′ .proc
   pub node : e .node ≡ e′ .node
@@ -78,7 +80,7 @@ module _ (t : Table) (wf : Wf t) (most most′ : ℕ) (h : History) (s s′ : St
     pub tosses : List ℤ
     pub small : Tosses tosses
     pub closes : (ws : List ℤ) → step t′ allKept most′ s′ k (tosses ++ ws) ≡ stepped entry′ [] state′ ws
-    pub entries : SameEntry e entry′
+    pub entries : SameEntry t e entry′
     pub states : Same t (afterEntry t s e ns h) s₁ state′
 
   -- ---- the topmost frames
@@ -116,8 +118,9 @@ module _ (t : Table) (wf : Wf t) (most most′ : ℕ) (h : History) (s s′ : St
   abbrev e′ : Entry
   e′ = entryOf k f′ (standsBefore t′ s′ k)
 
-  same-entry : SameEntry e e′
+  same-entry : SameEntry t e e′
   same-entry = record {
+    keeps = task .keeps;
     task = refl;
     proc = top .proc;
     node = top .node;

@@ -12,12 +12,14 @@ use Rattle.table.specs.declared.Table.{Table}
 use Rattle.closing.specs.ReachLaws.{cases}
 use Rattle.closing.specs.Dirty.{Leads, target, through}
 use Rattle.closing.specs.Close.{closeTable}
-use Rattle.closing.specs.KeptLaws.{unkept-is}
+use Rattle.closing.specs.KeptLaws.{unkept-is, kept-is}
 use Rattle.closing.specs.ListLaws.{all-map}
 use Rattle.closing.specs.ArcLaws.{leads-below, arc-is}
-use Rattle.machine.specs.Step.{Memory, Did, stops, goes, exec, choose, Kept, Walk, halts, arrives, along, onward, noting, walk}
+use Rattle.machine.specs.Step.{Memory, Did, stops, goes, exec, choose, Walk, halts, arrives, along, onward, noting, walk}
 use Rattle.machine.specs.StepLaws.{choose-one, choose-some}
-use Rattle.machine.specs.History.{lastSetting}
+use Rattle.machine.specs.KeptLaws.{allKept}
+use Rattle.machine.specs.ClosedRun.{closed-walk}
+use Rattle.promise.specs.History.{lastSetting}
 use Rattle.promise.specs.Demand3.{Toss, Tosses}
 use Rattle.promise.specs.Sim.Wf.{Wf}
 use Rattle.promise.specs.Sim.Locals.{Last, keptAt, mark, marks, Locals, Shared}
@@ -38,19 +40,10 @@ when-onward : (P : Option ℕ → Memory → List ℤ → List ℕ → Type 0) (
 when-onward P Q k (stops c) q f = tt
 when-onward P Q k (goes a m vs) q f = f a m vs q
 
--- where every node counts as kept, a walk ends where it begins
-abbrev pub allKept : Kept
-allKept p n = true
-
-closed-walk : (u : Table) (p d m : ℕ) (g : Memory) (ws : List ℤ) → walk u allKept p d m g ws ≡ arrives (some m) g ws []
-unfolding walk
-closed-walk u p zero m g ws = refl
-closed-walk u p (suc d) m g ws = refl
-
 module _ (t : Table) (wf : Wf t) (p : ℕ) where
   -- the new arc lists the kept nodes to which the old one leads
   new-in : (a k : ℕ) → Leads t p (members a) k → keptAt t p k ≡ true → List·Memᴰ k (members (arcOf t p a))
-  new-in a k l e = members-is k (arcOf t p a) .1 (arc-is t p a k .1 (l, e), leads-below t p a k l)
+  new-in a k l e = members-is k (arcOf t p a) .1 (arc-is t p a k .1 (l, kept-is t p k .0 e), leads-below t p a k l)
 
   module _ (a : ℕ) (g : Memory) where
     -- the open run has met a kept node, to which arc a leads
