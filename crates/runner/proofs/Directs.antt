@@ -22,9 +22,10 @@ use Rattle.machine.specs.declared.Frame.{Frame}
 use Rattle.machine.specs.declared.State.{State}
 use Rattle.table.specs.Values.{apply, holds}
 use Rattle.machine.specs.State.{varAt}
-use Rattle.machine.specs.Step.{Memory, operandIn, valueOf, chooseFrom, choose, keptIn, shown}
+use Rattle.machine.specs.Step.{Memory, operandIn, valueOf, keptIn, shown}
 use Rattle.machine.specs.Run.{word, flagged, runFrom}
-use Rattle.tosses.specs.Tosses.{Arrived, meeting, oneKept, directOf}
+use Rattle.tosses.specs.Tosses.{meeting, oneKept, directOf}
+use Rattle.tosses.specs.TossLaws.{Arrived, one-arrived}
 use Rattle.steps.specs.Cut.{showsTo, unless, goesTo, doesTo, stuckOf, actOf, triedOf, backOf, flagOf, bitsOf}
 use Rattle.steps.specs.declared.Acted.{Acted}
 use Rattle.starts.specs.Ready.{Ready}
@@ -82,8 +83,7 @@ one-kept arc keep (j ∷ []) e h = go (bit j keep) refl h
 
 module _ (arc keep : ℕ) (vs : List ℤ) (used : ℕ) (w : used ≤ length vs) (j : ℕ) (o : OneKept arc keep j) where
   pub one-arrives : Arrived arc keep vs used (meeting keep j used)
-  unfolding choose
-  one-arrives = record { choice = ap (λ (ms : List ℕ). chooseFrom ms (drop used vs)) (o .one); sound = record { over = refl; named = refl; within = w; place = o .low; gone = refl } }
+  one-arrives = one-arrived arc keep vs used w j (o .one)
 
 -- ---- a node that leads straight to a kept node: it isn't blocked, closes no frame, and uses no value
 

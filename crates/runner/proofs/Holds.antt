@@ -20,7 +20,8 @@ use Rattle.machine.specs.declared.State.{State}
 use Rattle.machine.specs.State.{noVars, noFrame}
 use Rattle.machine.specs.Step.{Memory, keptIn, shown}
 use Rattle.machine.specs.Run.{word, flagged, Ran, runFrom}
-use Rattle.tosses.specs.Tosses.{Arrived, halting, directOf}
+use Rattle.tosses.specs.Tosses.{halting, arrivedOf, directOf}
+use Rattle.tosses.specs.TossLaws.{Arrived, arrived}
 use Rattle.steps.specs.Cut.{stopBefore, stuckOf, triedOf, passOf, backOf, actOf, flagOf, bitsOf, underOf}
 use Rattle.steps.specs.declared.Acted.{Acted}
 use Rattle.tosses.specs.declared.Chosen.{Chosen}
@@ -388,7 +389,10 @@ module _ (S : Setting) (whole-run : Ran) (size : ℕ) where
         abbrev kpg : ℕ
         kpg = getD (S .keep) p 0
 
-        module _ (far : Bool) (w : List ℤ) (arc us k : ℕ) (wk : Walks far w arc us k) (y : Chosen) (arrives : Arrived arc kpg (S .vs) us y) where
+        module _ (far : Bool) (w : List ℤ) (arc us k : ℕ) (wk : Walks far w arc us k) (y : Chosen) (arrives-as : y ≡ arrivedOf arc kpg (S .vs) us) where
+          abbrev arrives : Arrived arc kpg (S .vs) us y
+          arrives = arrived arc kpg (S .vs) us (wk .within) arrives-as
+
           abbrev l : List ℤ
           l = pick far w l₀
 

@@ -23,7 +23,7 @@ use Rattle.machine.specs.declared.Running.{Running}
 use Rattle.machine.specs.State.{noFrame, openFrames, isLost, place, frameAt, topmost, semCount, entriesAt, varAt, standsBefore, firstState, Begun, spent, begun, blockedAt, blocked}
 use Rattle.machine.specs.Step.{noSuchTask, logFull, taskLost, taskBlocked, stopNumber, Memory, valueOf, assign, appended, oldest, shortened, Did, stops, goes, exec, keptIn, Walk, halts, arrives, onward, walk, flow, Entry, shown, Step, stopped, stepped, landed, settled, entering, called, returned, memory, flowed, entryOf, stepOf, before, step}
 use Rattle.machine.specs.Run.{word, flagged, entryBytes, Ran, ended, turn, afterStep, runFrom, runBegun}
-use Rattle.tosses.specs.Tosses.{stopOf}
+use Rattle.tosses.specs.TossLaws.{stopOf}
 use Rattle.steps.specs.Cut.{Within, goesTo, haltsAt, showsTo, stuckOf, actOf, backOf, semsAfter, lensAfter, itemsAfter, flagOf, bitsOf}
 use Rattle.steps.specs.declared.Acted.{Acted}
 use Rattle.columns.specs.Columns.{queuesOf}

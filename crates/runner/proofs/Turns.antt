@@ -24,7 +24,8 @@ use Rattle.machine.specs.declared.State.{State}
 use Rattle.machine.specs.State.{noFrame, openFrames, isLost, place, topmost, standsBefore, withFrames, blockedAt, blocked}
 use Rattle.machine.specs.Step.{noSuchTask, logFull, taskLost, taskBlocked, stopNumber, Memory, valueOf, shown, Choice, Did, keptIn, Walk, along, onward, walk, Step, stopped, settled, called, entering, memory, entryOf}
 use Rattle.machine.specs.Run.{word, flagged, entryBytes, Ran, runFrom}
-use Rattle.tosses.specs.Tosses.{Named, Sound, Arrived, halting}
+use Rattle.tosses.specs.Tosses.{halting}
+use Rattle.tosses.specs.TossLaws.{Named, Sound, Arrived}
 use Rattle.steps.specs.Cut.{Within, goesTo, haltsAt, showsTo, stuckOf, actOf, triedOf, passOf, backOf, flagOf, bitsOf, underOf}
 use Rattle.steps.specs.declared.Acted.{Acted}
 use Rattle.tosses.specs.declared.Chosen.{Chosen}

@@ -19,7 +19,8 @@ use Rattle.table.specs.declared.Table.{Table}
 use Rattle.closing.specs.Dirty.{Fact}
 use Rattle.closing.specs.Closing.{dirty, keptBy, kept}
 use Rattle.machine.specs.Step.{stopNumber, Memory, operandIn, valueOf, assign, Did, stops, goes, exec, nowhere, node, bad, choose, keptOf, keptIn, Walk, halts, arrives, along, onward, noting, walk}
-use Rattle.tosses.specs.Tosses.{stopOf, Named, choiceOf, Sound, halting}
+use Rattle.tosses.specs.Tosses.{halting}
+use Rattle.tosses.specs.TossLaws.{stopOf, Named, choiceOf, Sound}
 use Rattle.steps.specs.Cut.{goesTo, haltsAt, showsTo, readAt, stuckOf, actOf, triedOf, passOf}
 use Rattle.tosses.specs.declared.Chosen.{Chosen}
 use Rattle.steps.specs.declared.Acted.{Acted}

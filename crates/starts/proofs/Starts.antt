@@ -9,7 +9,7 @@ use lib.ListN.{length, getD, set, take, drop, replicate, length-drop}
 use lib.Seq.{getD-set-same, getD-set-other, getD-drop, drop-drop}
 use lib.Dec.{eqb, ltb}
 use lib.IntN.{ℤ, pos}
-use borrow.Author.Tests.{lt-ltb, le-ltb, ltb-true, eqb-true, eqb-false}
+use borrow.Author.Tests.{lt-ltb, le-ltb, eqb-true, eqb-false}
 use Rattle.table.specs.Mask.{pick}
 use Rattle.table.specs.Table.{noSlot, taskAt, procAt, nodeAt}
 use Rattle.table.specs.declared.Slot.{Slot}
@@ -18,10 +18,9 @@ use Rattle.table.specs.declared.Table.{Table}
 use Rattle.text.specs.Reader.{concat}
 use Rattle.machine.specs.declared.Frame.{Frame}
 use Rattle.machine.specs.declared.State.{State}
-use Rattle.machine.specs.State.{noFrame, noEntries, firstFrame, firstState, withFrames, firstInputs, spent, begun, takeInputs}
-use Rattle.starts.specs.Ready.{Ready}
-use Rattle.starts.specs.Begins.{Row, Good, inputFrame}
-use Rattle.starts.specs.GoodLaws.{FrameGood, good-frame}
+use Rattle.machine.specs.State.{noFrame, noEntries, firstFrame, firstState, withFrames, firstInputs, spent, begun, takeInputs, begin}
+use Rattle.starts.specs.declared.Started.{Started}
+use Rattle.starts.specs.Begins.{Row, startedOf, inputFrame}
 
 -- ---- the row of nodes: place j holds node j mod 32 of procedure j / 32
 
@@ -95,9 +94,6 @@ input-is top m used vs h k ea eb ec ed =
     ap (λ (l : List ℤ). record { proc = top; node = 0; vars = l })
     ((λ i. four (fa i) (fb i) (fc i) (fd i)) ∙ padded m (drop used vs) h (omega (arith, length-drop used vs)))
 
-pub input-vars : (m : ℕ) (l : List ℤ) → m ≤ 4 → m ≤ length l → length (take m l ++ replicate (16 - length (take m l)) (pos 0)) ≡ 16
-input-vars m l h k = ap length (sym (padded m l h k))
-
 -- ---- the first state
 
 counts : (l : List Sem) → length l ≡ 8
@@ -134,100 +130,43 @@ unfolding firstState concat
 first-is t ez ea eb ec ed ek el em en h =
     λ i. made t (ek i ∷ el i ∷ em i ∷ en i ∷ []) (placed (ez i) (ea i) (eb i) (ec i) (ed i)) (counts (t .sem) h i)
 
--- ---- it is good
+-- ---- the inputs, by task: those of the first `i` tasks are taken, which are the first `used` values
 
-All : (Frame → Type 0) → List Frame → Type 0
-All P [] = Unit {0}
-All P (x ∷ l) = P x × All P l
+pub record Taking (t : Table) (vs : List ℤ) (i : ℕ) (s : State) (used : ℕ) : Type 0 where
+  pub within : used ≤ length vs
+  pub same : begin t vs ≡ takeInputs t (t .tasks - i) i s (drop used vs)
 
-all-at : (P : Frame → Type 0) (l : List Frame) (d : Frame) → All P l → (j : ℕ) → j < length l → P (getD l j d)
-unfolding All
-all-at P [] d h j k = absurd (omega arith)
-all-at P (x ∷ l) d h zero k = h .0
-all-at P (x ∷ l) d h (suc j) k = all-at P l d (h .1) j (omega arith)
+pub take-first : (t : Table) (vs : List ℤ) (s : State) → s ≡ firstState t → Taking t vs 0 s 0
+unfolding begin
+take-first t vs s e = record { within = omega arith; same = let z : t .tasks - 0 ≡ t .tasks = omega arith in rw (e, z) refl }
 
-all-or : (P : Frame → Type 0) (l : List Frame) (d : Frame) → P d → All P l → (j : ℕ) → P (getD l j d)
-unfolding All
-all-or P [] d p h j = p
-all-or P (x ∷ l) d p h zero = h .0
-all-or P (x ∷ l) d p h (suc j) = all-or P l d p (h .1) j
+module _ {t : Table} {vs : List ℤ} {i : ℕ} {s : State} {used : ℕ} (k : Taking t vs i s used) where
+  pub take-done : t .tasks ≤ i → _≡_ {A = Started} (record { spent = false; used = used; state = s }) (startedOf t vs (begin t vs))
+  unfolding takeInputs
+  take-done h =
+      let z : t .tasks - i ≡ 0 = omega arith in
+      let e : begin t vs ≡ begun s (drop used vs) = k .same ∙ rw z refl in
+      let u : used ≡ length vs - length (drop used vs) = omega (arith, length-drop used vs, k .within) in
+      rw e (ap (λ (n : ℕ). record { spent = false; used = n; state = s }) u)
 
-all-some : (P : Frame → Type 0) (a b c d z : Frame) → P a → P b → P c → P d → P z → All P (placed z a b c d)
-unfolding All
-all-some P a b c d z pa pb pc pd p =
-    (pa, (p, (p, (p, (p, (p, (p, (p, (pb, (p, (p, (p, (p, (p, (p, (p, (pc, (p, (p, (p, (p, (p, (p, (p, (pd, (p, (p, (p, (p, (p, (p, (p, tt))))))))))))))))))))))))))))))))
-
-module _ (t : Table) {keep : List ℕ} (r : Ready t keep) where
-  first-good : (i : ℕ) → FrameGood (firstAt t i)
-  first-good i = go (ltb i (t .tasks)) refl
-    where
-      go : (b : Bool) → ltb i (t .tasks) ≡ b → FrameGood (pick b (firstFrame t i) noFrame)
-      go true e = record { proc = r .tops i (ltb-true i (t .tasks) e); node = omega arith; vars = refl }
-      go false e = record { proc = omega arith; node = omega arith; vars = refl }
-
-  frames-good : (P : Frame → Type 0) → ((f : Frame) → FrameGood f → P f) → All P (firstState t .frames)
-  unfolding firstState concat
-  frames-good P f = all-some P (firstAt t 0) (firstAt t 1) (firstAt t 2) (firstAt t 3) noFrame (f _ (first-good 0)) (f _ (first-good 1)) (f _ (first-good 2)) (f _ (first-good 3)) (f noFrame (record { proc = omega arith; node = omega arith; vars = refl }))
-
-  first-depth : (i : ℕ) → i < t .tasks → getD (firstState t .depth) i 0 ≡ 1
-  unfolding firstState concat
-  first-depth zero h = rw (lt-ltb 0 (t .tasks) h) refl
-  first-depth (suc zero) h = rw (lt-ltb 1 (t .tasks) h) refl
-  first-depth (suc (suc zero)) h = rw (lt-ltb 2 (t .tasks) h) refl
-  first-depth (suc (suc (suc zero))) h = rw (lt-ltb 3 (t .tasks) h) refl
-  first-depth (suc (suc (suc (suc i)))) h = absurd (omega (arith, r .tasks))
-
-  sizes : (length (firstState t .depth) ≡ 4) × (length (firstState t .frames) ≡ 32)
-  unfolding firstState concat
-  sizes = (refl, refl)
-
-  pub start-good : Good t (firstState t)
-  start-good = record {
-    depths = sizes .0;
-    frames = sizes .1;
-    opened = λ i h. omega (arith, first-depth i h);
-    bounded = λ i h. omega (arith, first-depth i h);
-    procs = λ j. all-or (λ (f : Frame). f .proc < 8) (firstState t .frames) _ (omega arith) (frames-good (λ (f : Frame). f .proc < 8) (λ f g. g .proc)) j;
-    nodes = λ j. all-or (λ (f : Frame). f .node < 32) (firstState t .frames) _ (omega arith) (frames-good (λ (f : Frame). f .node < 32) (λ f g. g .node)) j;
-    vars = λ j h. all-at (λ (f : Frame). length (f .vars) ≡ 16) (firstState t .frames) _ (frames-good (λ (f : Frame). length (f .vars) ≡ 16) (λ f g. g .vars)) j (omega (arith, sizes .1));
-  }
-
-  -- ---- the inputs of one more task
-
-  module _ (vs : List ℤ) (i : ℕ) (s : State) (used : ℕ) (more : i < t .tasks) where
-    abbrev wants : ℕ
-    wants = firstInputs t i
-
+  module _ (more : i < t .tasks) {m : ℕ} (wants : m ≡ firstInputs t i) where
     one-less : (n : ℕ) × (t .tasks - i ≡ suc n) × (t .tasks - (i + 1) ≡ n)
     one-less = (t .tasks - (i + 1), omega arith, refl)
 
-    pub inputs-spent : length vs - used < wants → takeInputs t (t .tasks - i) i s (drop used vs) ≡ spent
+    pub take-spent : (first : State) → first ≡ firstState t → length vs - used < m → _≡_ {A = Started} (record { spent = true; used = 0; state = first }) (startedOf t vs (begin t vs))
     unfolding takeInputs
-    inputs-spent h = let n = one-less in rw (n .1, takeInputs, lt-ltb (length (drop used vs)) wants (omega (arith, length-drop used vs))) refl
+    take-spent first e h =
+        let n = one-less in
+        let q : takeInputs t (t .tasks - i) i s (drop used vs) ≡ spent = rw (n .1, takeInputs, lt-ltb (length (drop used vs)) (firstInputs t i) (omega (arith, length-drop used vs))) refl in
+        rw (e, k .same, q) refl
 
-    pub wants-few : wants ≤ 4
-    wants-few = go (t .closed)
-      where
-        go : (b : Bool) → pick b 0 (procAt t (taskAt t i .top) .params) ≤ 4
-        go true = omega arith
-        go false = r .params (taskAt t i .top) (r .tops i more)
-
-    abbrev with-frame : Frame → State
-    with-frame f = withFrames s (set (s .frames) (8 * i) f)
-
-    pub inputs-taken : (m : ℕ) (f : Frame) → m ≡ wants → f ≡ inputFrame (taskAt t i .top) (take m (drop used vs)) → m ≤ length vs - used
-        → takeInputs t (t .tasks - i) i s (drop used vs) ≡ takeInputs t (t .tasks - (i + 1)) (i + 1) (with-frame f) (drop (used + m) vs)
+    pub take-more : {f : Frame} → f ≡ inputFrame (taskAt t i .top) (take m (drop used vs)) → m ≤ length vs - used
+        → Taking t vs (i + 1) (withFrames s (set (s .frames) (8 * i) f)) (used + m)
     unfolding takeInputs
-    inputs-taken m f e d h =
+    take-more d h =
         let n = one-less in
         let z : 8 * i + 0 ≡ 8 * i = omega arith in
-        rw (d, e, n .1, n .2, takeInputs, le-ltb (length (drop used vs)) wants (omega (arith, length-drop used vs)), add-one, z, drop-drop) refl
-
-    pub inputs-good : (m : ℕ) (f : Frame) → m ≡ wants → f ≡ inputFrame (taskAt t i .top) (take m (drop used vs)) → m ≤ length vs - used → Good t s → Good t (with-frame f)
-    inputs-good m f e d h g =
-        let v = input-vars m (drop used vs) (omega (arith, wants-few)) (omega (arith, length-drop used vs)) in
-        good-frame (with-frame f) (8 * i) f g (rw d (record { proc = r .tops i more; node = omega arith; vars = v })) refl refl
-
-pub inputs-done : (t : Table) (vs : List ℤ) (i : ℕ) (s : State) → t .tasks ≤ i → takeInputs t (t .tasks - i) i s vs ≡ begun s vs
-unfolding takeInputs
-inputs-done t vs i s h = let z : t .tasks - i ≡ 0 = omega arith in rw z refl
+        record {
+          within = omega (arith, k .within);
+          same = k .same ∙ rw (d, wants, n .1, n .2, takeInputs, le-ltb (length (drop used vs)) (firstInputs t i) (omega (arith, length-drop used vs)), add-one, z, drop-drop) refl;
+        }

@@ -1,10 +1,10 @@
--- What the runner starts from: the nodes in one row, a state whose frames stand in the table, the first state.
+-- What the runner starts from: the nodes in one row, a state whose frames stand in the table, the first state with its inputs.
 use Prim.Native.Nat.{ℕ, _+_, _-_, _*_, _<_, _≤_}
 use mathlib.Core.Path.{_≡_}
+use mathlib.Core.Bool.{true, false}
 use mathlib.Core.List.{List, [], _++_}
-use lib.ListN.{length, getD, drop, replicate}
+use lib.ListN.{length, getD, replicate}
 use lib.IntN.{ℤ, pos}
-use Rattle.table.specs.Mask.{pick}
 use Rattle.table.specs.Table.{noSlot, nodeAt}
 use Rattle.table.specs.declared.Slot.{Slot}
 use Rattle.table.specs.declared.Table.{Table}
@@ -29,15 +29,10 @@ pub record Good (t : Table) (s : State) : Type 0 where
   pub nodes : (j : ℕ) → frameIn (s .frames) j .node < 32
   pub vars : (j : ℕ) → j < 32 → length (frameIn (s .frames) j .vars) ≡ 16
 
-abbrev pub begunOf : List ℤ → Started → Begun
-begunOf vs r = pick (r .spent) spent (begun (r .state) (drop (r .used) vs))
-
-pub record Begins (t : Table) (vs : List ℤ) (b : Begun) (r : Started) : Type 0 where
-  pub is : b ≡ begunOf vs r
-  pub within : r .used ≤ length vs
-  pub good : Good t (r .state)
-  -- where the values are spent, all locals are 0
-  pub still : pick (r .spent) (r .state) (firstState t) ≡ firstState t
+-- what a run starts with; "15 at the start .. leaves all locals 0 and 0 used"
+abbrev pub startedOf : Table → List ℤ → Begun → Started
+startedOf t vs spent = record { spent = true; used = 0; state = firstState t }
+startedOf t vs (begun s rest) = record { spent = false; used = length vs - length rest; state = s }
 
 -- a first frame with its inputs
 abbrev pub inputFrame : ℕ → List ℤ → Frame

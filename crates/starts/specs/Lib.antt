@@ -2,3 +2,4 @@ pub mod Ready
 pub mod Begins
 pub mod GoodLaws
 pub mod ReadyLaws
+pub mod StartLaws

@@ -1,5 +1,5 @@
 -- What the run of a table leans on. All of it holds of a table that has no fault, with the masks of its kept nodes.
-use Prim.Native.Nat.{ℕ, _-_, _<_, _≤_}
+use Prim.Native.Nat.{ℕ, _<_, _≤_}
 use mathlib.Core.Path.{_≡_}
 use mathlib.Core.List.{List}
 use lib.ListN.{length, getD}

@@ -7,7 +7,7 @@ ghost use mathlib.Core.Bool.{true};
 ghost use Rattle.table.specs.Mask.{pick};
 ghost use Rattle.machine.specs.State.{noFrame, noVars, firstState, begin};
 ghost use Rattle.starts.specs.Ready.{Ready};
-ghost use Rattle.starts.specs.Begins.{Row, Begins, inputFrame};
+ghost use Rattle.starts.specs.Begins.{Row, startedOf, inputFrame};
 use machine::Entries;
 use machine::Frame;
 use machine::Running;
@@ -16,7 +16,7 @@ use table::Node;
 use table::Slot;
 use table::Table;
 
-// The first state with its inputs and the values used; or the value list is spent.
+// The first state with its inputs and the values used; or the value list is spent, all locals are 0 and no value is used.
 pub struct Started {
     pub spent: bool,
     pub used: usize,
@@ -135,7 +135,7 @@ fn inputs(closed: bool, params: u8) -> u8
 
 pub fn start(t: Table, keep: [u32; 8], values: &[i32]) -> Started
     requires { ⌜ Ready t keep ⌝ }
-    ensures { λ r. ⌜ Begins t (now (values .entry)) (begin t (now (values .entry))) r ⌝ }
+    ensures { λ r. ⌜ r ≡ startedOf t (now (values .entry)) (begin t (now (values .entry))) ⌝ }
 {
     let first = first_state(t);
     let mut s = first;

@@ -27,11 +27,11 @@ module _ (m : ℕ) (fits : m < 4294967296) (some-in : m ≡ 0 → ⊥) where
 abbrev nthOf : ℕ → List ℤ → ℕ → ℕ
 nthOf arc vs used = targetAt (members arc) (getD vs used (pos 0))
 
-pub toss-spent : (arc keep : ℕ) (vs : List ℤ) (used : ℕ) → length vs ≤ used → halting 15 used ≡ tossed arc keep vs used
+pub toss-spent : (arc keep : ℕ) (vs : List ℤ) (used : ℕ) → length vs ≤ used → halting 15 used ≡ tossed (members arc) keep vs used
 toss-spent arc keep vs used h = rw (le-leb (length vs) used h) refl
 
-pub toss-none : (arc keep : ℕ) (vs : List ℤ) (used j : ℕ) → used < length vs → j ≡ nthOf arc vs used → j ≡ 32 → halting 16 used ≡ tossed arc keep vs used
+pub toss-none : (arc keep : ℕ) (vs : List ℤ) (used j : ℕ) → used < length vs → j ≡ nthOf arc vs used → j ≡ 32 → halting 16 used ≡ tossed (members arc) keep vs used
 toss-none arc keep vs used j h e z = rw (lt-leb (length vs) used h, ← e, z) refl
 
-pub toss-goes : (arc keep : ℕ) (vs : List ℤ) (used j : ℕ) → used < length vs → j ≡ nthOf arc vs used → (j ≡ 32 → ⊥) → meeting keep j (used + 1) ≡ tossed arc keep vs used
+pub toss-goes : (arc keep : ℕ) (vs : List ℤ) (used j : ℕ) → used < length vs → j ≡ nthOf arc vs used → (j ≡ 32 → ⊥) → meeting keep j (used + 1) ≡ tossed (members arc) keep vs used
 toss-goes arc keep vs used j h e z = rw (lt-leb (length vs) used h, ← e, ne-eqb j 32 z) refl

@@ -1,1 +1,2 @@
 pub mod Tosses
+pub mod TossLaws

@@ -3,7 +3,7 @@ ghost use mathlib.Core.Path.{_≡_};
 ghost use Prim.Native.Nat.{_<_, _≤_};
 ghost use lib.ListN.{length, getD};
 ghost use Rattle.table.specs.Mask.{members};
-ghost use Rattle.tosses.specs.Tosses.{Arrived, meeting, halting, tossed, directOf};
+ghost use Rattle.tosses.specs.Tosses.{meeting, halting, tossed, arrivedOf, directOf};
 
 // An arc taken: the node met, or lost, or the stop's number; and whether the walk over dropped nodes is over.
 pub struct Chosen {
@@ -59,7 +59,7 @@ pub fn halted(stop: u8, used: usize) -> Chosen
 // Two or more targets: the next value chooses.
 fn toss(arc: u32, keep: u32, values: &[i32], used: usize) -> Chosen
     requires { ⌜ used ≤ length (now values) ⌝ }
-    ensures { λ r. ⌜ r ≡ tossed arc keep (now (values .entry)) used ⌝ }
+    ensures { λ r. ⌜ r ≡ tossed (members arc) keep (now (values .entry)) used ⌝ }
 {
     if values.len() <= used {
         return halted(15, used);
@@ -74,7 +74,7 @@ fn toss(arc: u32, keep: u32, values: &[i32], used: usize) -> Chosen
 
 pub fn arrive(arc: u32, keep: u32, values: &[i32], used: usize) -> Chosen
     requires { ⌜ used ≤ length (now values) ⌝ }
-    ensures { λ r. ⌜ Arrived arc keep (now (values .entry)) used r ⌝ }
+    ensures { λ r. ⌜ r ≡ arrivedOf arc keep (now (values .entry)) used ⌝ }
 {
     if arc == 0 {
         return Chosen {

@@ -18,6 +18,7 @@ use Rattle.values.proofs.Again.{again}
 use Rattle.decoding.specs.Decoding.{noOpcode, bareOf, bare}
 use Rattle.columns.specs.Columns.{stateOf}
 use Rattle.starts.specs.Begins.{Good}
+use Rattle.tosses.specs.TossLaws.{arrived}
 use Rattle.straight.specs.Turns.{Columns, columns, turn, triedTurn, Lands}
 use Rattle.runner.proofs.Turns.{Ends, within, rest-less}
 use Rattle.runner.proofs.Stores.{state-of, shape-of, proc-in, node-in}
@@ -124,7 +125,7 @@ ahead-long : (c : tie.After-ahead Inv-loop2 μ-loop2 Inv-loop μ-loop) → lengt
 ahead-long c = ap length (ahead-is c) ∙ (c .before .before .before .before .before .before .before .loop2) .inv .long
 
 d-below : (c : tie.After-place3 Inv-loop2 μ-loop2 Inv-loop μ-loop) → (c .place3) .result < 256
-d-below c = omega (arith, (c .place3) .ensures, p-low (S (c .before .before .before .before .before .before .before .before .before .before .before .before .before .before .before .before .before .before .before .before .before .before .before .before .before .before .before .before .before .before .before .before .before .before .before .before .before .before .before .before .before .before)) (whole (c .before .before .before .before .before .before .before .before .before .before .before .before .before .before .before .before .before .before .before .before .before .before .before .before .before .before .before .before .before .before .before .before .before .before .before .before .before .before .before .before .before .before)) (size (c .before .before .before .before .before .before .before .before .before .before .before .before .before .before .before .before .before .before .before .before .before .before .before .before .before .before .before .before .before .before .before .before .before .before .before .before .before .before .before .before .before .before)) (K (c .before .before .before .before .before .before .before .before .before .before .before .before .before .before .before .before .before .before .before .before .before .before .before .before .before .before .before .before .before .before .before .before .before .before .before .before .before .before .before .before .before .before)) (Left (c .before .before .before .before .before .before .before .before .before .before .before .before .before .before .before .before .before .before .before .before .before .before)) ((c .before .before .before .before .before .before .before .before .before .before .before .before .before .before .before .before .before .before .before .before .before .before .before .before .before .before .before .before .before .before .before .before .before .before .before .before .top-of) .result) (X (c .before .before .before .before .before .before .before .before .before .before .before .before .before .before .before .before .before .before .before .before .before .before .before .before .before .before .before .before .before .before .before .before .before .before .before)) (wt (c .before .before .before .before .before .before .before .before .before .before .before .before .before .before .before .before .before .before .before .before .before)) ((c .before .before .before .before .before .before .before .before .before .before .before .before .before .before .before .before .before .before .before .closes) .result) ((c .before .before .before .before .before .before .before .before .before .before .before .before .before .before .before .before .before .before .under) .result) ((c .before .before .before .before .before .before .before .before .before .before .before .before .before .before .before .before .before .before .before .closes) .ensures) (g-is (c .before .before .before .before .before .before .before .before .before .before .before .before .before .before .before .before .before .before)), (c .before .before .before .before .before .before .before .arrive) .ensures .sound .place)
+d-below c = omega (arith, (c .place3) .ensures, p-low (S (c .before .before .before .before .before .before .before .before .before .before .before .before .before .before .before .before .before .before .before .before .before .before .before .before .before .before .before .before .before .before .before .before .before .before .before .before .before .before .before .before .before .before)) (whole (c .before .before .before .before .before .before .before .before .before .before .before .before .before .before .before .before .before .before .before .before .before .before .before .before .before .before .before .before .before .before .before .before .before .before .before .before .before .before .before .before .before .before)) (size (c .before .before .before .before .before .before .before .before .before .before .before .before .before .before .before .before .before .before .before .before .before .before .before .before .before .before .before .before .before .before .before .before .before .before .before .before .before .before .before .before .before .before)) (K (c .before .before .before .before .before .before .before .before .before .before .before .before .before .before .before .before .before .before .before .before .before .before .before .before .before .before .before .before .before .before .before .before .before .before .before .before .before .before .before .before .before .before)) (Left (c .before .before .before .before .before .before .before .before .before .before .before .before .before .before .before .before .before .before .before .before .before .before)) ((c .before .before .before .before .before .before .before .before .before .before .before .before .before .before .before .before .before .before .before .before .before .before .before .before .before .before .before .before .before .before .before .before .before .before .before .before .top-of) .result) (X (c .before .before .before .before .before .before .before .before .before .before .before .before .before .before .before .before .before .before .before .before .before .before .before .before .before .before .before .before .before .before .before .before .before .before .before)) (wt (c .before .before .before .before .before .before .before .before .before .before .before .before .before .before .before .before .before .before .before .before .before)) ((c .before .before .before .before .before .before .before .before .before .before .before .before .before .before .before .before .before .before .before .closes) .result) ((c .before .before .before .before .before .before .before .before .before .before .before .before .before .before .before .before .before .before .under) .result) ((c .before .before .before .before .before .before .before .before .before .before .before .before .before .before .before .before .before .before .before .closes) .ensures) (g-is (c .before .before .before .before .before .before .before .before .before .before .before .before .before .before .before .before .before .before)), arrived _ _ _ _ ((c .before .before .before .before .before .before .before .before .loop2) .inv .within) ((c .before .before .before .before .before .before .before .arrive) .ensures) .sound .place)
 
 ends : (c : tie.Joined5 Inv-loop2 μ-loop2 Inv-loop μ-loop) → Ends ((c .before .before .before .before .before .before .before .before .before .before .before .before .before .before .before .before .before .before .before .before .before .before .before .before .before .before .before .before .before .before .before .before .before .before .before .before .before .before .before .before .before .before .before .before .before .before .before .before .before .before .before .before .before .before .before .before .before .before .before .before .before .args) .t) ((c .before .before .before .before .before .before .before .before .before .before .before .before .before .before .before .before .before .before .before .before .before .before .before .before .before .before .before .before .before .before .before .before .before .before .before .before .before .before .before .before .before .before .before .before .before .before .before .before .before .before .before .before .before .before .before .before .before .before .before .before .before .args) .t2) (K (c .before .before .before .before .before .before .before .before .before .before .before .before .before .before .before .before .before .before .before .before .before .before .before .before .before .before .before .before .before .before .before .before .before .before .before .before) .ready) ((c .before .before .before .before .before .before .before .before .before .before .before .before .before .before .before .before .before .before .before .before .before .before .before .before .before .before .before .before .before .before .before .before .before .before .before .before .before .before .before .before .before .before .before .before .before .before .before .before .before .before .before .before .before .before .before .before .before .before .before .before .before .args) .most) ((c .before .before .before .before .before .before .before .before .before .before .before .before .before .before .before .before .before .before .before .before .before .before .before .before .before .before .before .before .before .before .before .before .before .before .before .before .before .before .before .before .before .before .before .before .before .before .before .before .before .before .before .before .before .before .before .before .before .before .before .before .before .args) .values .now) (getD ((c .before .before .before .before .before .before .before .before .before .before .before .before .before .before .before .before .direct) .last .1 .1 .1 .1 .1 .1 .1 .1 .1 .1 .1 .0) ((c .before .before .before .before .before .before .before .before .before .before .before .before .under) .result) 0) ((c .before .before .loop2) .m) (pick ((c .before .before .loop2) .far) ((c .before .before .loop2) .w) (set (getD ((c .before .before .before .before .before .before .before .before .before .before .before .before .before .before .before .before .direct) .last .1 .1 .1 .1 .1 .1 .1 .1 .1 .1 .1 .1 .1 .0) ((c .before .before .before .before .before .before .before .before .before .before .before .before .under) .result) []) ((c .before .before .before .before .before .act) .result .var) ((c .before .before .before .before .before .act) .result .value))) ((c .before .before .loop2) .arc) ((c .before .before .loop2) .us) ((c .if5) .z)
 ends c =
@@ -339,7 +340,7 @@ ahead-requires : tie.Need-ahead-requires Inv-loop2 μ-loop2 Inv-loop μ-loop
 ahead-requires c κs = vars-long (S (c .before .before .before .before .before .before .before .before .before .before .before .before .before .before .before .before .before .before .before .before .before .before .before .before .before .before .before .before .before .before .before .before .before .before .before .before .before .before .before .before)) (whole (c .before .before .before .before .before .before .before .before .before .before .before .before .before .before .before .before .before .before .before .before .before .before .before .before .before .before .before .before .before .before .before .before .before .before .before .before .before .before .before .before)) (size (c .before .before .before .before .before .before .before .before .before .before .before .before .before .before .before .before .before .before .before .before .before .before .before .before .before .before .before .before .before .before .before .before .before .before .before .before .before .before .before .before)) (K (c .before .before .before .before .before .before .before .before .before .before .before .before .before .before .before .before .before .before .before .before .before .before .before .before .before .before .before .before .before .before .before .before .before .before .before .before .before .before .before .before)) (Left (c .before .before .before .before .before .before .before .before .before .before .before .before .before .before .before .before .before .before .before .before)) ((c .before .before .before .before .before .before .before .before .before .before .before .before .before .before .before .before .before .before .before .before .before .before .before .before .before .before .before .before .before .before .before .before .before .before .top-of) .result) (X (c .before .before .before .before .before .before .before .before .before .before .before .before .before .before .before .before .before .before .before .before .before .before .before .before .before .before .before .before .before .before .before .before .before)) (wt (c .before .before .before .before .before .before .before .before .before .before .before .before .before .before .before .before .before .before .before) .stands) ((c .before .before .before .before .before .before .before .before .before .before .before .before .before .before .before .before .under) .result) (g-low (S (c .before .before .before .before .before .before .before .before .before .before .before .before .before .before .before .before .before .before .before .before .before .before .before .before .before .before .before .before .before .before .before .before .before .before .before .before .before .before .before .before)) (whole (c .before .before .before .before .before .before .before .before .before .before .before .before .before .before .before .before .before .before .before .before .before .before .before .before .before .before .before .before .before .before .before .before .before .before .before .before .before .before .before .before)) (size (c .before .before .before .before .before .before .before .before .before .before .before .before .before .before .before .before .before .before .before .before .before .before .before .before .before .before .before .before .before .before .before .before .before .before .before .before .before .before .before .before)) (K (c .before .before .before .before .before .before .before .before .before .before .before .before .before .before .before .before .before .before .before .before .before .before .before .before .before .before .before .before .before .before .before .before .before .before .before .before .before .before .before .before)) (Left (c .before .before .before .before .before .before .before .before .before .before .before .before .before .before .before .before .before .before .before .before)) ((c .before .before .before .before .before .before .before .before .before .before .before .before .before .before .before .before .before .before .before .before .before .before .before .before .before .before .before .before .before .before .before .before .before .before .top-of) .result) (X (c .before .before .before .before .before .before .before .before .before .before .before .before .before .before .before .before .before .before .before .before .before .before .before .before .before .before .before .before .before .before .before .before .before)) (wt (c .before .before .before .before .before .before .before .before .before .before .before .before .before .before .before .before .before .before .before)) ((c .before .before .before .before .before .before .before .before .before .before .before .before .before .before .before .before .before .closes) .result) ((c .before .before .before .before .before .before .before .before .before .before .before .before .before .before .before .before .under) .result) ((c .before .before .before .before .before .before .before .before .before .before .before .before .before .before .before .before .before .closes) .ensures) (g-is (c .before .before .before .before .before .before .before .before .before .before .before .before .before .before .before .before)))
 
 place-requires-3 : tie.Need-place-requires-3 Inv-loop2 μ-loop2 Inv-loop μ-loop
-place-requires-3 c κs = (p-low (S (c .before .before .before .before .before .before .before .before .before .before .before .before .before .before .before .before .before .before .before .before .before .before .before .before .before .before .before .before .before .before .before .before .before .before .before .before .before .before .before .before .before)) (whole (c .before .before .before .before .before .before .before .before .before .before .before .before .before .before .before .before .before .before .before .before .before .before .before .before .before .before .before .before .before .before .before .before .before .before .before .before .before .before .before .before .before)) (size (c .before .before .before .before .before .before .before .before .before .before .before .before .before .before .before .before .before .before .before .before .before .before .before .before .before .before .before .before .before .before .before .before .before .before .before .before .before .before .before .before .before)) (K (c .before .before .before .before .before .before .before .before .before .before .before .before .before .before .before .before .before .before .before .before .before .before .before .before .before .before .before .before .before .before .before .before .before .before .before .before .before .before .before .before .before)) (Left (c .before .before .before .before .before .before .before .before .before .before .before .before .before .before .before .before .before .before .before .before .before)) ((c .before .before .before .before .before .before .before .before .before .before .before .before .before .before .before .before .before .before .before .before .before .before .before .before .before .before .before .before .before .before .before .before .before .before .before .top-of) .result) (X (c .before .before .before .before .before .before .before .before .before .before .before .before .before .before .before .before .before .before .before .before .before .before .before .before .before .before .before .before .before .before .before .before .before .before)) (wt (c .before .before .before .before .before .before .before .before .before .before .before .before .before .before .before .before .before .before .before .before)) ((c .before .before .before .before .before .before .before .before .before .before .before .before .before .before .before .before .before .before .closes) .result) ((c .before .before .before .before .before .before .before .before .before .before .before .before .before .before .before .before .before .under) .result) ((c .before .before .before .before .before .before .before .before .before .before .before .before .before .before .before .before .before .before .closes) .ensures) (g-is (c .before .before .before .before .before .before .before .before .before .before .before .before .before .before .before .before .before)), (c .before .before .before .before .before .before .arrive) .ensures .sound .place)
+place-requires-3 c κs = (p-low (S (c .before .before .before .before .before .before .before .before .before .before .before .before .before .before .before .before .before .before .before .before .before .before .before .before .before .before .before .before .before .before .before .before .before .before .before .before .before .before .before .before .before)) (whole (c .before .before .before .before .before .before .before .before .before .before .before .before .before .before .before .before .before .before .before .before .before .before .before .before .before .before .before .before .before .before .before .before .before .before .before .before .before .before .before .before .before)) (size (c .before .before .before .before .before .before .before .before .before .before .before .before .before .before .before .before .before .before .before .before .before .before .before .before .before .before .before .before .before .before .before .before .before .before .before .before .before .before .before .before .before)) (K (c .before .before .before .before .before .before .before .before .before .before .before .before .before .before .before .before .before .before .before .before .before .before .before .before .before .before .before .before .before .before .before .before .before .before .before .before .before .before .before .before .before)) (Left (c .before .before .before .before .before .before .before .before .before .before .before .before .before .before .before .before .before .before .before .before .before)) ((c .before .before .before .before .before .before .before .before .before .before .before .before .before .before .before .before .before .before .before .before .before .before .before .before .before .before .before .before .before .before .before .before .before .before .before .top-of) .result) (X (c .before .before .before .before .before .before .before .before .before .before .before .before .before .before .before .before .before .before .before .before .before .before .before .before .before .before .before .before .before .before .before .before .before .before)) (wt (c .before .before .before .before .before .before .before .before .before .before .before .before .before .before .before .before .before .before .before .before)) ((c .before .before .before .before .before .before .before .before .before .before .before .before .before .before .before .before .before .before .closes) .result) ((c .before .before .before .before .before .before .before .before .before .before .before .before .before .before .before .before .before .under) .result) ((c .before .before .before .before .before .before .before .before .before .before .before .before .before .before .before .before .before .before .closes) .ensures) (g-is (c .before .before .before .before .before .before .before .before .before .before .before .before .before .before .before .before .before)), arrived _ _ _ _ ((c .before .before .before .before .before .before .before .loop2) .inv .within) ((c .before .before .before .before .before .before .arrive) .ensures) .sound .place)
 
 mul-dl : tie.Need-mul-dl Inv-loop2 μ-loop2 Inv-loop μ-loop
 mul-dl c = record { fits = omega (arith, d-below c) }
@@ -348,7 +349,7 @@ array-copy-out-dl : tie.Need-array-copy-out-dl Inv-loop2 μ-loop2 Inv-loop μ-lo
 array-copy-out-dl c = d-below c
 
 pass-requires : tie.Need-pass-requires Inv-loop2 μ-loop2 Inv-loop μ-loop
-pass-requires c κs = (ahead-long (c .before .before .before), (c .before .before .before .before .before .before .before .before .before .arrive) .ensures .sound .within)
+pass-requires c κs = (ahead-long (c .before .before .before), arrived _ _ _ _ ((c .before .before .before .before .before .before .before .before .before .before .loop2) .inv .within) ((c .before .before .before .before .before .before .before .before .before .arrive) .ensures) .sound .within)
 
 halted-requires-2 : tie.Need-halted-requires-2 Inv-loop2 μ-loop2 Inv-loop μ-loop
 halted-requires-2 c κs = search needs

@@ -1,17 +1,15 @@
+-- `starts::start` starts a run as `begin` says. The invariant: the inputs of the first `i` tasks are taken, which are the first `used` values.
 use borrow.Author.Needs.{needs}
 use native.Mathlib.Omega.{arith}
-use mathlib.Core.Path.{_≡_, refl, sym, ap, _∙_}
-use Prim.Native.Nat.{ℕ, _-_, _≤_}
-use lib.ListN.{length, drop}
-use Rattle.starts.proofs.Starts.{start-good, inputs-spent, inputs-taken, inputs-good, inputs-done, wants-few}
-use Rattle.machine.specs.State.{takeInputs, begin}
-use Rattle.machine.specs.declared.State.{State}
-use Rattle.starts.specs.Begins.{Good}
+use mathlib.Core.Path.{_≡_, refl}
+use Prim.Native.Nat.{_-_, _≤_}
+use Rattle.starts.specs.StartLaws.{inputs-few}
+use Rattle.starts.proofs.Starts.{Taking, take-first, take-spent, take-more, take-done}
 use Rattle.starts.proofs.start.Statement.{statement}
 use Rattle.starts.proofs.start.Tie as tie
 
 abbrev Inv-loop : tie.InvT-loop
-Inv-loop values t first s₀ i₀ used₀ n s i used = (n ≡ t .tasks) × ((i ≤ n) × ((used ≤ length values) × ((takeInputs t (t .tasks) 0 first values ≡ takeInputs t (t .tasks - i) i s (drop used values)) × Good t s)))
+Inv-loop values t first s₀ i₀ used₀ n s i used = (n ≡ t .tasks) × ((i ≤ n) × Taking t values i s used)
 
 abbrev μ-loop : tie.MeasureT-loop
 μ-loop values t first s₀ i₀ used₀ n s i used = n - i
@@ -23,7 +21,7 @@ cast-n : tie.Need-cast-n Inv-loop μ-loop
 cast-n c = search needs
 
 loop-holds : tie.Need-loop-holds Inv-loop μ-loop
-loop-holds c = (refl, (omega arith, (omega arith, (ap (λ (n : ℕ). takeInputs ((c .before .args) .t1) n 0 ((c .first-state) .result) ((c .before .args) .values .now)) (omega arith), rw ((c .first-state) .ensures) (start-good ((c .before .args) .t1) (c .before .pre))))))
+loop-holds c = (refl, (omega arith, take-first (c .before .args .t1) (c .before .args .values .now) (c .first-state .result) (c .first-state .ensures)))
 
 element-copy-out-k : tie.Need-element-copy-out-k Inv-loop μ-loop
 element-copy-out-k c = search needs
@@ -47,11 +45,10 @@ cast-if1 : tie.Need-cast-if1 Inv-loop μ-loop
 cast-if1 c = search needs
 
 returns : tie.Need-returns Inv-loop μ-loop
-unfolding begin
-returns c = record { is = ap (λ (x : State). takeInputs ((c .before .before .before .before .before .before .before .before .args) .t1) ((c .before .before .before .before .before .before .before .before .args) .t1 .tasks) 0 x ((c .before .before .before .before .before .before .before .before .args) .values .now)) (sym ((c .before .before .before .before .before .before .before .first-state) .ensures)) ∙ (c .before .before .before .before .before .before .loop) .inv .1 .1 .1 .0 ∙ inputs-spent ((c .before .before .before .before .before .before .before .before .args) .t1) (c .before .before .before .before .before .before .before .before .pre) ((c .before .before .before .before .before .before .before .before .args) .values .now) ((c .before .before .before .before .before .before .loop) .i) ((c .before .before .before .before .before .before .loop) .s) ((c .before .before .before .before .before .before .loop) .used) (omega arith) (omega (arith, (c .before .inputs) .ensures, (c .if1) .taken)); within = omega arith; good = rw ((c .before .before .before .before .before .before .before .first-state) .ensures) (start-good ((c .before .before .before .before .before .before .before .before .args) .t1) (c .before .before .before .before .before .before .before .before .pre)); still = (c .before .before .before .before .before .before .before .first-state) .ensures }
+returns c = take-spent (c .before .before .before .before .before .before .loop .inv .1 .1) (omega arith) (c .before .inputs .ensures) (c .before .before .before .before .before .before .before .first-state .result) (c .before .before .before .before .before .before .before .first-state .ensures) (c .if1 .taken)
 
 input-frame-requires : tie.Need-input-frame-requires Inv-loop μ-loop
-input-frame-requires c κs = (omega (arith, (c .before .inputs) .ensures, wants-few ((c .before .before .before .before .before .before .before .before .args) .t1) (c .before .before .before .before .before .before .before .before .pre) ((c .before .before .before .before .before .before .before .before .args) .values .now) ((c .before .before .before .before .before .before .loop) .i) ((c .before .before .before .before .before .before .loop) .s) ((c .before .before .before .before .before .before .loop) .used) (omega (arith, (c .before .before .before .before .before .loop-test) .taken, (c .before .before .before .before .before .before .loop) .inv .0))), omega (arith, (c .if1) .left, (c .before .before .before .before .before .before .loop) .inv .1 .1 .0))
+input-frame-requires c κs = (omega (arith, c .before .inputs .ensures, inputs-few (c .before .before .before .before .before .before .before .before .args .t1) (c .before .before .before .before .before .before .before .before .pre) (c .before .before .before .before .before .before .loop .i) (omega arith)), omega (arith, c .if1 .left, c .before .before .before .before .before .before .loop .inv .1 .1 .within))
 
 mul-t20 : tie.Need-mul-t20 Inv-loop μ-loop
 mul-t20 c = search needs
@@ -75,11 +72,10 @@ loop-less : tie.Need-loop-less Inv-loop μ-loop
 loop-less c = search needs
 
 loop-again : tie.Need-loop-again Inv-loop μ-loop
-loop-again c = (refl, (omega arith, (omega (arith, (c .before .if1) .left, (c .before .before .before .before .before .before .before .loop) .inv .1 .1 .0), ((c .before .before .before .before .before .before .before .loop) .inv .1 .1 .1 .0 ∙ inputs-taken ((c .before .before .before .before .before .before .before .before .before .args) .t1) (c .before .before .before .before .before .before .before .before .before .pre) ((c .before .before .before .before .before .before .before .before .before .args) .values .now) ((c .before .before .before .before .before .before .before .loop) .i) ((c .before .before .before .before .before .before .before .loop) .s) ((c .before .before .before .before .before .before .before .loop) .used) (omega (arith, (c .before .before .before .before .before .before .loop-test) .taken, (c .before .before .before .before .before .before .before .loop) .inv .0)) ((c .before .before .inputs) .result) ((c .input-frame) .result) ((c .before .before .inputs) .ensures) ((c .input-frame) .ensures) ((c .before .if1) .left), inputs-good ((c .before .before .before .before .before .before .before .before .before .args) .t1) (c .before .before .before .before .before .before .before .before .before .pre) ((c .before .before .before .before .before .before .before .before .before .args) .values .now) ((c .before .before .before .before .before .before .before .loop) .i) ((c .before .before .before .before .before .before .before .loop) .s) ((c .before .before .before .before .before .before .before .loop) .used) (omega (arith, (c .before .before .before .before .before .before .loop-test) .taken, (c .before .before .before .before .before .before .before .loop) .inv .0)) ((c .before .before .inputs) .result) ((c .input-frame) .result) ((c .before .before .inputs) .ensures) ((c .input-frame) .ensures) ((c .before .if1) .left) ((c .before .before .before .before .before .before .before .loop) .inv .1 .1 .1 .1)))))
+loop-again c = (refl, (omega arith, take-more (c .before .before .before .before .before .before .before .loop .inv .1 .1) (omega arith) (c .before .before .inputs .ensures) (c .input-frame .ensures) (c .before .if1 .left)))
 
 returns-2 : tie.Need-returns-2 Inv-loop μ-loop
-unfolding begin
-returns-2 c = record { is = ap (λ (x : State). takeInputs ((c .before .before .before .args) .t1) ((c .before .before .before .args) .t1 .tasks) 0 x ((c .before .before .before .args) .values .now)) (sym ((c .before .before .first-state) .ensures)) ∙ (c .before .loop) .inv .1 .1 .1 .0 ∙ inputs-done ((c .before .before .before .args) .t1) (drop ((c .before .loop) .used) ((c .before .before .before .args) .values .now)) ((c .before .loop) .i) ((c .before .loop) .s) (omega arith); within = (c .before .loop) .inv .1 .1 .0; good = (c .before .loop) .inv .1 .1 .1 .1; still = refl }
+returns-2 c = take-done (c .before .loop .inv .1 .1) (omega arith)
 
 pub start-spec : {M : Type 1} → statement M
 start-spec =

@@ -8,7 +8,8 @@ use mir.Val.{ofZ}
 use Rattle.table.specs.Mask.{members}
 use Rattle.values.proofs.Again.{again}
 use Rattle.tosses.proofs.Leaves.{toss-spent, toss-none, toss-goes}
-use Rattle.tosses.proofs.Arcs.{nth-lt, target-is}
+use Rattle.tosses.specs.TossLaws.{nth-lt}
+use Rattle.tosses.proofs.Arcs.{target-is}
 use Rattle.tosses.proofs.toss.Statement.{statement}
 use Rattle.tosses.proofs.toss.Tie as tie
 
