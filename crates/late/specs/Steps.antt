@@ -1,21 +1,22 @@
 -- What nodes are judged by, and the answer, as the code finds them.
 use Prim.Native.Nat.{ℕ, _+_, _≤_, _<_}
-use mathlib.Core.Path.{_≡_, refl, sym, _∙_, ap}
+use mathlib.Core.Path.{_≡_, sym, _∙_}
 use mathlib.Core.List.{List, map}
 use native.Mathlib.Omega.{arith}
 use lib.Dec.{eqb}
-use lib.ListN.{length, getD, set, replicate, length-map, length-set, length-replicate, List·getD-eq-default}
-use lib.Seq.{getD-set-same, getD-set-other}
+use lib.ListN.{length, getD, set, replicate, length-map, length-set, length-replicate}
+use lib.Seq.{getD-set-same, getD-set-other, ext-getD}
 use borrow.Author.Tests.{eqb-true, eqb-false, eq-eqb, ne-eqb}
-use Rattle.table.specs.Table.{outside, procAt}
+use Rattle.table.specs.Table.{procAt}
 use Rattle.table.specs.declared.Table.{Table}
-use Rattle.table.specs.declared.Proc.{Proc}
 use Rattle.text.specs.declared.Fault.the-variants.{Arguments, Unclosed}
-use Rattle.text.specs.NumberLaws.{cases, byOrder}
+use Rattle.text.specs.NumberLaws.{cases}
 use Rattle.late_nodes.specs.declared.Callee.{Callee}
 use Rattle.late_lines.specs.declared.At.{At}
 use Rattle.late.specs.declared.Late.the-variants.{Good, Bad}
-use Rattle.late_nodes.specs.Terms.{TermsOf, noCallee}
+use Rattle.late_nodes.specs.declared.Terms.{Terms}
+use Rattle.late_nodes.specs.Terms.{noCallee, calleeOf, termsOf}
+use Rattle.late_nodes.specs.NodeLaws.{callee-of}
 use Rattle.late.specs.Late.{lateOf}
 
 -- ---- what nodes are judged by, filled up to place n
@@ -23,9 +24,6 @@ use Rattle.late.specs.Late.{lateOf}
 -- an array's list has its length as a list of machine values
 pub values-long : {A B : Type 0} (f : A → B) (xs : List A) (n : ℕ) → length (map f xs) ≡ n → length xs ≡ n
 values-long f xs n e = sym (length-map xs f) ∙ e
-
-abbrev pub calleeOf : Proc → Callee
-calleeOf q = record { params = q .params; drop = q .drop }
 
 pub record Filled (t : Table) (n : ℕ) (xs : List Callee) : Type 0 where
   pub long : length xs ≡ 8
@@ -42,18 +40,11 @@ filled-more t n xs l f = record {
       (λ e. getD-set-other xs n k (calleeOf (procAt t n)) noCallee (eqb-false k n e) ∙ f .each k (omega (arith, eqb-false k n e)));
 }
 
-filled-all : (t : Table) (n : ℕ) (xs : List Callee) → length (t .proc) ≡ 8 → 8 ≤ n → Filled t n xs → (k : ℕ) → getD xs k noCallee ≡ calleeOf (procAt t k)
-filled-all t n xs e l f k = byOrder k 8
-    (λ u. f .each k (omega arith))
-    (λ u. List·getD-eq-default xs noCallee {n = k} (omega (arith, f .long)) ∙ ap calleeOf (sym (List·getD-eq-default (t .proc) outside {n = k} (omega arith))))
+filled-all : (t : Table) (n : ℕ) (xs : List Callee) → length (t .proc) ≡ 8 → 8 ≤ n → Filled t n xs → xs ≡ map calleeOf (t .proc)
+filled-all t n xs e l f = ext-getD noCallee xs (map calleeOf (t .proc)) (f .long ∙ sym (length-map (t .proc) calleeOf ∙ e)) (λ k u. f .each k (omega (arith, f .long)) ∙ sym (callee-of t k))
 
-pub filled-terms : (t : Table) (n : ℕ) (xs : List Callee) → length (t .proc) ≡ 8 → 8 ≤ n → Filled t n xs → TermsOf t (record { closed = t .closed; callee = xs; queue = t .queue })
-filled-terms t n xs e l f = record {
-  closed = refl;
-  params = λ k. ap (λ (x : Callee). x .params) (filled-all t n xs e l f k);
-  drop = λ k. ap (λ (x : Callee). x .drop) (filled-all t n xs e l f k);
-  blank = λ k. refl;
-}
+pub filled-terms : (t : Table) (n : ℕ) (xs : List Callee) → length (t .proc) ≡ 8 → 8 ≤ n → Filled t n xs → _≡_ {A = Terms} (record { closed = t .closed; callee = xs; queue = t .queue }) (termsOf t)
+filled-terms t n xs e l f = λ ι. record { closed = t .closed; callee = filled-all t n xs e l f ι; queue = t .queue }
 
 -- ---- the answer
 

@@ -6,7 +6,7 @@ use mathlib.Core.Option.{Option, none, some}
 use mathlib.Core.Bool.{Bool, true, false, not, _&&_, _||_}
 use lib.ListN.{replicate}
 use Rattle.table.specs.Mask.{pick, bit}
-use Rattle.table.specs.Table.{taskAt, procAt, nodeIn, arcs, isAbsent}
+use Rattle.table.specs.Table.{taskAt, procAt, nodeIn, nodeAt, arcs, isAbsent}
 use Rattle.table.specs.declared.Node.{Node}
 use Rattle.table.specs.declared.Proc.{Proc}
 use Rattle.table.specs.declared.Table.{Table}
@@ -18,11 +18,27 @@ use Rattle.text.specs.Reader.{allBelow, allPresent, countRight, removedRight, t
 use Rattle.late_lines.specs.declared.At.{At}
 use Rattle.late.specs.declared.Late.{Late}
 use Rattle.late.specs.Late.{lateIn, lateOf}
-use Rattle.late_lines.specs.Places.{firstAt}
-use Rattle.late_lines.specs.Walks.{tasksLate, at-good, at-bad, at-none}
+use Rattle.late_lines.specs.Places.{dropFault, tasksLateBy, procLateBy, firstAt}
+use Rattle.late_lines.specs.Walks.{at-good, at-bad, at-none}
+use Rattle.late_nodes.specs.declared.Terms.{Terms}
+use Rattle.late_nodes.specs.Terms.{termsOf}
+use Rattle.late_nodes.specs.NodeLaws.{callee-of, node-of}
+
+abbrev pub tasksLate : Table → List (Option Fault)
+tasksLate t = concat (λ i. taskFault t i ∷ []) (t .tasks) 0
 
 abbrev pub procsLate : Table → List (Option Fault)
 procsLate t = concat (procLate t) (t .procs) 0
+
+-- ---- by the terms of a table, the faults of its lines are those that the reader finds
+
+pub tasks-of : (t : Table) {c : Terms} {a : At} → c ≡ termsOf t → a ≡ firstAt 3 (tasksLateBy c (t .task) (t .tasks)) → a ≡ firstAt 3 (tasksLate t)
+tasks-of t e h = (rw e at h) ∙ (λ ι. firstAt 3 (concat (λ i. dropFault (t .closed) (callee-of t (taskAt t i .top) ι .params) (callee-of t (taskAt t i .top) ι .drop) ∷ []) (t .tasks) 0))
+
+pub proc-of : (t : Table) (p l : ℕ) {c : Terms} {a : At} → c ≡ termsOf t → a ≡ firstAt l (procLateBy c (procAt t p)) → a ≡ firstAt l (procLate t p)
+proc-of t p l e h = (rw e at h) ∙ (λ ι. firstAt l (none ∷ concat (λ n. pick (isAbsent (nodeAt t p n)) [] (node-of t (procAt t p) (nodeAt t p n) ι ∷ [])) (procAt t p .nodes) 0))
+
+-- ---- the lines of a whole table
 
 pub tasks-late : (t : Table) {a : At} → a ≡ firstAt 3 (tasksLate t) → (a .number ≡ 0 → ⊥) → a ≡ firstAt 1 (late t)
 unfolding late firstAt

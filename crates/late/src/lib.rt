@@ -6,7 +6,7 @@ use table::Table;
 ghost use mathlib.Core.Path.{_≡_};
 ghost use Rattle.text.specs.Reader.{firstLate, late as lateList};
 ghost use Rattle.late.specs.Late.{Counted, lateIn, lateOf};
-ghost use Rattle.late_nodes.specs.Terms.{TermsOf};
+ghost use Rattle.late_nodes.specs.Terms.{termsOf};
 
 const ARGUMENTS: u8 = 6;
 
@@ -17,8 +17,9 @@ pub enum Late {
     Bad(text::Fault, usize),
 }
 
+// What the nodes of a table are judged by.
 fn terms_of(t: Table) -> Terms
-    ensures { λ c. ⌜ TermsOf t c ⌝ }
+    ensures { λ c. ⌜ c ≡ termsOf t ⌝ }
 {
     let mut callee = [Callee { params: 0, drop: 0 }; 8];
     let mut p: usize = 0;

@@ -1,20 +1,12 @@
--- The lines that places stand for, a procedure's nodes and a task, as the code finds them: a law for each return.
+-- The lines that places stand for and a procedure's nodes, as the code finds them: a law for each return.
 use Prim.Native.Nat.{ℕ, suc, _+_, _^_, _≤_, _<_}
-use mathlib.Core.Path.{_≡_, _∙_}
+use mathlib.Core.Path.{_≡_}
 use mathlib.Core.Bool.{Bool, true, false, not}
 use native.Mathlib.Omega.{arith}
 use native.Mathlib.Nat.{lt-of-lt-of-le}
-use lib.ListN.{getD}
 use lib.Pow.{pow-mono}
-use Rattle.table.specs.Mask.{pick, bit, maskOf}
+use Rattle.table.specs.Mask.{pick, maskOf}
 use Rattle.table.specs.MaskLaws.{maskOf-lt}
-use Rattle.table.specs.Table.{taskAt, procAt}
-use Rattle.table.specs.declared.Task.{Task}
-use Rattle.table.specs.declared.Table.{Table}
-use Rattle.text.specs.Reader.{allBelow}
-use Rattle.late_nodes.specs.declared.Callee.{Callee}
-use Rattle.late_nodes.specs.declared.Terms.{Terms}
-use Rattle.late_nodes.specs.Terms.{TermsOf, noCallee, ifClosed}
 
 pub lines-none : (b r : Bool) → r ≡ b → r ≡ true → _≡_ {A = ℕ} 0 (pick b 0 1)
 lines-none b r p e = rw (← p, e)
@@ -37,9 +29,3 @@ mask-fits f n l p h = rw (mask-more f n p h) (lt-of-lt-of-le (maskOf-lt (n + 1) 
   where
     up : {k : ℕ} → k < 32 → k + 1 ≤ 32
     up u = omega arith
-
--- ---- tasks
-
-pub task-drops : (t : Table) {c : Terms} (i : ℕ) {x : Task} {p : Callee} {r : ℕ} → TermsOf t c → taskAt t i ≡ x → p ≡ getD (c .callee) (x .top) noCallee → r ≡ ifClosed (c .closed) (allBelow (p .params) (λ j. bit j (p .drop)))
-    → r ≡ ifClosed (t .closed) (allBelow (procAt t (taskAt t i .top) .params) (λ j. bit j (procAt t (taskAt t i .top) .drop)))
-task-drops t i {x} s e p h = h ∙ rw (p, s .params (x .top), s .drop (x .top), s .closed, e)

@@ -2,24 +2,29 @@
 use Prim.Native.Nat.{ℕ, zero, suc, _+_, _-_, _≤_, _<_}
 use mathlib.Core.Path.{_≡_, refl, sym, _∙_, ap}
 use mathlib.Core.List.{List, [], _∷_, _++_}
+use mathlib.Core.Logic.{_⊎_, inl, inr}
 use mathlib.Core.Option.{Option, none, some}
-use mathlib.Core.Bool.{Bool, true, false, not, _||_}
+use mathlib.Core.Bool.{Bool, true, false}
 use native.Mathlib.Omega.{arith}
 use lib.ListN.{replicate}
-use Rattle.table.specs.Mask.{pick, bit}
-use Rattle.table.specs.Table.{taskAt, procAt, isAbsent}
+use Rattle.table.specs.Mask.{pick}
+use Rattle.table.specs.Table.{nodeIn, isAbsent}
 use Rattle.table.specs.declared.Node.{Node}
 use Rattle.table.specs.declared.Proc.{Proc}
-use Rattle.table.specs.declared.Table.{Table}
+use Rattle.table.specs.declared.Task.{Task}
 use Rattle.text.specs.declared.Fault.{Fault}
 use Rattle.text.specs.declared.Fault.the-variants.{Long, Form, Misspelt, Ended, Range, Index, Reference, Arguments, Unclosed, Unused, Short}
 use Rattle.text.specs.Fault.{number}
-use Rattle.text.specs.Value.{unless}
-use Rattle.text.specs.Reader.{allBelow, nodeFault, taskFault, nodeLate, procLate, concat}
+use Rattle.text.specs.NumberLaws.{cases}
+use Rattle.text.specs.Reader.{concat}
 use Rattle.text.specs.Structure.{numbered}
+use Rattle.text.specs.ValidLaws.{absent-is}
 use Rattle.late_lines.specs.declared.At.{At}
-use Rattle.late_lines.specs.Places.{firstAt, stepAt, nodesLate}
-use Rattle.late_nodes.specs.Terms.{ifClosed, lateNumber}
+use Rattle.late_lines.specs.Places.{dropFault, taskFaultBy, nodeLateBy, nodesLateBy, procLateBy, firstAt, stepAt}
+use Rattle.late_nodes.specs.declared.Callee.{Callee}
+use Rattle.late_nodes.specs.declared.Terms.{Terms}
+use Rattle.late_nodes.specs.Terms.{calleeAt, presentIn, nodeFaultBy}
+use Rattle.late_nodes.specs.NodeLaws.{node-open}
 
 -- ---- lines behind lines
 
@@ -72,19 +77,16 @@ step-bad zero k l e = absurd (e refl)
 step-bad (suc r) k l e = refl
 
 -- a node
-pub node-step : (t : Table) (q : Proc) (x : Node) (l : ℕ) {r k : ℕ} {a : At} → r ≡ lateNumber t q x → k ≡ pick (isAbsent x) 0 1 → a ≡ stepAt r k l → a ≡ firstAt l (nodeLate t q x)
-unfolding lateNumber
-node-step t q x l p e h = (rw (p, e) at h) ∙ sym (step-is l (isAbsent x) (nodeFault t q x))
+absent-none : (c : Terms) (m : ℕ) (x : Node) → numbered (nodeFaultBy c m x) ≡ pick (isAbsent x) 0 (numbered (nodeFaultBy c m x))
+unfolding isAbsent nodeFaultBy
+absent-none c m x = cases (isAbsent x) (λ e. rw (absent-is x e)) (λ e. rw e)
+
+pub node-step : (c : Terms) (m : ℕ) (x : Node) (l : ℕ) {r k : ℕ} {a : At} → r ≡ numbered (nodeFaultBy c m x) → k ≡ pick (isAbsent x) 0 1 → a ≡ stepAt r k l → a ≡ firstAt l (nodeLateBy c m x)
+node-step c m x l p e h = (rw (p ∙ absent-none c m x, e) at h) ∙ sym (step-is l (isAbsent x) (nodeFaultBy c m x))
 
 -- a task
-task-number : (b a : Bool) → numbered (unless (not b || a) Unclosed) ≡ ifClosed b a
-unfolding number
-task-number true true = refl
-task-number true false = refl
-task-number false a = refl
-
-pub task-step : (t : Table) (i l : ℕ) {r : ℕ} {a : At} → r ≡ ifClosed (t .closed) (allBelow (procAt t (taskAt t i .top) .params) (λ j. bit j (procAt t (taskAt t i .top) .drop))) → a ≡ stepAt r 1 l → a ≡ firstAt l (taskFault t i ∷ [])
-task-step t i l p h = (rw (p ∙ sym (task-number (t .closed) _)) at h) ∙ sym (step-is l false (taskFault t i))
+pub task-step : (c : Terms) (x : Task) (l : ℕ) {p : Callee} {r : ℕ} {a : At} → p ≡ calleeAt c (x .top) → r ≡ numbered (dropFault (c .closed) (p .params) (p .drop)) → a ≡ stepAt r 1 l → a ≡ firstAt l (taskFaultBy c x ∷ [])
+task-step c x l z p h = (rw (p, z) at h) ∙ sym (step-is l false (taskFaultBy c x))
 
 -- ---- n places, the first i of which have no fault and stand for the lines up to l
 
@@ -111,12 +113,10 @@ pub walked-all : (g : ℕ → List (Option Fault)) (n m l i : ℕ) → Walked g 
 unfolding concat firstAt
 walked-all g n m l i w u = let e : n - i ≡ 0 = omega arith in sym (w .left ∙ ap (λ (k : ℕ). firstAt l (concat g k i)) e)
 
--- a procedure's line has no late fault
-pub proc-step : (t : Table) (p l : ℕ) {q : Proc} {a : At} → procAt t p ≡ q → a ≡ firstAt (l + 1) (nodesLate t q) → a ≡ firstAt l (procLate t p)
+-- a procedure's line has no late fault; in open form no target is looked at
+pub proc-step : (c : Terms) (q : Proc) (m l : ℕ) {a : At} → (m ≡ presentIn q) ⊎ (c .closed ≡ false) → a ≡ firstAt (l + 1) (nodesLateBy c m q) → a ≡ firstAt l (procLateBy c q)
 unfolding firstAt
-proc-step t p l e h = let s : l + 1 ≡ suc l = omega arith in rw (s, ← e) at h
-
--- ---- the tasks
-
-abbrev pub tasksLate : Table → List (Option Fault)
-tasksLate t = concat (λ i. taskFault t i ∷ []) (t .tasks) 0
+proc-step c q m l (inl e) h = let s : l + 1 ≡ suc l = omega arith in rw (s, e) at h
+proc-step c q m l (inr e) h =
+    let s : l + 1 ≡ suc l = omega arith in
+    (rw s at h) ∙ (λ ι. firstAt (suc l) (concat (λ n. pick (isAbsent (nodeIn q n)) [] (node-open c m (presentIn q) (nodeIn q n) e ι ∷ [])) (q .nodes) 0))

@@ -3,18 +3,17 @@ use late_nodes::Terms;
 use table::Node;
 use table::Proc;
 use table::Slot;
-use table::Table;
 use table::Task;
 ghost use mathlib.Core.Path.{_≡_};
 ghost use mathlib.Core.Bool.{not};
 ghost use mathlib.Core.List.{[], _∷_};
-ghost use Prim.Native.Nat.{ℕ, _+_, _≤_, _<_, _^_};
+ghost use Prim.Native.Nat.{_+_, _≤_, _<_, _^_};
 ghost use Rattle.table.specs.Mask.{pick, bit};
-ghost use Rattle.table.specs.Table.{procAt, taskAt, isAbsent};
-ghost use Rattle.text.specs.Reader.{allBelow, taskFault, nodeLate, procLate};
-ghost use Rattle.late_lines.specs.Places.{firstAt, stepAt, nodesLate};
-ghost use Rattle.late_nodes.specs.Terms.{TermsOf, presentIn, PresentIf, ifClosed};
-ghost use Rattle.late_lines.specs.Walks.{tasksLate};
+ghost use Rattle.table.specs.Table.{isAbsent};
+ghost use Rattle.text.specs.Reader.{allBelow};
+ghost use Rattle.text.specs.Structure.{numbered};
+ghost use Rattle.late_nodes.specs.Terms.{presentIn};
+ghost use Rattle.late_lines.specs.Places.{dropFault, taskFaultBy, tasksLateBy, nodeLateBy, nodesLateBy, procLateBy, firstAt, stepAt};
 
 const CLOSING: u8 = 7;
 
@@ -49,7 +48,7 @@ fn lines(x: Node) -> usize
 
 fn node_at(x: Node, c: Terms, present: u32, line: usize) -> At
     requires { ⌜ line ≤ 4096 ⌝ }
-    ensures found { λ a. ⌜ ((t : Table) (q : Proc) → TermsOf t c → PresentIf (c .closed) q present → a ≡ firstAt line (nodeLate t q x)) ⌝ }
+    ensures found { λ a. ⌜ a ≡ firstAt line (nodeLateBy c present x) ⌝ }
     ensures near { λ a. ⌜ a .line ≤ line + 1 ⌝ }
 {
     let r = late_nodes::node(x, c, present);
@@ -81,9 +80,10 @@ fn present(q: Proc) -> u32
     m
 }
 
+// The node lines of a procedure, where the nodes of m are present.
 fn nodes(q: Proc, c: Terms, m: u32, line: usize) -> At
-    requires { ⌜ (q .nodes ≤ 32) × ((line ≤ 4000) × PresentIf (c .closed) q m) ⌝ }
-    ensures found { λ a. ⌜ ((t : Table) → TermsOf t c → a ≡ firstAt line (nodesLate t q)) ⌝ }
+    requires { ⌜ (q .nodes ≤ 32) × (line ≤ 4000) ⌝ }
+    ensures found { λ a. ⌜ a ≡ firstAt line (nodesLateBy c m q) ⌝ }
     ensures near { λ a. ⌜ a .line ≤ line + 32 ⌝ }
 {
     let k = q.nodes as usize;
@@ -114,7 +114,7 @@ fn all_dropped(params: u8, drop: u8) -> bool
 
 // In closed form a task's top procedure drops all parameters.
 fn drops(closed: bool, params: u8, drop: u8) -> u8
-    ensures { λ r. ⌜ r ≡ ifClosed closed (allBelow params (λ j. bit j drop)) ⌝ }
+    ensures { λ r. ⌜ r ≡ numbered (dropFault closed params drop) ⌝ }
 {
     if closed {
         if all_dropped(params, drop) {
@@ -127,7 +127,7 @@ fn drops(closed: bool, params: u8, drop: u8) -> u8
 
 fn task_at(x: Task, c: Terms, line: usize) -> At
     requires { ⌜ line ≤ 4096 ⌝ }
-    ensures found { λ a. ⌜ ((t : Table) (i : ℕ) → TermsOf t c → taskAt t i ≡ x → a ≡ firstAt line (taskFault t i ∷ [])) ⌝ }
+    ensures found { λ a. ⌜ a ≡ firstAt line (taskFaultBy c x ∷ []) ⌝ }
     ensures near { λ a. ⌜ a .line ≤ line + 1 ⌝ }
 {
     let cs = c.callee;
@@ -139,7 +139,7 @@ fn task_at(x: Task, c: Terms, line: usize) -> At
 // The tasks' lines are the first behind the first two.
 pub fn tasks(task: [Task; 4], n: u8, c: Terms) -> At
     requires { ⌜ n ≤ 4 ⌝ }
-    ensures found { λ a. ⌜ ((t : Table) → TermsOf t c → t .task ≡ task → t .tasks ≡ n → a ≡ firstAt 3 (tasksLate t)) ⌝ }
+    ensures found { λ a. ⌜ a ≡ firstAt 3 (tasksLateBy c task n) ⌝ }
     ensures near { λ a. ⌜ a .line ≤ 7 ⌝ }
 {
     let k = n as usize;
@@ -160,7 +160,7 @@ pub fn tasks(task: [Task; 4], n: u8, c: Terms) -> At
 // The lines of a procedure.
 pub fn proc_at(q: Proc, c: Terms, line: usize) -> At
     requires { ⌜ (q .nodes ≤ 32) × (line ≤ 3000) ⌝ }
-    ensures found { λ a. ⌜ ((t : Table) (p : ℕ) → TermsOf t c → procAt t p ≡ q → a ≡ firstAt line (procLate t p)) ⌝ }
+    ensures found { λ a. ⌜ a ≡ firstAt line (procLateBy c q) ⌝ }
     ensures near { λ a. ⌜ a .line ≤ line + 33 ⌝ }
 {
     let m = if c.closed { present(q) } else { 0 };

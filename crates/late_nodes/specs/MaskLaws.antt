@@ -2,26 +2,27 @@
 use Prim.Native.Nat.{ℕ, zero, suc, _+_, _-_, _%_, _^_, _≤_, _<_}
 use mathlib.Core.Path.{_≡_, refl, sym, _∙_, ap}
 use mathlib.Core.Bool.{Bool, true, false, not, _&&_}
+use mathlib.Core.List.{List, [], _∷_, List·Memᴰ, List·Memᴰ·head, List·Memᴰ·tail, List·Memᴰ·not-nil}
 use native.Mathlib.Omega.{arith}
 use native.Mathlib.Nat.{add-zero, mod-eq-of-lt, lt-of-lt-of-le, lt-of-le-of-lt}
 use lib.Bits.{bitAnd, and-le-l}
 use lib.Dec.{eqb}
 use lib.Pow.{pow-pos, pow-mono}
-use borrow.Author.Tests.{eqb-true, eqb-false, eq-eqb, ne-eqb, lt-ltb, le-ltb, not-true}
-use Rattle.table.specs.Mask.{pick, bit, members, maskOf}
+use borrow.Author.Tests.{eqb-true, eqb-false, eq-eqb, ne-eqb, lt-ltb, le-ltb}
+use Rattle.table.specs.Mask.{pick, bit, also, membersFrom, members, maskOf}
 use Rattle.table.specs.MaskLaws.{bit-above, bit-maskOf, maskOf-lt, members-is, bit-ext}
 use Rattle.table.specs.Table.{argAt, nodeIn, isAbsent}
 use Rattle.table.specs.declared.Args.{Args}
 use Rattle.table.specs.declared.Proc.{Proc}
-use Rattle.text.specs.NumberLaws.{cases, byOrder}
+use Rattle.text.specs.NumberLaws.{cases, byOrder, and-left, and-right}
 use Rattle.text.specs.ValueLaws.{no}
 use Rattle.text.specs.MaskLists.{mask-bits, mask-same}
 use Rattle.text.specs.Reader.{allBelow, allPresent, isRemoved, iff}
-use Rattle.text.specs.ValidLaws.{below-all, present-all, all-present}
+use Rattle.text.specs.ValidLaws.{below-all}
 use Rattle.masks.specs.Bits.{bit-and, bit-and-out}
 use Rattle.targets.specs.MaskTests.{same-truth}
 use Rattle.checks.specs.ArgumentChecks.{removedAt}
-use Rattle.late_nodes.specs.Terms.{presentIn}
+use Rattle.late_nodes.specs.Terms.{presentIn, allIn}
 
 -- ---- two sets are the same
 
@@ -100,19 +101,38 @@ low-all d n l u = sym (mod-eq-of-lt (lt-of-lt-of-le l (pow-mono u)))
 
 -- ---- targets
 
-pub present-is : (q : Proc) (m : ℕ) → m < 4294967296 → allPresent q (members m) ≡ eqb (bitAnd m (presentIn q)) m
-present-is q m l = same-truth (allPresent q (members m)) (eqb (bitAnd m (presentIn q)) m) there back
-  where
-    held : (k : ℕ) → k < 32 → bit k (presentIn q) ≡ not (isAbsent (nodeIn q k))
-    held k u = bit-maskOf 32 k (λ i. not (isAbsent (nodeIn q i))) u
+in-all : (m : ℕ) (ks : List ℕ) → allIn m ks ≡ true → (k : ℕ) → List·Memᴰ k ks → bit k m ≡ true
+unfolding allIn
+in-all m [] e k d = absurd (List·Memᴰ·not-nil d)
+in-all m (x ∷ xs) e k (List·Memᴰ·head p) = rw p (and-left (bit x m) (allIn m xs) e)
+in-all m (x ∷ xs) e k (List·Memᴰ·tail d) = in-all m xs (and-right (bit x m) (allIn m xs) e) k d
 
-    there : allPresent q (members m) ≡ true → eqb (bitAnd m (presentIn q)) m ≡ true
-    there e = eq-eqb _ _ (bit-ext 32 _ _ (lt-of-le-of-lt (and-le-l m (presentIn q)) l) l (λ k u. bit-and k m (presentIn q) ∙ cases (bit k m)
-        (λ b. rw (b, held k u, present-all q (members m) e k (members-is k m .1 (b, u))))
+all-in : (m : ℕ) (ks : List ℕ) → ((k : ℕ) → List·Memᴰ k ks → bit k m ≡ true) → allIn m ks ≡ true
+unfolding allIn
+all-in m [] f = refl
+all-in m (x ∷ xs) f = rw (f x (List·Memᴰ·head refl)) (all-in m xs (λ k d. f k (List·Memᴰ·tail d)))
+
+pub in-is : (m to : ℕ) → to < 4294967296 → allIn m (members to) ≡ eqb (bitAnd to m) to
+in-is m to l = same-truth (allIn m (members to)) (eqb (bitAnd to m) to) there back
+  where
+    there : allIn m (members to) ≡ true → eqb (bitAnd to m) to ≡ true
+    there e = eq-eqb _ _ (bit-ext 32 _ _ (lt-of-le-of-lt (and-le-l to m) l) l (λ k u. bit-and k to m ∙ cases (bit k to)
+        (λ b. rw (b, in-all m (members to) e k (members-is k to .1 (b, u))))
         (λ b. rw b)))
 
-    back : eqb (bitAnd m (presentIn q)) m ≡ true → allPresent q (members m) ≡ true
-    back e = all-present q (members m) (λ k d.
-        let b = members-is k m .0 d in
-        let i : bit k (bitAnd m (presentIn q)) ≡ true = rw (eqb-true (bitAnd m (presentIn q)) m e) (b .0) in
-        not-true (isAbsent (nodeIn q k)) (sym (held k (b .1)) ∙ bit-and-out k m (presentIn q) i .1))
+    back : eqb (bitAnd to m) to ≡ true → allIn m (members to) ≡ true
+    back e = all-in m (members to) (λ k d.
+        let b = members-is k to .0 d in
+        let i : bit k (bitAnd to m) ≡ true = rw (eqb-true (bitAnd to m) to e) (b .0) in
+        bit-and-out k to m i .1)
+
+-- those in the set of a procedure's nodes are its nodes
+pub present-in : (q : Proc) (n k m : ℕ) → k + n ≤ 32 → allIn (presentIn q) (membersFrom n k m) ≡ allPresent q (membersFrom n k m)
+unfolding membersFrom allIn allPresent
+present-in q zero k m l = refl
+present-in q (suc n) k m l = go (bit k m) (present-in q n (suc k) m (omega arith))
+  where
+    go : (b : Bool) → allIn (presentIn q) (membersFrom n (suc k) m) ≡ allPresent q (membersFrom n (suc k) m)
+        → allIn (presentIn q) (also b k (membersFrom n (suc k) m)) ≡ allPresent q (also b k (membersFrom n (suc k) m))
+    go true e = rw (bit-maskOf 32 k (λ i. not (isAbsent (nodeIn q i))) (omega arith), e)
+    go false e = e

@@ -1,51 +1,88 @@
--- What a node's late fault is judged by, and its number.
+-- What a node is judged by after all lines, and its late fault.
 use Prim.Native.Nat.{ℕ}
-use mathlib.Core.Path.{_≡_}
-use mathlib.Core.Bool.{Bool, true, not, _||_}
+use mathlib.Core.Bool.{Bool, true, not, _&&_, _||_}
+use mathlib.Core.List.{List, [], _∷_, map}
+use mathlib.Core.Option.{Option, none}
 use lib.Dec.{eqb}
 use lib.ListN.{getD}
-use Rattle.table.specs.Mask.{pick, bit, members, maskOf}
-use Rattle.table.specs.Table.{noQueue, queueAt, procAt, nodeIn, argAt, isAbsent}
+use Rattle.table.specs.Mask.{bit, members, maskOf}
+use Rattle.table.specs.Table.{noQueue, nodeIn, argAt, isAbsent}
 use Rattle.table.specs.declared.Args.{Args}
 use Rattle.table.specs.declared.Node.{Node}
+use Rattle.table.specs.declared.Node.the-variants.{Absent, Start, Set, Test, Read, Call, Wait, Signal, Send, Recv, Assert, Out, Return}
 use Rattle.table.specs.declared.Proc.{Proc}
 use Rattle.table.specs.declared.Table.{Table}
-use Rattle.text.specs.Reader.{allBelow, allPresent, isRemoved, iff, nodeFault}
-use Rattle.text.specs.Structure.{numbered}
-use Rattle.checks.specs.Numbers.{firstNumber}
+use Rattle.text.specs.declared.Fault.{Fault}
+use Rattle.text.specs.declared.Fault.the-variants.{Arguments, Unclosed}
+use Rattle.text.specs.Value.{unless, orElse}
+use Rattle.text.specs.Reader.{allBelow, isRemoved, iff}
 use Rattle.late_nodes.specs.declared.Callee.{Callee}
 use Rattle.late_nodes.specs.declared.Terms.{Terms}
+
+-- ---- what nodes are judged by
 
 abbrev pub noCallee : Callee
 noCallee = record { params = 0; drop = 0 }
 
-pub record TermsOf (t : Table) (c : Terms) : Type 0 where
-  pub closed : c .closed ≡ t .closed
-  pub params : (k : ℕ) → getD (c .callee) k noCallee .params ≡ procAt t k .params
-  pub drop : (k : ℕ) → getD (c .callee) k noCallee .drop ≡ procAt t k .drop
-  pub blank : (k : ℕ) → getD (c .queue) k noQueue .blank ≡ queueAt t k .blank
+abbrev pub calleeAt : Terms → ℕ → Callee
+calleeAt c k = getD (c .callee) k noCallee
+
+-- the terms of a table
+abbrev pub calleeOf : Proc → Callee
+calleeOf q = record { params = q .params; drop = q .drop }
+
+abbrev pub termsOf : Table → Terms
+termsOf t = record { closed = t .closed; callee = map calleeOf (t .proc); queue = t .queue }
 
 -- the set of a procedure's nodes
 abbrev pub presentIn : Proc → ℕ
 presentIn q = maskOf 32 (λ i. not (isAbsent (nodeIn q i)))
 
--- m is that set, if the table is closed
-pub record PresentIf (closed : Bool) (q : Proc) (m : ℕ) : Type 0 where
-  pub right : closed ≡ true → m ≡ presentIn q
+-- all of some nodes are in the set m
+unfoldable pub allIn : ℕ → List ℕ → Bool
+allIn m [] = true
+allIn m (k ∷ ks) = bit k m && allIn m ks
+
+-- ---- the late fault of a node of the procedure whose nodes are the set m
 
 -- 7 where a test fails in closed form
-abbrev pub ifClosed : Bool → Bool → ℕ
-ifClosed b a = pick (not b || a) 0 7
+abbrev pub ifClosed : Bool → Bool → Option Fault
+ifClosed b a = unless (not b || a) Unclosed
 
--- a call, and a send or a recv
-abbrev pub callIn : Terms → Proc → ℕ → Args → ℕ → ℕ
-callIn c q k xs to =
-    firstNumber (pick (eqb (xs .len) (getD (c .callee) k noCallee .params)) 0 6)
-    (firstNumber (ifClosed (c .closed) (allPresent q (members to))) (ifClosed (c .closed) (allBelow (xs .len) (λ i. iff (isRemoved (argAt xs i)) (bit i (getD (c .callee) k noCallee .drop))))))
+-- "absent target"
+abbrev pub arcFault : Bool → ℕ → ℕ → Option Fault
+arcFault b m to = ifClosed b (allIn m (members to))
 
-abbrev pub transferIn : Terms → Proc → ℕ → ℕ → ℕ → ℕ
-transferIn c q k v to = firstNumber (ifClosed (c .closed) (allPresent q (members to))) (ifClosed (c .closed) (iff (isRemoved v) (getD (c .queue) k noQueue .blank)))
+-- "argument count differs from the callee's"
+abbrev pub countFault : ℕ → ℕ → Option Fault
+countFault len params = unless (eqb len params) Arguments
 
--- a node's number
-unfoldable pub lateNumber : Table → Proc → Node → ℕ
-lateNumber t q x = pick (isAbsent x) 0 (numbered (nodeFault t q x))
+-- `-` "in `args` if and only if the parameter is dropped"
+abbrev pub removalFault : Bool → ℕ → Args → Option Fault
+removalFault b d xs = ifClosed b (allBelow (xs .len) (λ i. iff (isRemoved (argAt xs i)) (bit i d)))
+
+-- `-` "in `send` and `recv` if and only if the queue is blank"
+abbrev pub blankFault : Bool → ℕ → Bool → Option Fault
+blankFault b v blank = ifClosed b (iff (isRemoved v) blank)
+
+abbrev pub callFault : Terms → ℕ → ℕ → Args → ℕ → Option Fault
+callFault c m k xs to = orElse (countFault (xs .len) (calleeAt c k .params)) (orElse (arcFault (c .closed) m to) (removalFault (c .closed) (calleeAt c k .drop) xs))
+
+-- a send or a recv
+abbrev pub transferFault : Terms → ℕ → ℕ → ℕ → ℕ → Option Fault
+transferFault c m k v to = orElse (arcFault (c .closed) m to) (blankFault (c .closed) v (getD (c .queue) k noQueue .blank))
+
+unfoldable pub nodeFaultBy : Terms → ℕ → Node → Option Fault
+nodeFaultBy c m Absent = none
+nodeFaultBy c m (Start to) = arcFault (c .closed) m to
+nodeFaultBy c m (Set v o a b to) = arcFault (c .closed) m to
+nodeFaultBy c m (Test o a b y n) = orElse (arcFault (c .closed) m y) (arcFault (c .closed) m n)
+nodeFaultBy c m (Read v to) = arcFault (c .closed) m to
+nodeFaultBy c m (Call k xs to) = callFault c m k xs to
+nodeFaultBy c m (Wait s to) = arcFault (c .closed) m to
+nodeFaultBy c m (Signal s to) = arcFault (c .closed) m to
+nodeFaultBy c m (Send k v to) = transferFault c m k v to
+nodeFaultBy c m (Recv k v to) = transferFault c m k v to
+nodeFaultBy c m (Assert v to) = arcFault (c .closed) m to
+nodeFaultBy c m (Out v to) = arcFault (c .closed) m to
+nodeFaultBy c m Return = none

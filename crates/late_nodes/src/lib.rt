@@ -2,19 +2,17 @@
 // have wrong.
 use table::Args;
 use table::Node;
-use table::Proc;
 use table::Queue;
 use table::REMOVED;
-use table::Table;
 ghost use mathlib.Core.Path.{_≡_};
 ghost use Prim.Native.Nat.{_≤_, _<_, _%_, _^_};
-ghost use lib.Dec.{eqb};
 ghost use lib.ListN.{getD};
-ghost use Rattle.table.specs.Mask.{pick, bit, members, maskOf};
+ghost use Rattle.table.specs.Mask.{pick, maskOf};
 ghost use Rattle.table.specs.Table.{noQueue, argAt};
-ghost use Rattle.text.specs.Reader.{allBelow, allPresent, isRemoved, iff};
+ghost use Rattle.text.specs.Reader.{iff};
+ghost use Rattle.text.specs.Structure.{numbered};
 ghost use Rattle.checks.specs.ArgumentChecks.{removedAt};
-ghost use Rattle.late_nodes.specs.Terms.{noCallee, TermsOf, PresentIf, ifClosed, callIn, transferIn, lateNumber};
+ghost use Rattle.late_nodes.specs.Terms.{noCallee, arcFault, countFault, removalFault, blankFault, callFault, transferFault, nodeFaultBy};
 
 const ARGUMENTS: u8 = 6;
 
@@ -35,14 +33,14 @@ pub struct Terms {
 
 // The arguments are as many as the parameters.
 fn count(len: u8, params: u8) -> u8
-    ensures { λ r. ⌜ r ≡ pick (eqb len params) 0 6 ⌝ }
+    ensures { λ r. ⌜ r ≡ numbered (countFault len params) ⌝ }
 {
     if len == params { 0 } else { ARGUMENTS }
 }
 
-// In closed form every target is a node.
+// In closed form every target is one of the nodes present.
 fn arc(closed: bool, present: u32, to: u32) -> u8
-    ensures { λ r. ⌜ ((q : Proc) → PresentIf closed q present → r ≡ ifClosed closed (allPresent q (members to))) ⌝ }
+    ensures { λ r. ⌜ r ≡ numbered (arcFault closed present to) ⌝ }
 {
     if closed {
         if to & present == to {
@@ -95,7 +93,7 @@ fn removed(xs: Args) -> u32
 
 // In closed form an argument is removed if and only if its parameter is dropped.
 fn removals(closed: bool, drop: u8, xs: Args) -> u8
-    ensures { λ r. ⌜ r ≡ ifClosed closed (allBelow (xs .len) (λ i. iff (isRemoved (argAt xs i)) (bit i drop))) ⌝ }
+    ensures { λ r. ⌜ r ≡ numbered (removalFault closed drop xs) ⌝ }
 {
     if closed {
         if removed(xs) == low(drop, xs.len) {
@@ -108,7 +106,7 @@ fn removals(closed: bool, drop: u8, xs: Args) -> u8
 
 // In closed form what is sent or received is removed if and only if the queue is blank.
 fn blanks(closed: bool, var: u8, blank: bool) -> u8
-    ensures { λ r. ⌜ r ≡ ifClosed closed (iff (isRemoved var) blank) ⌝ }
+    ensures { λ r. ⌜ r ≡ numbered (blankFault closed var blank) ⌝ }
 {
     if closed {
         if agree(var == REMOVED, blank) {
@@ -152,7 +150,7 @@ fn blank_at(queue: [Queue; 8], k: u8) -> bool
 }
 
 fn call(c: Terms, present: u32, callee: u8, args: Args, to: u32) -> u8
-    ensures { λ r. ⌜ ((q : Proc) → PresentIf (c .closed) q present → r ≡ callIn c q callee args to) ⌝ }
+    ensures { λ r. ⌜ r ≡ numbered (callFault c present callee args to) ⌝ }
 {
     let cs = c.callee;
     let p = callee_at(cs, callee);
@@ -164,7 +162,7 @@ fn call(c: Terms, present: u32, callee: u8, args: Args, to: u32) -> u8
 
 // A send or a recv.
 fn transfer(c: Terms, present: u32, queue: u8, var: u8, to: u32) -> u8
-    ensures { λ r. ⌜ ((q : Proc) → PresentIf (c .closed) q present → r ≡ transferIn c q queue var to) ⌝ }
+    ensures { λ r. ⌜ r ≡ numbered (transferFault c present queue var to) ⌝ }
 {
     let qs = c.queue;
     let b = blank_at(qs, queue);
@@ -173,9 +171,9 @@ fn transfer(c: Terms, present: u32, queue: u8, var: u8, to: u32) -> u8
     checks::first(a, m)
 }
 
-// A node of the procedure whose nodes are the set present, which counts in closed form only.
+// A node of the procedure whose nodes are the set present.
 pub fn node(x: Node, c: Terms, present: u32) -> u8
-    ensures { λ r. ⌜ ((t : Table) (q : Proc) → TermsOf t c → PresentIf (c .closed) q present → r ≡ lateNumber t q x) ⌝ }
+    ensures { λ r. ⌜ r ≡ numbered (nodeFaultBy c present x) ⌝ }
 {
     match x {
         Node::Absent => 0,

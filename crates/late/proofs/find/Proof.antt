@@ -2,7 +2,7 @@ use Prim.Native.Nat.{_+_, _*_, _-_, _≤_}
 use mathlib.Core.Path.{refl}
 use Rattle.text.specs.Reader.{procLate}
 use Rattle.late_lines.specs.Walks.{Walked, walked-none, walked-more, walked-found, walked-all}
-use Rattle.late.specs.Walks.{tasks-late, procs-late, late-found}
+use Rattle.late.specs.Walks.{tasks-of, proc-of, tasks-late, procs-late, late-found}
 use borrow.Author.Needs.{needs}
 use native.Mathlib.Omega.{arith}
 use Rattle.late.proofs.find.Statement.{statement}
@@ -24,7 +24,7 @@ answer-requires : tie.Need-answer-requires Inv-loop μ-loop
 answer-requires c κs = search needs
 
 returns : tie.Need-returns Inv-loop μ-loop
-returns c = late-found _ (tasks-late _ (c .before .before .before .tasks .ensures .0 (c .before .before .before .before .before .before .args .t1) (c .before .before .before .before .before .terms-of .ensures) refl refl) (c .before .if1 .taken)) (c .answer .ensures)
+returns c = late-found _ (tasks-late _ (tasks-of (c .before .before .before .before .before .before .args .t1) (c .before .before .before .before .before .terms-of .ensures) (c .before .before .before .tasks .ensures .0)) (c .before .if1 .taken)) (c .answer .ensures)
 
 cast-k : tie.Need-cast-k Inv-loop μ-loop
 cast-k c = search needs
@@ -57,7 +57,7 @@ answer-requires-2 : tie.Need-answer-requires-2 Inv-loop μ-loop
 answer-requires-2 c κs = search needs
 
 returns-2 : tie.Need-returns-2 Inv-loop μ-loop
-returns-2 c = late-found _ (procs-late _ (c .before .before .before .before .before .before .before .before .before .before .tasks .ensures .0 (c .before .before .before .before .before .before .before .before .before .before .before .before .before .args .t1) (c .before .before .before .before .before .before .before .before .before .before .before .before .terms-of .ensures) refl refl) (c .before .before .before .before .before .before .before .before .if1 .left) (walked-found _ _ _ _ _ (c .before .before .before .before .before .before .loop .inv .1 .1) (c .before .before .before .before .before .loop-test .taken) (c .before .before .before .proc-at .ensures .0 (c .before .before .before .before .before .before .before .before .before .before .before .before .before .args .t1) (c .before .before .before .before .before .before .loop .p) (c .before .before .before .before .before .before .before .before .before .before .before .before .terms-of .ensures) refl) (c .before .if2 .taken))) (c .answer2 .ensures)
+returns-2 c = late-found _ (procs-late _ (tasks-of (c .before .before .before .before .before .before .before .before .before .before .before .before .before .args .t1) (c .before .before .before .before .before .before .before .before .before .before .before .before .terms-of .ensures) (c .before .before .before .before .before .before .before .before .before .before .tasks .ensures .0)) (c .before .before .before .before .before .before .before .before .if1 .left) (walked-found _ _ _ _ _ (c .before .before .before .before .before .before .loop .inv .1 .1) (c .before .before .before .before .before .loop-test .taken) (proc-of (c .before .before .before .before .before .before .before .before .before .before .before .before .before .args .t1) (c .before .before .before .before .before .before .loop .p) _ (c .before .before .before .before .before .before .before .before .before .before .before .before .terms-of .ensures) (c .before .before .before .proc-at .ensures .0)) (c .before .if2 .taken))) (c .answer2 .ensures)
 
 add-p : tie.Need-add-p Inv-loop μ-loop
 add-p c = search needs
@@ -66,10 +66,10 @@ loop-less : tie.Need-loop-less Inv-loop μ-loop
 loop-less c = search needs
 
 loop-again : tie.Need-loop-again Inv-loop μ-loop
-loop-again c = (omega (arith, c .before .before .before .before .before .before .before .before .before .before .before .before .pre .procs), (omega (arith, c .before .before .proc-at .ensures .1), walked-more _ _ _ _ _ (c .before .before .before .before .before .loop .inv .1 .1) (c .before .before .before .before .loop-test .taken) (c .before .before .proc-at .ensures .0 (c .before .before .before .before .before .before .before .before .before .before .before .before .args .t1) (c .before .before .before .before .before .loop .p) (c .before .before .before .before .before .before .before .before .before .before .before .terms-of .ensures) refl) (c .if2 .left)))
+loop-again c = (omega (arith, c .before .before .before .before .before .before .before .before .before .before .before .before .pre .procs), (omega (arith, c .before .before .proc-at .ensures .1), walked-more _ _ _ _ _ (c .before .before .before .before .before .loop .inv .1 .1) (c .before .before .before .before .loop-test .taken) (proc-of (c .before .before .before .before .before .before .before .before .before .before .before .before .args .t1) (c .before .before .before .before .before .loop .p) _ (c .before .before .before .before .before .before .before .before .before .before .before .terms-of .ensures) (c .before .before .proc-at .ensures .0)) (c .if2 .left)))
 
 returns-3 : tie.Need-returns-3 Inv-loop μ-loop
-returns-3 c = late-found _ (procs-late _ (c .before .before .before .before .before .tasks .ensures .0 (c .before .before .before .before .before .before .before .before .args .t1) (c .before .before .before .before .before .before .before .terms-of .ensures) refl refl) (c .before .before .before .if1 .left) (walked-all _ _ _ _ _ (c .before .loop .inv .1 .1) (c .loop-test .left))) refl
+returns-3 c = late-found _ (procs-late _ (tasks-of (c .before .before .before .before .before .before .before .before .args .t1) (c .before .before .before .before .before .before .before .terms-of .ensures) (c .before .before .before .before .before .tasks .ensures .0)) (c .before .before .before .if1 .left) (walked-all _ _ _ _ _ (c .before .loop .inv .1 .1) (c .loop-test .left))) refl
 
 pub find-spec : {M : Type 1} → statement M
 find-spec =

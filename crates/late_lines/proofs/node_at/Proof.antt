@@ -13,7 +13,7 @@ step-requires : tie.Need-step-requires
 step-requires c κs = search needs
 
 returns : tie.Need-returns
-returns c = (λ t q s p. node-step t q _ _ (c .before .before .node .ensures t q s p) (c .before .lines .ensures .0) (c .step .ensures .0), c .step .ensures .1)
+returns c = (node-step _ _ _ _ (c .before .before .node .ensures) (c .before .lines .ensures .0) (c .step .ensures .0), c .step .ensures .1)
 
 pub node-at-spec : {M : Type 1} → statement M
 node-at-spec = tie.close (tie.spec node-requires lines-requires step-requires returns)

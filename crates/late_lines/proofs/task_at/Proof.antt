@@ -1,4 +1,3 @@
-use Rattle.late_lines.specs.Steps.{task-drops}
 use Rattle.late_lines.specs.Walks.{task-step}
 use borrow.Author.Needs.{needs}
 use Rattle.late_lines.proofs.task_at.Statement.{statement}
@@ -14,7 +13,7 @@ step-requires : tie.Need-step-requires
 step-requires c κs = search needs
 
 returns : tie.Need-returns
-returns c = (λ t i s e. task-step t i _ (task-drops t i s e (c .before .before .callee-at .ensures) (c .before .drops .ensures)) (c .step .ensures .0), c .step .ensures .1)
+returns c = (search (needs, task-step), c .step .ensures .1)
 
 pub task-at-spec : {M : Type 1} → statement M
 task-at-spec = tie.close (tie.spec callee-at-requires drops-requires step-requires returns)

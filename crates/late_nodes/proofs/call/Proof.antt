@@ -22,7 +22,7 @@ first-requires-2 : tie.Need-first-requires-2
 first-requires-2 c κs = search needs
 
 returns : tie.Need-returns
-returns c = λ q e. call-in (c .before .before .before .before .before .before .before .args .c) q (c .before .before .before .before .before .before .before .args .callee) (c .before .before .before .before .before .before .before .args .args) (c .before .before .before .before .before .before .before .args .to) (c .before .before .before .before .before .callee-at .ensures) (c .before .before .before .before .count .ensures) (c .before .before .before .arc .ensures q e) (c .before .before .removals .ensures) (c .before .first .ensures) (c .first2 .ensures)
+returns c = search (needs, call-in)
 
 pub call-spec : {M : Type 1} → statement M
 call-spec =

@@ -1,7 +1,6 @@
 use mathlib.Core.Path.{refl}
-use Rattle.table.specs.Table.{isAbsent, arcTo, arcNo}
-use Rattle.text.specs.Reader.{countRight, removedRight}
-use Rattle.late_nodes.specs.NodeLaws.{absent-late, return-late, plain-late, test-late, call-late, queue-late}
+use Rattle.late_nodes.specs.Terms.{nodeFaultBy}
+use Rattle.late_nodes.specs.Steps.{node-is, test-is}
 use borrow.Author.Needs.{needs}
 use Rattle.late_nodes.proofs.node.Statement.{statement}
 use Rattle.late_nodes.proofs.node.Tie as tie
@@ -85,52 +84,55 @@ enum-told-2 : tie.Need-enum-told-2
 enum-told-2 c = search needs
 
 returns : tie.Need-returns
-returns c = λ t q s p. absent-late t q s (c .enum-told .given .1)
+unfolding nodeFaultBy
+returns c = node-is _ _ (c .enum-told .given .1) refl
 
 returns-2 : tie.Need-returns-2
-unfolding isAbsent countRight removedRight arcTo arcNo
-returns-2 c = λ t q s p. plain-late t q s _ (c .before .before .x .given .1) refl refl refl refl refl (c .arc .ensures q p)
+unfolding nodeFaultBy
+returns-2 c = node-is _ _ (c .before .before .x .given .1) (c .arc .ensures)
 
 returns-3 : tie.Need-returns-3
-unfolding isAbsent countRight removedRight arcTo arcNo
-returns-3 c = λ t q s p. plain-late t q s _ (c .before .before .x2 .given .1) refl refl refl refl refl (c .arc2 .ensures q p)
+unfolding nodeFaultBy
+returns-3 c = node-is _ _ (c .before .before .x2 .given .1) (c .arc2 .ensures)
 
 returns-4 : tie.Need-returns-4
-returns-4 c = λ t q s p. test-late t q s _ _ (c .before .before .before .before .x3 .given .1) (c .before .before .arc3 .ensures q p) (c .before .arc4 .ensures q p) (c .first .ensures)
+returns-4 c = test-is _ _ _ _ (c .before .before .before .before .x3 .given .1) (c .before .before .arc3 .ensures) (c .before .arc4 .ensures) (c .first .ensures)
 
 returns-5 : tie.Need-returns-5
-unfolding isAbsent countRight removedRight arcTo arcNo
-returns-5 c = λ t q s p. plain-late t q s _ (c .before .before .x4 .given .1) refl refl refl refl refl (c .arc5 .ensures q p)
+unfolding nodeFaultBy
+returns-5 c = node-is _ _ (c .before .before .x4 .given .1) (c .arc5 .ensures)
 
 returns-6 : tie.Need-returns-6
-returns-6 c = λ t q s p. call-late t q s _ _ _ (c .before .before .x5 .given .1) (c .call .ensures q p)
+unfolding nodeFaultBy
+returns-6 c = node-is _ _ (c .before .before .x5 .given .1) (c .call .ensures)
 
 returns-7 : tie.Need-returns-7
-unfolding isAbsent countRight removedRight arcTo arcNo
-returns-7 c = λ t q s p. plain-late t q s _ (c .before .before .x6 .given .1) refl refl refl refl refl (c .arc6 .ensures q p)
+unfolding nodeFaultBy
+returns-7 c = node-is _ _ (c .before .before .x6 .given .1) (c .arc6 .ensures)
 
 returns-8 : tie.Need-returns-8
-unfolding isAbsent countRight removedRight arcTo arcNo
-returns-8 c = λ t q s p. plain-late t q s _ (c .before .before .x7 .given .1) refl refl refl refl refl (c .arc7 .ensures q p)
+unfolding nodeFaultBy
+returns-8 c = node-is _ _ (c .before .before .x7 .given .1) (c .arc7 .ensures)
 
 returns-9 : tie.Need-returns-9
-unfolding isAbsent countRight removedRight arcTo arcNo
-returns-9 c = λ t q s p. queue-late t q s (c .before .before .x8 .given .0 .0) (c .before .before .x8 .given .0 .1 .0) (c .before .before .x8 .given .0 .1 .1 .0) (c .before .before .x8 .given .1) refl refl refl refl refl (c .transfer .ensures q p)
+unfolding nodeFaultBy
+returns-9 c = node-is _ _ (c .before .before .x8 .given .1) (c .transfer .ensures)
 
 returns-10 : tie.Need-returns-10
-unfolding isAbsent countRight removedRight arcTo arcNo
-returns-10 c = λ t q s p. queue-late t q s (c .before .before .x9 .given .0 .0) (c .before .before .x9 .given .0 .1 .0) (c .before .before .x9 .given .0 .1 .1 .0) (c .before .before .x9 .given .1) refl refl refl refl refl (c .transfer2 .ensures q p)
+unfolding nodeFaultBy
+returns-10 c = node-is _ _ (c .before .before .x9 .given .1) (c .transfer2 .ensures)
 
 returns-11 : tie.Need-returns-11
-unfolding isAbsent countRight removedRight arcTo arcNo
-returns-11 c = λ t q s p. plain-late t q s _ (c .before .before .x10 .given .1) refl refl refl refl refl (c .arc8 .ensures q p)
+unfolding nodeFaultBy
+returns-11 c = node-is _ _ (c .before .before .x10 .given .1) (c .arc8 .ensures)
 
 returns-12 : tie.Need-returns-12
-unfolding isAbsent countRight removedRight arcTo arcNo
-returns-12 c = λ t q s p. plain-late t q s _ (c .before .before .x11 .given .1) refl refl refl refl refl (c .arc9 .ensures q p)
+unfolding nodeFaultBy
+returns-12 c = node-is _ _ (c .before .before .x11 .given .1) (c .arc9 .ensures)
 
 returns-13 : tie.Need-returns-13
-returns-13 c = λ t q s p. return-late t q s (c .enum-told2 .given .1)
+unfolding nodeFaultBy
+returns-13 c = node-is _ _ (c .enum-told2 .given .1) refl
 
 pub node-spec : {M : Type 1} → statement M
 node-spec =

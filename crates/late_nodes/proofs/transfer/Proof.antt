@@ -16,7 +16,7 @@ first-requires : tie.Need-first-requires
 first-requires c κs = search needs
 
 returns : tie.Need-returns
-returns c = λ q e. transfer-in (c .before .before .before .before .before .args .c) q (c .before .before .before .before .before .args .queue) (c .before .before .before .before .before .args .var) (c .before .before .before .before .before .args .to) (c .before .before .before .blank-at .ensures) (c .before .before .arc .ensures q e) (c .before .blanks .ensures) (c .first .ensures)
+returns c = search (needs, transfer-in)
 
 pub transfer-spec : {M : Type 1} → statement M
 transfer-spec =
