@@ -15,6 +15,7 @@ use Rattle.table.specs.declared.Operand.the-variants.{Var, Const}
 use Rattle.table.specs.declared.Args.{Args}
 use Rattle.table.specs.declared.Node.{Node}
 use Rattle.table.specs.declared.Node.the-variants.{Absent, Start, Set, Test, Read, Call, Wait, Signal, Send, Recv, Assert, Out, Return}
+use Rattle.table.specs.MaskLaws.{bit-ext}
 use Rattle.masks.specs.Bits.{bit-zero, bit-one, bit-one-out, bit-or-out, bit-or-l, bit-or-r, bit-and-out, bit-and-in, least}
 use Rattle.flow.specs.declared.Flow.{Flow}
 use Rattle.flow.specs.declared.Pass.{Pass}
