@@ -5,9 +5,9 @@ use mathlib.Core.Path.{_≡_, refl, sym, _∙_, ap}
 use mathlib.Core.Bool.{Bool, true, false}
 use mathlib.Core.List.{List, [], _∷_, _++_}
 use native.Mathlib.Omega.{arith}
-use borrow.Author.Tests.{le-ltb}
+use borrow.Author.Tests.{le-ltb, ltb-false}
 use lib.Dec.{ltb}
-use lib.ListN.{length, take, drop}
+use lib.ListN.{length, take, drop, length-append, length-drop}
 use Rattle.table.specs.Shape.{Shaped}
 use Rattle.table.specs.declared.Table.{Table}
 use Rattle.text.specs.declared.Reading.{Reading}
@@ -54,6 +54,31 @@ write-then-read t s out w left m ok r e =
     let n : w .len ≡ length (text t) = ap (λ (x : Writing). x .len) (m .answered) ∙ ap (λ (x : Written). x .answer .len) (a .1) in
     let b : left ≡ text t ++ drop (length (text t)) out = m .held ∙ ap (λ (x : Written). x .buffer) (a .1) in
     e ∙ rw (n, b, take-first (text t) (drop (length (text t)) out)) (written-read t s (a .0))
+
+-- the text written fits the buffer, which keeps its length; on a refusal nothing is written
+abbrev Fits : List ℕ → Written → Type 0
+Fits out x = (length (x .buffer) ≡ length out) × (x .answer .len ≤ length out)
+
+whole-fits : (s out : List ℕ) → length s ≤ length out → Fits out (whole s out)
+whole-fits s out h = (simp (length-append, length-drop) (omega arith), h)
+
+written-fits : (t : Table) (out : List ℕ) → Fits out (writeTo t out)
+written-fits t out = go (fault t) refl (ltb (length out) (length (text t))) refl
+  where
+    go : (n : ℕ) → fault t ≡ n → (b : Bool) → ltb (length out) (length (text t)) ≡ b → Fits out (writeTo t out)
+    go zero p true q = rw (write-is t out p refl q) (refl, omega arith)
+    go zero p false q = rw (write-is t out p refl q) (whole-fits (text t) out (ltb-false (length out) (length (text t)) q))
+    go (suc n) p b q = rw (write-is t out p refl q) (refl, omega arith)
+
+-- the buffer keeps its length, whatever the writer answers
+pub write-keeps-length : (t : Table) (out : List ℕ) (w : Writing) (left : List ℕ) → WriteCall t out w left → length left ≡ length out
+write-keeps-length t out w left m = ap length (m .held) ∙ written-fits t out .0
+
+-- what is written fits the buffer, so that `&out[..w.len]` is a part of it
+pub write-fits : (t : Table) (out : List ℕ) (w : Writing) (left : List ℕ) → WriteCall t out w left → w .len ≤ length left
+write-fits t out w left m =
+    let n : w .len ≡ writeTo t out .answer .len = ap (λ (x : Writing). x .len) (m .answered) in
+    omega (arith, write-keeps-length t out w left m, written-fits t out .1)
 
 -- "and an accepted text read and written is the same text", with every byte behind it as before
 pub read-then-write : (s : List ℕ) (r : Reading) → r ≡ read s → r .number ≡ 0

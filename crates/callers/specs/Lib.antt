@@ -1,0 +1,4 @@
+pub mod WrittenAndRead
+pub mod SideBySide
+pub mod WrittenAndReadLaws
+pub mod SideBySideLaws
