@@ -6,7 +6,7 @@ use mathlib.Core.List.{List}
 use lib.Dec.{ltb}
 use lib.ListN.{drop, replicate}
 use Rattle.table.specs.Mask.{pick}
-use Rattle.table.specs.Table.{noProc}
+use Rattle.table.specs.Table.{noSlots, noProc}
 use Rattle.table.specs.declared.Slot.{Slot}
 use Rattle.table.specs.declared.Proc.{Proc}
 use Rattle.text.specs.declared.Fault.{Fault}
@@ -20,17 +20,19 @@ use Rattle.records.specs.declared.ProcLine.{ProcLine}
 use Rattle.records.specs.declared.ProcLine.the-variants.{Is as IsProc, Refused as NotProc}
 use Rattle.nodes.specs.declared.Line.{Line}
 use Rattle.nodes.specs.declared.Line.the-variants.{Node as IsNode, Refused as NotNode}
-use Rattle.rows.specs.declared.End.the-variants.{Refused}
-use Rattle.rows.specs.Rows.{endIn, endWithin, RowsAt}
+use Rattle.rows.specs.declared.End.{End}
+use Rattle.rows.specs.declared.End.the-variants.{At, Refused}
+use Rattle.rows.specs.Rows.{endIn, endWithin, endBlank, RowsAt}
 use Rattle.procs.specs.declared.Slots.{Slots}
 use Rattle.procs.specs.declared.ProcRow.{ProcRow}
 use Rattle.procs.specs.declared.Procs.{Procs}
 
 -- ---- node lines
 
-abbrev pub stoppedOf : Line → List Slot → Slots
-stoppedOf (IsNode x j e) l = record { end = Refused Fault.Form; line = 0; slots = l }
-stoppedOf (NotNode f k) l = record { end = Refused f; line = k; slots = l }
+-- a refused line
+abbrev pub stoppedOf : Line → Slots
+stoppedOf (IsNode x j e) = record { end = Refused Fault.Form; line = 0; slots = noSlots }
+stoppedOf (NotNode f k) = record { end = Refused f; line = k; slots = noSlots }
 
 abbrev pub stood : After → Bool
 stood (stands s) = true
@@ -59,6 +61,7 @@ numberBelow closed next n = pick (isFurther closed next) n (suc next)
 pub record SlotsAt (c : Judged) (closed : Bool) (s : List ℕ) (at line : ℕ) (r : Slots) : Type 0 where
   pub same : endIn s (r .line) (r .slots) (r .end) ≡ nodesOf c closed line (drop at s)
   pub within : endWithin s (r .end)
+  pub blank : endBlank noSlots (r .slots) (r .end)
   pub lines : r .line ≤ line + 32
 
 -- ---- procedures
@@ -70,8 +73,13 @@ procFault (NotProc f) = f
 abbrev pub procOf : ProcHead → List Slot → Proc
 procOf h l = record { params = h .params; vars = h .vars; nodes = h .nodes; drop = h .drop; slots = l }
 
+-- what a procedure's line says, all 0 where one of its node lines is refused
+abbrev pub headKept : ProcHead → End → ProcHead
+headKept h (At e) = h
+headKept h (Refused f) = record { params = 0; vars = 0; nodes = 0; drop = 0 }
+
 abbrev pub rowOf : ProcHead → Slots → ProcRow
-rowOf h x = record { end = x .end; line = x .line; proc = procOf h (x .slots) }
+rowOf h x = record { end = x .end; line = x .line; proc = procOf (headKept h (x .end)) (x .slots) }
 
 abbrev pub rowIn : Bool → Counts → ℕ → Parser Proc
 rowIn closed x = procRow closed (x .procs) (x .sems) (x .queues)
@@ -80,6 +88,7 @@ rowIn closed x = procRow closed (x .procs) (x .sems) (x .queues)
 pub record ProcRowAt (closed : Bool) (x : Counts) (i : ℕ) (s : List ℕ) (at line : ℕ) (r : ProcRow) : Type 0 where
   pub same : endIn s (r .line) (r .proc) (r .end) ≡ rowIn closed x i line (drop at s)
   pub within : endWithin s (r .end)
+  pub blank : endBlank noProc (r .proc) (r .end)
   pub lines : r .line ≤ line + 33
 
 -- all procedures

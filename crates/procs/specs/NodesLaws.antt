@@ -34,12 +34,12 @@ use Rattle.procs.specs.declared.Slots.{Slots}
 use Rattle.procs.specs.Answer.{stoppedOf, stood, nodeStands, isFurther, lineDue, numberBelow, SlotsAt}
 
 -- ---- a refused line; a line beginning `node=`
-module _ {r : Line} {l : List Slot} where
-  pub stopped-not : {f : Fault} {k : ℕ} → r ≡ NotNode f k → _≡_ {A = Slots} (record { end = Refused f; line = k; slots = l }) (stoppedOf r l)
-  stopped-not q = rw q
+module _ {r : Line} {l : List Slot} (z : l ≡ noSlots) where
+  pub stopped-not : {f : Fault} {k : ℕ} → r ≡ NotNode f k → _≡_ {A = Slots} (record { end = Refused f; line = k; slots = l }) (stoppedOf r)
+  stopped-not q = rw (q, z)
 
-  pub stopped-is : {x : Node} {j e : ℕ} → r ≡ IsNode x j e → _≡_ {A = Slots} (record { end = Refused Form; line = 0; slots = l }) (stoppedOf r l)
-  stopped-is q = rw q
+  pub stopped-is : {x : Node} {j e : ℕ} → r ≡ IsNode x j e → _≡_ {A = Slots} (record { end = Refused Form; line = 0; slots = l }) (stoppedOf r)
+  stopped-is q = rw (q, z)
 
 module _ {s : List ℕ} {at : ℕ} {r : Found} (m : AfterKey (bytes "node=") s at r) where
   pub stands-at : {b : ℕ} → r ≡ FoundAt b → true ≡ nodeStands s at
@@ -201,6 +201,7 @@ module _ {c : Judged} {closed : Bool} {s : List ℕ} {at line : ℕ} {acc : List
   nodes-end e = record {
     same = from-end closed next o (sym due ∙ e);
     within = o .place;
+    blank = tt;
     lines = omega (arith, o .lines, o .count, o .few);
   }
 
@@ -212,12 +213,13 @@ module _ {c : Judged} {closed : Bool} {s : List ℕ} {at line : ℕ} {acc : List
     nodes-below = omega (arith, within, o .few)
 
     module _ {r : Line} (m : NodeAt c next n s p l r) where
-      pub nodes-stop : {f : Fault} {k : ℕ} → r ≡ NotNode f k → {y : Slots} → y ≡ stoppedOf r acc → SlotsAt c closed s at line y
+      pub nodes-stop : {f : Fault} {k : ℕ} → r ≡ NotNode f k → {y : Slots} → y ≡ stoppedOf r → SlotsAt c closed s at line y
       nodes-stop {f} {k} q h =
           let z : k ≡ l = node-line m q in
           rw (h, q, z) (record {
             same = from-refused closed next o (sym due ∙ e) (rw b at m) q;
             within = tt;
+            blank = refl;
             lines = omega (arith, o .lines, o .count, o .few);
           })
 

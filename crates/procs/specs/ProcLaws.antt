@@ -6,7 +6,7 @@ use mathlib.Core.List.{List, _∷_}
 use native.Mathlib.Omega.{arith}
 use native.Mathlib.Numerals.{add-one}
 use lib.ListN.{length, drop, getD, set, replicate}
-use Rattle.table.specs.Table.{noSlot, noProc}
+use Rattle.table.specs.Table.{noSlot, noSlots, noProc}
 use Rattle.table.specs.declared.Slot.{Slot}
 use Rattle.table.specs.declared.Proc.{Proc}
 use Rattle.text.specs.declared.Fault.{Fault}
@@ -25,14 +25,35 @@ use Rattle.records.specs.declared.ProcLine.{ProcLine}
 use Rattle.records.specs.declared.ProcLine.the-variants.{Is as IsProc, Refused as NotProc}
 use Rattle.records.specs.Answer.{Counted, headOf, ProcAt, Sized}
 use Rattle.nodes.specs.Answer.{Fits}
+use Rattle.rows.specs.declared.End.{End}
 use Rattle.rows.specs.declared.End.the-variants.{At, Refused}
+use Rattle.rows.specs.Rows.{endIn, endBlank}
 use Rattle.rows.specs.RowLaws.{end-mapped, Step, Stop, Rowing, rows-start, rows-turn, rows-stop, rows-end}
 use Rattle.procs.specs.declared.Slots.{Slots}
 use Rattle.procs.specs.declared.ProcRow.{ProcRow}
-use Rattle.procs.specs.Answer.{SlotsAt, procFault, rowOf, rowIn, ProcRowAt, ProcsAt}
+use Rattle.procs.specs.Answer.{SlotsAt, procFault, procOf, headKept, rowOf, rowIn, ProcRowAt, ProcsAt}
 
 abbrev scopeFor : Bool → Counts → ProcHead → Judged
 scopeFor closed x h = record { closed = closed; procs = x .procs; sems = x .sems; queues = x .queues; vars = h .vars; nodes = h .nodes }
+
+-- ---- node lines were read, or one of them was refused
+pub kept-at : (h : ProcHead) {e : End} {p : ℕ} → e ≡ At p → h ≡ headKept h e
+kept-at h q = rw q
+
+pub kept-refused : (h : ProcHead) {e : End} {f : Fault} → e ≡ Refused f → _≡_ {A = ProcHead} (record { params = 0; vars = 0; nodes = 0; drop = 0 }) (headKept h e)
+kept-refused h q = rw q
+
+pub row-of : (h : ProcHead) (e : End) (k : ℕ) (l : List Slot) {x : ProcHead} → x ≡ headKept h e → _≡_ {A = ProcRow} (record { end = e; line = k; proc = procOf x l }) (rowOf h (record { end = e; line = k; slots = l }))
+row-of h e k l z = rw z
+
+module _ (h : ProcHead) (l : List Slot) where
+  row-end : (s : List ℕ) (k : ℕ) (e : End) → endIn s k (procOf (headKept h e) l) e ≡ endIn s k (procOf h l) e
+  row-end s k (At p) = refl
+  row-end s k (Refused f) = refl
+
+  row-blank : (e : End) → endBlank noSlots l e → endBlank noProc (procOf (headKept h e) l) e
+  row-blank (At p) z = tt
+  row-blank (Refused f) z = rw z
 
 module _ {closed : Bool} {i : ℕ} {s : List ℕ} {at : ℕ} {r : ProcLine} (m : ProcAt closed i s at r) where
   pub head-within : {h : ProcHead} {e : ℕ} → r ≡ IsProc h e → e ≤ length s
@@ -68,17 +89,18 @@ module _ {closed : Bool} {i : ℕ} {s : List ℕ} {at : ℕ} {r : ProcLine} (m :
       omega arith
 
   module _ {x : Counts} {l : ℕ} where
-    pub row-refused : {f y : Fault} → r ≡ NotProc f → y ≡ procFault r → {q : Proc} → ProcRowAt closed x i s at l (record { end = Refused y; line = l; proc = q })
-    row-refused {f} q d = rw (d, q) (record { same = rw (onto-stop (line (procLine closed i) l (drop at s)) (headOf closed i) {f = f} {l = l} (sym (m .is .same l) ∙ rw q)); within = tt; lines = omega arith })
+    pub row-refused : {f y : Fault} → r ≡ NotProc f → y ≡ procFault r → {b : Proc} → b ≡ noProc → ProcRowAt closed x i s at l (record { end = Refused y; line = l; proc = b })
+    row-refused {f} q d z = rw (d, q) (record { same = rw (onto-stop (line (procLine closed i) l (drop at s)) (headOf closed i) {f = f} {l = l} (sym (m .is .same l) ∙ rw q)); within = tt; blank = z; lines = omega arith })
 
     pub row-is : {h : ProcHead} {e : ℕ} → r ≡ IsProc h e → {b : Slots} → SlotsAt (scopeFor closed x h) closed s e (l + 1) b
         → {y : ProcRow} → y ≡ rowOf h b → ProcRowAt closed x i s at l y
     row-is {h} {e} q {b} u d =
         let t = head-took l q in
         rw d (subst (λ (h : ProcHead). SlotsAt (scopeFor closed x h) closed s e (l + 1) b → ProcRowAt closed x i s at l (rowOf h b)) (t .2) (λ u. record {
-          same = rw (t .1) (end-mapped (b .end) s (b .line) (b .slots) (procFrom closed i (t .0))
+          same = rw (t .1) (row-end (headOf closed i (t .0)) (b .slots) s (b .line) (b .end) ∙ end-mapped (b .end) s (b .line) (b .slots) (procFrom closed i (t .0))
               ∙ ap (λ (o : Outcome (List Slot)). onto o (λ v k r. took (procFrom closed i (t .0) v) k r)) (rw (add-one l) at (u .same)));
           within = u .within;
+          blank = row-blank (headOf closed i (t .0)) (b .slots) (b .end) (u .blank);
           lines = omega (arith, u .lines);
         }) u)
 
@@ -98,10 +120,10 @@ module _ {closed : Bool} {x : Counts} {s : List ℕ} {at line : ℕ} {acc : List
       record { rowing = rows-turn (o .rowing) h u; lines = omega (arith, o .lines, m .lines) }
 
   pub procs-stop : i < x .procs → {r : ProcRow} → ProcRowAt closed x i s p l r → {f : Fault} → r .end ≡ Refused f
-      → {a : List Proc} → ProcsAt closed x s at line (record { end = r .end; line = r .line; proc = a })
-  procs-stop h {r} m {f} q {a} =
+      → {a : List Proc} → a ≡ replicate 8 noProc → ProcsAt closed x s at line (record { end = r .end; line = r .line; proc = a })
+  procs-stop h {r} m {f} q z =
       let u : Stop (rowIn closed x) i s p l f (r .line) = record { same = sym (m .same) ∙ rw q } in
-      record { rows = rw q (rows-stop (o .rowing) h u) }
+      record { rows = rw (q, z) (rows-stop (o .rowing) h u) }
 
   pub procs-end : x .procs ≤ i → ProcsAt closed x s at line (record { end = At p; line = l; proc = acc })
   procs-end h = record { rows = rows-end (o .rowing) h }
@@ -118,3 +140,9 @@ blank-is i = λ ι. record { params = 0; vars = 0; nodes = 0; drop = 0; slots = 
 pub blank-of : (i : ℕ) {q : Proc} (d : Slot) → q ≡ noProc
     → _≡_ {A = Proc} (record { params = q .params; vars = q .vars; nodes = q .nodes; drop = q .drop; slots = set (q .slots) i (getD (q .slots) 0 d) }) noProc
 blank-of i d p = rw p (blank-is i)
+
+pub blank-all : {q : Proc} → q ≡ noProc → replicate 8 q ≡ replicate 8 noProc
+blank-all p = rw p
+
+pub blank-slots : (i : ℕ) → set (replicate 32 noSlot) i noSlot ≡ noSlots
+blank-slots i = set-blank 32 i noSlot

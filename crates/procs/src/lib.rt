@@ -2,39 +2,88 @@
 ghost use Prim.Native.Nat.{_<_, _≤_};
 ghost use mathlib.Core.Path.{_≡_};
 ghost use mathlib.Core.Bool.{true, false};
-ghost use lib.ListN.{length};
+ghost use lib.ListN.{length, replicate};
 ghost use Rattle.nodes.specs.Answer.{scopeIn, Fits};
-ghost use Rattle.procs.specs.Answer.{stoppedOf, nodeStands, isFurther, lineDue, numberBelow, SlotsAt, rowOf, procFault, ProcRowAt, ProcsAt};
+ghost use Rattle.procs.specs.Answer.{stoppedOf, nodeStands, isFurther, lineDue, numberBelow, SlotsAt, headKept, rowOf, procFault, ProcRowAt, ProcsAt};
 ghost use Rattle.records.specs.Answer.{Counted};
-ghost use Rattle.table.specs.Table.{noProc};
+ghost use Rattle.table.specs.Table.{noSlots, noProc};
 
-// The node lines of a procedure, with the line reached; or their first fault, with its line.
+// The node lines of a procedure, with the line reached; or their first fault, with its line and slots all 0.
 pub struct Slots {
     pub end: rows::End,
     pub line: usize,
     pub slots: [table::Slot; 32],
 }
 
-// A procedure, with the line reached; or its first fault, with its line.
+// A procedure, with the line reached; or its first fault, with its line and a procedure all 0.
 struct ProcRow {
     end: rows::End,
     line: usize,
     proc: table::Proc,
 }
 
-// All procedures, with the line reached; or their first fault, with its line.
+// All procedures, with the line reached; or their first fault, with its line and procedures all 0.
 pub struct Procs {
     pub end: rows::End,
     pub line: usize,
     pub proc: [table::Proc; 8],
 }
 
+// ---- places all 0
+
+fn empty_proc() -> table::Proc
+    ensures { λ r. ⌜ r ≡ noProc ⌝ }
+{
+    let none = table::Slot {
+        node: table::Node::Absent,
+    };
+    table::Proc {
+        params: 0,
+        vars: 0,
+        nodes: 0,
+        drop: 0,
+        slots: [none; 32],
+    }
+}
+
+// Slots all 0, stored into at a computed place: they are then copied in one piece and not slot by slot.
+fn blank_slots(k: usize) -> [table::Slot; 32]
+    ensures { λ r. ⌜ r ≡ noSlots ⌝ }
+{
+    let none = table::Slot {
+        node: table::Node::Absent,
+    };
+    let mut slots = [none; 32];
+    let i = k % 32;
+    slots[i] = none;
+    slots
+}
+
+// As `empty_proc`, stored into at a computed place: procedures are then copied in one piece and not slot by slot.
+fn blank_proc(k: usize) -> table::Proc
+    ensures { λ r. ⌜ r ≡ noProc ⌝ }
+{
+    let mut q = empty_proc();
+    let none = q.slots[0];
+    let i = k % 32;
+    q.slots[i] = none;
+    q
+}
+
+fn blank_procs(k: usize) -> [table::Proc; 8]
+    ensures { λ r. ⌜ r ≡ replicate 8 noProc ⌝ }
+{
+    let none = blank_proc(k);
+    [none; 8]
+}
+
 // ---- node lines
 
-// A refused line's fault and number.
-fn stopped(row: nodes::Line, slots: [table::Slot; 32]) -> Slots
-    ensures { λ r. ⌜ r ≡ stoppedOf row slots ⌝ }
+// A refused line's fault and number, with slots all 0.
+fn stopped(row: nodes::Line, k: usize) -> Slots
+    ensures { λ r. ⌜ r ≡ stoppedOf row ⌝ }
 {
+    let slots = blank_slots(k);
     match row {
         nodes::Line::Node(_, _, _) => Slots {
             end: rows::End::Refused(text::Fault::Form),
@@ -111,7 +160,7 @@ fn node_rows(s: &[u8], at: usize, line: usize, c: nodes::Scope) -> Slots
     while due(s, p, c.closed, next, n) {
         let row = line_reader::next_node(s, p, l, c, next, below(c.closed, next, n));
         let nodes::Line::Node(node, j, e) = row else {
-            return stopped(row, slots);
+            return stopped(row, p);
         };
         let k = j as usize;
         slots[k] = table::Slot { node };
@@ -128,17 +177,33 @@ fn node_rows(s: &[u8], at: usize, line: usize, c: nodes::Scope) -> Slots
 
 // ---- procedures
 
-// What a procedure's line says, with its node lines.
+// What a procedure's line says, all 0 where one of its node lines is refused.
+fn head_kept(h: records::ProcHead, end: rows::End) -> records::ProcHead
+    ensures { λ r. ⌜ r ≡ headKept h end ⌝ }
+{
+    match end {
+        rows::End::At(_) => h,
+        rows::End::Refused(_) => records::ProcHead {
+            params: 0,
+            vars: 0,
+            nodes: 0,
+            drop: 0,
+        },
+    }
+}
+
+// A procedure of its line and its node lines.
 fn with_nodes(h: records::ProcHead, body: Slots) -> ProcRow
     ensures { λ r. ⌜ r ≡ rowOf h body ⌝ }
 {
     let end = body.end;
     let slots = body.slots;
+    let x = head_kept(h, end);
     let q = table::Proc {
-        params: h.params,
-        vars: h.vars,
-        nodes: h.nodes,
-        drop: h.drop,
+        params: x.params,
+        vars: x.vars,
+        nodes: x.nodes,
+        drop: x.drop,
         slots,
     };
     ProcRow {
@@ -146,32 +211,6 @@ fn with_nodes(h: records::ProcHead, body: Slots) -> ProcRow
         line: body.line,
         proc: q,
     }
-}
-
-fn empty_proc() -> table::Proc
-    ensures { λ r. ⌜ r ≡ noProc ⌝ }
-{
-    let none = table::Slot {
-        node: table::Node::Absent,
-    };
-    table::Proc {
-        params: 0,
-        vars: 0,
-        nodes: 0,
-        drop: 0,
-        slots: [none; 32],
-    }
-}
-
-// As `empty_proc`, stored into at a computed place: procedures are then copied in one piece and not slot by slot.
-fn blank_proc(k: usize) -> table::Proc
-    ensures { λ r. ⌜ r ≡ noProc ⌝ }
-{
-    let mut q = empty_proc();
-    let none = q.slots[0];
-    let i = k % 32;
-    q.slots[i] = none;
-    q
 }
 
 fn proc_fault(head: records::ProcLine) -> text::Fault
@@ -232,7 +271,7 @@ pub fn proc_rows(s: &[u8], at: usize, line: usize, closed: bool, counts: records
             return Procs {
                 end,
                 line: row.line,
-                proc,
+                proc: blank_procs(row.line),
             };
         };
         let q = row.proc;

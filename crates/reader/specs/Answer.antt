@@ -20,7 +20,7 @@ use Rattle.records.specs.declared.CountsLine.{CountsLine}
 use Rattle.records.specs.declared.CountsLine.the-variants.{Is as IsCounts, Refused as NotCounts}
 use Rattle.rows.specs.declared.End.{End}
 use Rattle.rows.specs.declared.End.the-variants.{At, Refused}
-use Rattle.rows.specs.Rows.{endIn, endWithin}
+use Rattle.rows.specs.Rows.{endIn, endWithin, endBlank}
 use Rattle.reader.specs.declared.Objects.{Objects}
 
 abbrev pub headFault : HeadLine → Fault
@@ -44,6 +44,13 @@ pub record Lists : Type 0 where
 abbrev pub lists : List Task → List Sem → List Queue → Lists
 lists ts ss qs = record { task = ts; sem = ss; queue = qs }
 
+-- all 0
+abbrev pub noLists : Lists
+noLists = lists (replicate 4 noTask) (replicate 8 noSem) (replicate 8 noQueue)
+
+abbrev pub noObjects : End → ℕ → Objects
+noObjects e l = record { end = e; line = l; task = noLists .task; sem = noLists .sem; queue = noLists .queue }
+
 abbrev pub listsOf : Objects → Lists
 listsOf r = lists (r .task) (r .sem) (r .queue)
 
@@ -59,6 +66,7 @@ objectRows closed x = rows (taskRow (x .procs)) (x .tasks) 0 (replicate 4 noTask
 pub record ObjectsAt (closed : Bool) (x : Counts) (s : List ℕ) (at line : ℕ) (r : Objects) : Type 0 where
   pub same : endIn s (r .line) (listsOf r) (r .end) ≡ objectRows closed x line (drop at s)
   pub within : endWithin s (r .end)
+  pub blank : endBlank noLists (listsOf r) (r .end)
   pub lines : r .line ≤ 23
 
 -- what is answered to the outcome of the lines: faults 6 and 7 come after all of them

@@ -1,15 +1,13 @@
 -- The lines of a text, one group behind the other.
-use Prim.Native.Nat.{ℕ, zero, suc, _+_, _≤_, _<_}
+use Prim.Native.Nat.{ℕ, _+_, _≤_, _<_}
 use mathlib.Core.Path.{_≡_, refl, sym, _∙_, ap}
-use mathlib.Core.List.{List, [], _∷_}
+use mathlib.Core.List.{List, []}
 use mathlib.Core.Bool.{Bool, false}
 use native.Mathlib.Omega.{arith}
 use borrow.Author.Tests.{lt-ltb, le-ltb}
 use lib.ListN.{length, drop, getD, set, replicate, drop-of-length-le}
 use lib.Seq.{drop-cons}
 use Rattle.table.specs.Table.{noTable, noTask, noSem, noQueue, noProc, outside}
-use Rattle.table.specs.declared.Sem.{Sem}
-use Rattle.table.specs.declared.Queue.{Queue}
 use Rattle.table.specs.declared.Proc.{Proc}
 use Rattle.table.specs.declared.Table.{Table}
 use Rattle.text.specs.declared.Fault.{Fault}
@@ -21,7 +19,7 @@ use Rattle.text.specs.LineLaws.{onto-read, line-read}
 use Rattle.text.specs.RowLaws.{Rows, Row, faultless, rows-fill}
 use Rattle.text.specs.NodeLaws.{number-fact}
 use Rattle.text.specs.Format.{headLine, countsLine, procLine}
-use Rattle.text.specs.Reader.{rows, taskRow, semRow, queueRow, nodesOf, scopeOf, procOf, procRow, atEnd, body, table, late, firstLate, bad, resultOf, readLines, reading, read}
+use Rattle.text.specs.Reader.{rows, taskRow, semRow, queueRow, nodesOf, scopeOf, procOf, procRow, atEnd, body, table, late, firstLate, bad, readLines, reading, read}
 use Rattle.fields.specs.Answer.{LineAt}
 use Rattle.fields.specs.FieldLaws.{onto-onto, onto-got, onto-stop}
 use Rattle.records.specs.declared.Counts.{Counts}
@@ -36,7 +34,6 @@ use Rattle.rows.specs.declared.Tasks.{Tasks}
 use Rattle.rows.specs.declared.Sems.{Sems}
 use Rattle.rows.specs.declared.Queues.{Queues}
 use Rattle.rows.specs.Rows.{RowsAt}
-use Rattle.rows.specs.RowLaws.{end-mapped}
 use Rattle.procs.specs.declared.Procs.{Procs}
 use Rattle.procs.specs.Answer.{ProcsAt}
 use Rattle.procs.specs.ProcLaws.{set-blank}
@@ -44,7 +41,7 @@ use Rattle.late.specs.declared.Late.{Late}
 use Rattle.late.specs.declared.Late.the-variants.{Good, Bad}
 use Rattle.late.specs.Late.{lateIn, Counted as Few}
 use Rattle.reader.specs.declared.Objects.{Objects}
-use Rattle.reader.specs.Answer.{headFault, countsFault, faultOf, Lists, lists, listsOf, queueRows, semRows, objectRows, ObjectsAt, answered, bodyIn}
+use Rattle.reader.specs.Answer.{headFault, countsFault, faultOf, Lists, lists, noObjects, listsOf, queueRows, semRows, objectRows, ObjectsAt, answered, bodyIn}
 
 module _ {A : Type 0} {f : ℕ → Parser A} {n : ℕ} {acc : List A} {s : List ℕ} {at line : ℕ} {e : End} {l : ℕ} {a : List A} (m : RowsAt f n acc s at line e l a) where
   rows-took : {p : ℕ} → e ≡ At p → rows f n 0 acc line (drop at s) ≡ took a l (drop p s)
@@ -99,24 +96,19 @@ blank-of i d p = rw p (blank-is i)
 -- ---- tasks, semaphores and queues
 module _ {closed : Bool} {x : Counts} {s : List ℕ} {at line : ℕ} {a : Tasks}
     (m : RowsAt (taskRow (x .procs)) (x .tasks) (replicate 4 noTask) s at line (a .end) (a .line) (a .task)) (u : a .line ≤ line + 4) (h : line ≤ 3) where
-  pub tasks-stop : {y : Fault} → a .end ≡ Refused y → {ss : List Sem} {qs : List Queue}
-      → ObjectsAt closed x s at line (record { end = a .end; line = a .line; task = a .task; sem = ss; queue = qs })
-  tasks-stop q = record { same = rw (q, rows-refused m q); within = rw q tt; lines = omega arith }
+  pub tasks-stop : {y : Fault} → a .end ≡ Refused y → {r : Objects} → r ≡ noObjects (a .end) (a .line) → ObjectsAt closed x s at line r
+  tasks-stop q d = rw (d, q) (record { same = rw (rows-refused m q); within = tt; blank = refl; lines = omega arith })
 
   module _ {p : ℕ} (q : a .end ≡ At p) {b : Sems} (n : RowsAt semRow (x .sems) (replicate 8 noSem) s p (a .line) (b .end) (b .line) (b .sem)) (v : b .line ≤ a .line + 8) where
-    pub sems-stop : {y : Fault} → b .end ≡ Refused y → {qs : List Queue}
-        → ObjectsAt closed x s at line (record { end = b .end; line = b .line; task = a .task; sem = b .sem; queue = qs })
-    sems-stop r = record { same = rw (r, rows-took m q, rows-refused n r); within = rw r tt; lines = omega arith }
+    pub sems-stop : {y : Fault} → b .end ≡ Refused y → {r : Objects} → r ≡ noObjects (b .end) (b .line) → ObjectsAt closed x s at line r
+    sems-stop f d = rw (d, f) (record { same = rw (rows-took m q, rows-refused n f); within = tt; blank = refl; lines = omega arith })
 
-    pub objects-end : {i : ℕ} → b .end ≡ At i → {c : Queues} → RowsAt (queueRow closed) (x .queues) (replicate 8 noQueue) s i (b .line) (c .end) (c .line) (c .queue)
-        → c .line ≤ b .line + 8 → ObjectsAt closed x s at line (record { end = c .end; line = c .line; task = a .task; sem = b .sem; queue = c .queue })
-    objects-end r {c} o w = record {
-      same = rw (rows-took m q, rows-took n r)
-          (end-mapped (c .end) s (c .line) (c .queue) (lists (a .task) (b .sem))
-          ∙ ap (λ (z : Outcome (List Queue)). onto z (λ qs k t. took (lists (a .task) (b .sem) qs) k t)) (o .same));
-      within = o .within;
-      lines = omega arith;
-    }
+    module _ {i : ℕ} (w : b .end ≡ At i) {c : Queues} (o : RowsAt (queueRow closed) (x .queues) (replicate 8 noQueue) s i (b .line) (c .end) (c .line) (c .queue)) (z : c .line ≤ b .line + 8) where
+      pub queues-stop : {y : Fault} → c .end ≡ Refused y → {r : Objects} → r ≡ noObjects (c .end) (c .line) → ObjectsAt closed x s at line r
+      queues-stop f d = rw (d, f) (record { same = rw (rows-took m q, rows-took n w, rows-refused o f); within = tt; blank = refl; lines = omega arith })
+
+      pub objects-end : {e : ℕ} → c .end ≡ At e → ObjectsAt closed x s at line (record { end = c .end; line = c .line; task = a .task; sem = b .sem; queue = c .queue })
+      objects-end f = record { same = rw (f, rows-took m q, rows-took n w, rows-took o f); within = o .within; blank = rw f tt; lines = omega arith }
 
 pub objects-place : {closed : Bool} {x : Counts} {s : List ℕ} {at line : ℕ} {r : Objects} → ObjectsAt closed x s at line r → {p : ℕ} → r .end ≡ At p → p ≤ length s
 objects-place m q = rw q at (m .within)

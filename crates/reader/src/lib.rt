@@ -15,7 +15,7 @@ ghost use lib.ListN.{length, drop};
 ghost use Rattle.table.specs.Table.{noTable};
 ghost use Rattle.text.specs.Reader.{table, bad, reading, read};
 ghost use Rattle.records.specs.Answer.{Counted};
-ghost use Rattle.reader.specs.Answer.{ObjectsAt, answered, bodyIn, faultOf, headFault, countsFault};
+ghost use Rattle.reader.specs.Answer.{noObjects, ObjectsAt, answered, bodyIn, faultOf, headFault, countsFault};
 
 // A table all 0.
 pub fn no_table() -> Table
@@ -56,7 +56,7 @@ fn blank_table(k: usize) -> Table
     t
 }
 
-// The tasks, semaphores and queues, with the line reached; or their first fault, with its line.
+// The tasks, semaphores and queues, with the line reached; or their first fault, with its line and places all 0.
 struct Objects {
     end: rows::End,
     line: usize,
@@ -92,42 +92,44 @@ fn fault_of(end: rows::End) -> Fault
     }
 }
 
+// A refusal, with places all 0.
+fn no_objects(end: rows::End, line: usize) -> Objects
+    ensures { λ r. ⌜ r ≡ noObjects end line ⌝ }
+{
+    Objects {
+        end,
+        line,
+        task: [Task { top: 0 }; 4],
+        sem: [Sem { count: 0 }; 8],
+        queue: [Queue {
+            cap: 0,
+            blank: false,
+        }; 8],
+    }
+}
+
 // The lines of tasks, semaphores and queues.
 fn object_rows(s: &[u8], at: usize, line: usize, closed: bool, counts: records::Counts) -> Objects
     requires { ⌜ (at ≤ length (now s)) × Counted counts × (line ≤ 3) ⌝ }
     ensures { λ r. ⌜ ObjectsAt closed counts (now (s .entry)) at line r ⌝ }
 {
-    let none = Sem { count: 0 };
-    let empty = Queue {
-        cap: 0,
-        blank: false,
-    };
     let a = rows::task_rows(s, at, line, counts.tasks as usize, counts.procs as u64);
     let first = a.end;
-    let task = a.task;
     let rows::End::At(p) = first else {
-        return Objects {
-            end: first,
-            line: a.line,
-            task,
-            sem: [none; 8],
-            queue: [empty; 8],
-        };
+        return no_objects(first, a.line);
     };
     let b = rows::sem_rows(s, p, a.line, counts.sems as usize);
     let second = b.end;
-    let sem = b.sem;
     let rows::End::At(q) = second else {
-        return Objects {
-            end: second,
-            line: b.line,
-            task,
-            sem,
-            queue: [empty; 8],
-        };
+        return no_objects(second, b.line);
     };
     let c = rows::queue_rows(s, q, b.line, counts.queues as usize, closed);
     let third = c.end;
+    let rows::End::At(_) = third else {
+        return no_objects(third, c.line);
+    };
+    let task = a.task;
+    let sem = b.sem;
     let queue = c.queue;
     Objects {
         end: third,

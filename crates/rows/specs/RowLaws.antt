@@ -60,15 +60,15 @@ module _ {A : Type 0} {f : ℕ → Parser A} {n : ℕ} {acc₀ : List A} {s : Li
         same = rw (add-one i) (rw (q, u .same) at (m .same));
       }
 
-  pub rows-stop : i < n → {x : Fault} {l′ : ℕ} → Stop f i s p l x l′ → {a : List A} → RowsAt f n acc₀ s at line (Refused x) l′ a
+  pub rows-stop : i < n → {x : Fault} {l′ : ℕ} → Stop f i s p l x l′ → RowsAt f n acc₀ s at line (Refused x) l′ acc₀
   unfolding rows
   rows-stop h u =
       let q : n - i ≡ suc (n - (i + 1)) = omega arith in
-      record { same = rw (q, u .same) at (m .same); within = tt }
+      record { same = rw (q, u .same) at (m .same); within = tt; blank = refl }
 
   pub rows-end : n ≤ i → RowsAt f n acc₀ s at line (At p) l acc
   unfolding rows
-  rows-end h = let q : n - i ≡ 0 = omega arith in record { same = rw q at (m .same); within = m .place }
+  rows-end h = let q : n - i ≡ 0 = omega arith in record { same = rw q at (m .same); within = m .place; blank = tt }
 
 -- ---- the rows of one line
 module _ {procs i : ℕ} {s : List ℕ} {p : ℕ} {r : TaskLine} (m : LineAt (taskLine procs i) (taskOf procs i) s p (taskIn r)) where

@@ -24,10 +24,16 @@ abbrev pub endWithin : List ℕ → End → Type 0
 endWithin s (At e) = e ≤ length s
 endWithin s (Refused f) = Unit {0}
 
--- n rows, each put into its place of acc
+-- "no table; a place for one is all 0"
+abbrev pub endBlank : {A : Type 0} → A → A → End → Type 0
+endBlank zero a (At e) = Unit {0}
+endBlank zero a (Refused f) = a ≡ zero
+
+-- n rows, each put into its place of acc, which is all 0
 pub record RowsAt {A : Type 0} (f : ℕ → Parser A) (n : ℕ) (acc : List A) (s : List ℕ) (at line : ℕ) (e : End) (l : ℕ) (a : List A) : Type 0 where
   pub same : endIn s l a e ≡ rows f n 0 acc line (drop at s)
   pub within : endWithin s e
+  pub blank : endBlank acc a e
 
 -- ---- refusals
 

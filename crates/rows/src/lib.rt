@@ -12,7 +12,7 @@ pub enum End {
     Refused(text::Fault),
 }
 
-// What some lines hold, with the line reached; or their first fault, with its line.
+// What some lines hold, with the line reached; or their first fault, with its line and places that are all 0.
 pub struct Tasks {
     pub end: End,
     pub line: usize,
@@ -73,7 +73,7 @@ pub fn task_rows(s: &[u8], at: usize, line: usize, n: usize, procs: u64) -> Task
             return Tasks {
                 end: End::Refused(task_fault(row)),
                 line: l,
-                task,
+                task: [table::Task { top: 0 }; 4],
             };
         };
         task[i] = t;
@@ -103,7 +103,7 @@ pub fn sem_rows(s: &[u8], at: usize, line: usize, n: usize) -> Sems
             return Sems {
                 end: End::Refused(sem_fault(row)),
                 line: l,
-                sem,
+                sem: [table::Sem { count: 0 }; 8],
             };
         };
         sem[i] = x;
@@ -136,7 +136,10 @@ pub fn queue_rows(s: &[u8], at: usize, line: usize, n: usize, closed: bool) -> Q
             return Queues {
                 end: End::Refused(queue_fault(row)),
                 line: l,
-                queue,
+                queue: [table::Queue {
+                    cap: 0,
+                    blank: false,
+                }; 8],
             };
         };
         queue[i] = x;

@@ -3,10 +3,6 @@ use Rattle.procs.specs.ProcLaws.{Procing, procs-start, procs-turn, procs
 use borrow.Author.Needs.{needs}
 use Rattle.procs.proofs.proc_rows.Statement.{statement}
 use Rattle.procs.proofs.proc_rows.Tie as tie
-use Rattle.procs.proofs.proc_rows.Reads as reads
-use Rattle.procs.proofs.proc_rows.Lts as lts
-use Rattle.procs.proofs.empty_proc.Reads as empty-proc-reads
-use Rattle.procs.proofs.proc_row.Reads as proc-row-reads
 
 abbrev Inv-loop : tie.InvT-loop
 Inv-loop s at line closed counts proc₀ n p₀ l₀ i₀ proc p l i = Procing closed counts s at line proc p l i
@@ -14,55 +10,45 @@ Inv-loop s at line closed counts proc₀ n p₀ l₀ i₀ proc p l i = Procing c
 abbrev μ-loop : tie.MeasureT-loop
 μ-loop s at line closed counts proc₀ n p₀ l₀ i₀ proc p l i = n - i
 
--- src/lib.rt:225:9
 empty-proc-requires : tie.Need-empty-proc-requires Inv-loop μ-loop
 empty-proc-requires c κs = search needs
 
--- src/lib.rt:227:13
 cast-n : tie.Need-cast-n Inv-loop μ-loop
 cast-n c = search needs
 
--- src/lib.rt:231:5
 loop-holds : tie.Need-loop-holds Inv-loop μ-loop
 loop-holds c = search (needs, procs-start)
 
--- src/lib.rt:232:13
 proc-row-requires : tie.Need-proc-row-requires Inv-loop μ-loop
 proc-row-requires c κs = search needs
 
--- src/lib.rt:234:27
 enum-known-end : tie.Need-enum-known-end Inv-loop μ-loop
 enum-known-end c = search needs
 
--- src/lib.rt:238:17
 enum-told : tie.Need-enum-told Inv-loop μ-loop
 enum-told c = search needs
 
--- src/lib.rt:235:13
+blank-procs-requires : tie.Need-blank-procs-requires Inv-loop μ-loop
+blank-procs-requires c κs = search needs
+
 returns : tie.Need-returns Inv-loop μ-loop
 returns c = search (needs, procs-stop)
 
--- src/lib.rt:242:9
 mul-proc : tie.Need-mul-proc Inv-loop μ-loop
 mul-proc c = search needs
 
--- src/lib.rt:242:9
 array-set-from-proc : tie.Need-array-set-from-proc Inv-loop μ-loop
 array-set-from-proc c = search needs
 
--- src/lib.rt:245:9
 add-i : tie.Need-add-i Inv-loop μ-loop
 add-i c = search needs
 
--- src/lib.rt:231:5
 loop-less : tie.Need-loop-less Inv-loop μ-loop
 loop-less c = search needs
 
--- src/lib.rt:231:5
 loop-again : tie.Need-loop-again Inv-loop μ-loop
 loop-again c = search (needs, procs-turn)
 
--- src/lib.rt:221:1
 returns-2 : tie.Need-returns-2 Inv-loop μ-loop
 returns-2 c = search (needs, procs-end)
 
@@ -78,6 +64,7 @@ proc-rows-spec =
     proc-row-requires
     enum-known-end
     enum-told
+    blank-procs-requires
     returns
     mul-proc
     array-set-from-proc
