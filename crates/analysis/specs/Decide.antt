@@ -12,7 +12,7 @@ use lib.Pow.{pow-lt, pow-pos}
 use lib.Dec.{eqb, ltb}
 use borrow.Author.Tests.{ltb-true, ltb-false, lt-ltb, le-ltb, eqb-true, eqb-false}
 use Rattle.table.specs.Mask.{pick, bit, members}
-use Rattle.table.specs.Table.{noSlot, outside, procAt, nodeAt, taskAt, uses, sets, arcs, arcTo, arcNo, argAt}
+use Rattle.table.specs.Table.{noSlot, outside, procAt, nodeAt, taskAt, uses, variableSet, arcs, arcTo, arcNo, argAt}
 use Rattle.table.specs.declared.Operand.{Operand}
 use Rattle.table.specs.declared.Op.{Op}
 use Rattle.table.specs.declared.Node.{Node}
@@ -87,11 +87,11 @@ module _ (t : Table) (o : Ready t) where
 
   module _ (p n i b : ℕ) (H : (v : ℕ) → bit v i ≡ true → Dirty t (useAt p n v)) (HB : (q : ℕ) → bit q b ≡ true → Dirty t (blank q)) where
     -- along an arc of a node that sets nothing
-    plain : (m v : ℕ) → sets (nodeAt t p n) ≡ none → List·Memᴰ m (arcs (nodeAt t p n)) → bit v i ≡ true → Dirty t (useAt p m v)
+    plain : (m v : ℕ) → variableSet (nodeAt t p n) ≡ none → List·Memᴰ m (arcs (nodeAt t p n)) → bit v i ≡ true → Dirty t (useAt p m v)
     plain m v s a h = use-on t (λ e. let z : _≡_ {A = ℕ} 0 1 = cc in absurd (omega arith)) a (H v h)
 
     -- along an arc of a node that sets w
-    setting : (m w v : ℕ) (d : Bool) → sets (nodeAt t p n) ≡ some w → w < procAt t p .vars → List·Memᴰ m (arcs (nodeAt t p n)) → (d ≡ true → Dirty t (settingAt p n)) → bit v (afterSet i d (2 ^ w)) ≡ true → Dirty t (useAt p m v)
+    setting : (m w v : ℕ) (d : Bool) → variableSet (nodeAt t p n) ≡ some w → w < procAt t p .vars → List·Memᴰ m (arcs (nodeAt t p n)) → (d ≡ true → Dirty t (settingAt p n)) → bit v (afterSet i d (2 ^ w)) ≡ true → Dirty t (useAt p m v)
     setting m w v d s l a f h = go (after-out i w v d h)
       where
         go : ((d ≡ true) × (v ≡ w)) ⊎ ((bit v i ≡ true) × (w ≢ v)) → Dirty t (useAt p m v)
@@ -110,17 +110,17 @@ module _ (t : Table) (o : Ready t) where
     arc-at : (x : Node) (to : ℕ) → nodeAt t p n ≡ x → arcTo x ≡ to → One to → List·Memᴰ (low to) (arcs (nodeAt t p n))
     arc-at x to e a one = Memᴰ·append-left (members (arcNo (nodeAt t p n))) (subst (λ (m : ℕ). List·Memᴰ (low to) (members m)) (sym a ∙ ap arcTo (sym e)) (low-in one))
 
-    one-plain : (x : Node) (to : ℕ) → nodeAt t p n ≡ x → sets x ≡ none → arcTo x ≡ to → One to → Flows (oneFlow to i 264 0)
+    one-plain : (x : Node) (to : ℕ) → nodeAt t p n ≡ x → variableSet x ≡ none → arcTo x ≡ to → One to → Flows (oneFlow to i 264 0)
     one-plain x to e s a one = record {
-      to-first = λ v h. plain (low to) v (ap sets e ∙ s) (arc-at x to e a one) h;
-      to-second = λ v h. plain (low to) v (ap sets e ∙ s) (arc-at x to e a one) h;
+      to-first = λ v h. plain (low to) v (ap variableSet e ∙ s) (arc-at x to e a one) h;
+      to-second = λ v h. plain (low to) v (ap variableSet e ∙ s) (arc-at x to e a one) h;
       to-extra = λ v h. none-of v h;
     }
 
-    one-set : (x : Node) (w to : ℕ) (d : Bool) → nodeAt t p n ≡ x → w < procAt t p .vars → sets x ≡ some w → arcTo x ≡ to → One to → (d ≡ true → Dirty t (settingAt p n)) → Flows (oneFlow to (afterSet i d (2 ^ (w % 32))) 264 0)
+    one-set : (x : Node) (w to : ℕ) (d : Bool) → nodeAt t p n ≡ x → w < procAt t p .vars → variableSet x ≡ some w → arcTo x ≡ to → One to → (d ≡ true → Dirty t (settingAt p n)) → Flows (oneFlow to (afterSet i d (2 ^ (w % 32))) 264 0)
     one-set x w to d e l s a one f = rw (var-mod (o .vars-few p) l) (record {
-      to-first = λ v h. setting (low to) w v d (ap sets e ∙ s) l (arc-at x to e a one) f h;
-      to-second = λ v h. setting (low to) w v d (ap sets e ∙ s) l (arc-at x to e a one) f h;
+      to-first = λ v h. setting (low to) w v d (ap variableSet e ∙ s) l (arc-at x to e a one) f h;
+      to-second = λ v h. setting (low to) w v d (ap variableSet e ∙ s) l (arc-at x to e a one) f h;
       to-extra = λ v h. none-of v h;
     })
 
@@ -130,27 +130,27 @@ module _ (t : Table) (o : Ready t) where
         by-set v q x y to (r .0) e (subst (λ (z : Node). List·Memᴰ (r .0) (uses z)) (sym e) (r .1)) (H (r .0) (r .2))
 
     node-sound : (x : Node) → nodeAt t p n ≡ x → FitsNode t (procAt t p .vars) x → Flows (flowOf x n i b)
-    unfolding flowOf sets arcTo arcNo
+    unfolding flowOf variableSet arcTo arcNo
     node-sound Absent e f = record { to-first = H; to-second = H; to-extra = λ v h. none-of v h }
     node-sound (Start to) e f = one-plain (Start to) to e refl refl f
     node-sound (Set w q x y to) e f = one-set (Set w q x y to) w to _ e (f .0) refl refl (f .3) (used w q x y to (f .1) (f .2) e)
     node-sound (Test q x y g s) e f = record {
-      to-first = λ v h. plain (low g) v (ap sets e) (rw e (Memᴰ·append-left (members s) (low-in (f .2)))) h;
-      to-second = λ v h. plain (low s) v (ap sets e) (rw e (Memᴰ·append-right (members g) (low-in (f .3)))) h;
+      to-first = λ v h. plain (low g) v (ap variableSet e) (rw e (Memᴰ·append-left (members s) (low-in (f .2)))) h;
+      to-second = λ v h. plain (low s) v (ap variableSet e) (rw e (Memᴰ·append-right (members g) (low-in (f .3)))) h;
       to-extra = λ v h. none-of v h;
     }
     node-sound (Read w to) e f = one-set (Read w to) w to true e (f .0) refl refl (f .1) (λ z. by-read w to e)
     node-sound (Call q xs to) e f = record {
-      to-first = λ v h. plain (low to) v (ap sets e) (arc-at (Call q xs to) to e refl (f .3)) h;
-      to-second = λ v h. plain (low to) v (ap sets e) (arc-at (Call q xs to) to e refl (f .3)) h;
+      to-first = λ v h. plain (low to) v (ap variableSet e) (arc-at (Call q xs to) to e refl (f .3)) h;
+      to-second = λ v h. plain (low to) v (ap variableSet e) (arc-at (Call q xs to) to e refl (f .3)) h;
       to-extra = λ v h. let r = passed-out i v xs h in
           rw (mod-eq-of-lt (f .0), fact-drop q v (f .0)) (passed {q = q} {i = v} p n (argAt xs v) to xs (omega (arith, r .0, f .1)) e (arg-in xs v (r .0) (r .1)) (H (argAt xs v) (rw (var-mod (o .vars-few p) (f .2 v (r .0))) at (r .2))));
     }
     node-sound (Wait s to) e f = one-plain (Wait s to) to e refl refl f
     node-sound (Signal s to) e f = one-plain (Signal s to) to e refl refl f
     node-sound (Send q w to) e f = record {
-      to-first = λ v h. plain (low to) v (ap sets e) (arc-at (Send q w to) to e refl (f .2)) h;
-      to-second = λ v h. plain (low to) v (ap sets e) (arc-at (Send q w to) to e refl (f .2)) h;
+      to-first = λ v h. plain (low to) v (ap variableSet e) (arc-at (Send q w to) to e refl (f .2)) h;
+      to-second = λ v h. plain (low to) v (ap variableSet e) (arc-at (Send q w to) to e refl (f .2)) h;
       to-extra = λ v h. let r = sent-out i q w v h in
           let z : v ≡ q = r .0 ∙ mod-eq-of-lt (omega (arith, f .0)) in
           rw (z, fact-blank q) (sent p n w to e (H w (rw (var-mod (o .vars-few p) (f .1)) at (r .1))));

@@ -14,7 +14,7 @@ use lib.Dec.{ltb}
 use borrow.Author.Tests.{ltb-true, lt-ltb}
 use Rattle.table.specs.Mask.{pick, bit, members}
 use Rattle.table.specs.MaskLaws.{members-is}
-use Rattle.table.specs.Table.{sets, arcTo, arcNo, arcs, argPlaces, argAt, argList, operandUses}
+use Rattle.table.specs.Table.{variableSet, arcTo, arcNo, arcs, argPlaces, argAt, argList, operandUses}
 use Rattle.table.specs.declared.Operand.{Operand}
 use Rattle.table.specs.declared.Operand.the-variants.{Var, Const}
 use Rattle.table.specs.declared.Args.{Args}
@@ -278,8 +278,8 @@ module _ (t : Table) (vars n i b : ℕ) (few : vars ≤ 16) where
   other w v d l e h = rw (var-mod few l) (after-other i w v d h (λ z. e (ap some z)))
 
   -- a dirty setting goes out of the node
-  pub out-after : (x : Node) (v : ℕ) → FitsNode t vars x → sets x ≡ some v → setDirty x i b ≡ true → bit v (flowOf x n i b .out) ≡ true
-  unfolding sets setDirty flowOf
+  pub out-after : (x : Node) (v : ℕ) → FitsNode t vars x → variableSet x ≡ some v → setDirty x i b ≡ true → bit v (flowOf x n i b .out) ≡ true
+  unfolding variableSet setDirty flowOf
   out-after Absent v f h d = none-some h
   out-after (Start to) v f h d = none-some h
   out-after (Set w o x y to) v f h d = own w v (operandsDirty x y i) (f .0) h d
@@ -295,8 +295,8 @@ module _ (t : Table) (vars n i b : ℕ) (few : vars ≤ 16) where
   out-after Return v f h d = none-some h
 
   -- what the node does not set goes through it
-  pub out-along : (x : Node) (v m : ℕ) → FitsNode t vars x → sets x ≢ some v → List·Memᴰ m (arcs x) → bit v i ≡ true → bit v (flowOf x n i b .out) ≡ true
-  unfolding sets arcTo arcNo flowOf
+  pub out-along : (x : Node) (v m : ℕ) → FitsNode t vars x → variableSet x ≢ some v → List·Memᴰ m (arcs x) → bit v i ≡ true → bit v (flowOf x n i b .out) ≡ true
+  unfolding variableSet arcTo arcNo flowOf
   out-along Absent v m f h a d = no-arc a
   out-along (Start to) v m f h a d = d
   out-along (Set w o x y to) v m f h a d = other w v (operandsDirty x y i) (f .0) h d

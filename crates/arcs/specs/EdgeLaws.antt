@@ -11,7 +11,7 @@ use lib.Dec.{ltb}
 use borrow.Author.Tests.{ne-eqb}
 use Rattle.table.specs.Mask.{pick, bit, membersFrom, members}
 use Rattle.text.specs.NumberLaws.{cases}
-use Rattle.text.specs.Reader.{concat}
+use Rattle.text.specs.Reader.{concatFrom}
 use Rattle.put.specs.Put.{Put}
 use Rattle.put.specs.PutLaws.{put-after, put-more}
 use Rattle.put.specs.RowLaws.{PutRows, rows-start, rows-turn, rows-end}
@@ -83,7 +83,7 @@ edging-start m = record { left = 32; places = refl; few = omega arith; within = 
 rows-same : {c i p q at : ℕ} {f : ℕ → List ℕ} {l m n : List ℕ} → PutRows c f l at m p i → Put 54 m p [] n q → PutRows c f l at n q i
 rows-same {i = i} {f = f} a b =
     let d = put-after (a .put) b in
-    let e = append-nil (concat f i 0) in
+    let e = append-nil (concatFrom f i 0) in
     record { put = record { few = a .put .few; bytes = rw e at (d .bytes); same = d .same; next = rw e at (d .next) } }
 
 module _ {f : ℕ → ℕ → List ℕ} {m at a i k : ℕ} {l o : List ℕ} (b : Edging f m l at o a i k) where
@@ -120,11 +120,11 @@ module _ {f : ℕ → ℕ → List ℕ} {m at a i k : ℕ} {l o : List ℕ} (b :
           let v : membersFrom left (suc k) m ≡ drop i (members m) = rw (sym y ∙ z) at s in
           rw u (record { left = left; places = omega arith; few = omega (arith, b .few); within = b .within; rest = rw (add-one k) v; rows = rows-same (b .rows) (rw z at w) }))
 
-  pub edging-end : k ≤ 32 → 32 ≤ k → Put 1728 l at (concat (λ j. f j (getD (members m) j 0)) (length (members m)) 0) o a
+  pub edging-end : k ≤ 32 → 32 ≤ k → Put 1728 l at (concatFrom (λ j. f j (getD (members m) j 0)) (length (members m)) 0) o a
   unfolding membersFrom
   edging-end u h = go (b .left) (b .places) (b .rest)
     where
-      go : (left : ℕ) → k + left ≡ 32 → membersFrom left k m ≡ drop i (members m) → Put 1728 l at (concat (λ j. f j (getD (members m) j 0)) (length (members m)) 0) o a
+      go : (left : ℕ) → k + left ≡ 32 → membersFrom left k m ≡ drop i (members m) → Put 1728 l at (concatFrom (λ j. f j (getD (members m) j 0)) (length (members m)) 0) o a
       go zero p s =
           let n : length (members m) ≤ i = omega (arith, ap length s, length-drop i (members m)) in
           put-more (omega (arith, b .few, b .within)) (rows-end (b .rows) (b .within) n)

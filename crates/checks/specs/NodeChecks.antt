@@ -14,7 +14,7 @@ use Rattle.table.specs.declared.Node.{Node}
 use Rattle.table.specs.declared.Node.the-variants.{Absent, Start, Set, Test, Read, Call, Wait, Signal, Send, Recv, Assert, Out, Return}
 use Rattle.text.specs.declared.Fault.the-variants.{Index}
 use Rattle.text.specs.Fault.{number}
-use Rattle.text.specs.Value.{NodeKind, start, set, test, read, call, wait, signal, send, recv, assert, out, return, ValueKind, kind, operation, operand, variable, arguments, oneOf, check}
+use Rattle.text.specs.Value.{NodeKind, start, setKind, test, read, call, wait, signal, send, recv, assert, out, return, ValueKind, kind, operation, operand, variable, arguments, oneOf, check}
 use Rattle.text.specs.Line.{Vals, lineFault}
 use Rattle.text.specs.Format.{Scope, targets, nodeLine, fields, nameOf, argNames, Described, noLine, described, describe}
 use Rattle.text.specs.Structure.{numbered}
@@ -40,7 +40,7 @@ readNumber false j = afterNumber j
 
 abbrev kindNumber : Bool → ℕ → NodeKind → ℕ
 kindNumber c j start = startNumber j
-kindNumber c j set = afterNumber j
+kindNumber c j setKind = afterNumber j
 kindNumber c j test = afterNumber j
 kindNumber c j read = readNumber c j
 kindNumber c j call = afterNumber j
@@ -54,7 +54,7 @@ kindNumber c j return = afterNumber j
 
 kind-zero : (c : Bool) (k : NodeKind) → numbered (check (kind c 0) k) ≡ kindNumber c 0 k
 unfolding check number
-kind-zero c k = elim k [ start ↦ refl | set ↦ refl | test ↦ refl | read ↦ go c | call ↦ refl | wait ↦ refl | signal ↦ refl | send ↦ refl | recv ↦ refl | assert ↦ refl | out ↦ refl | return ↦ refl ]
+kind-zero c k = elim k [ start ↦ refl | setKind ↦ refl | test ↦ refl | read ↦ go c | call ↦ refl | wait ↦ refl | signal ↦ refl | send ↦ refl | recv ↦ refl | assert ↦ refl | out ↦ refl | return ↦ refl ]
   where
     go : (c : Bool) → numbered (check (kind c 0) read) ≡ readNumber c 0
     go true = refl
@@ -62,7 +62,7 @@ kind-zero c k = elim k [ start ↦ refl | set ↦ refl | test ↦ refl | read �
 
 kind-suc : (c : Bool) (j : ℕ) (k : NodeKind) → numbered (check (kind c (suc j)) k) ≡ kindNumber c (suc j) k
 unfolding check number
-kind-suc c j k = elim k [ start ↦ refl | set ↦ refl | test ↦ refl | read ↦ go c | call ↦ refl | wait ↦ refl | signal ↦ refl | send ↦ refl | recv ↦ refl | assert ↦ refl | out ↦ refl | return ↦ refl ]
+kind-suc c j k = elim k [ start ↦ refl | setKind ↦ refl | test ↦ refl | read ↦ go c | call ↦ refl | wait ↦ refl | signal ↦ refl | send ↦ refl | recv ↦ refl | assert ↦ refl | out ↦ refl | return ↦ refl ]
   where
     go : (c : Bool) → numbered (check (kind c (suc j)) read) ≡ readNumber c (suc j)
     go true = refl
@@ -135,7 +135,7 @@ any-op o = refl
 
 pub set-is : (c : Scope) (j v : ℕ) (o : Op) (a b : Operand) (to : ℕ) {x : Node} {r : ℕ} → x ≡ Set v o a b to → r ≡ setNumber c j v a b to → r ≡ nodeNumber c j x
 unfolding nodeNumber describe lineFault
-set-is c j v o a b to e h = h ∙ sym (line-is c j set _ ∙ simp (any-op, numbered-else, first-zero)) ∙ ap (nodeNumber c j) (sym e)
+set-is c j v o a b to e h = h ∙ sym (line-is c j setKind _ ∙ simp (any-op, numbered-else, first-zero)) ∙ ap (nodeNumber c j) (sym e)
 
 pub test-is : (c : Scope) (j : ℕ) (o : Op) (a b : Operand) (y n : ℕ) {x : Node} {r : ℕ} → x ≡ Test o a b y n → r ≡ testNumber c j o a b y n → r ≡ nodeNumber c j x
 unfolding nodeNumber describe lineFault

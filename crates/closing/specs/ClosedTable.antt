@@ -33,7 +33,7 @@ pub record NewArgs (t : Table) (q : ℕ) (xs ys : Args) : Type 0 where
 -- What a kept node, n of procedure p, becomes: the same line, but for its arcs and for `-`.
 pub data Becomes (t : Table) (p n : ℕ) : Node → Node → Type 0 where
   start : {m m′ : ℕ} → NewArc t p m m′ → Becomes t p n (Start m) (Start m′)
-  set : {v m m′ : ℕ} {o : Op} {a b : Operand} → NewArc t p m m′ → Becomes t p n (Set v o a b m) (Set v o a b m′)
+  setNode : {v m m′ : ℕ} {o : Op} {a b : Operand} → NewArc t p m m′ → Becomes t p n (Set v o a b m) (Set v o a b m′)
   test : {y y′ m m′ : ℕ} {o : Op} {a b : Operand} → NewArc t p y y′ → NewArc t p m m′ → Becomes t p n (Test o a b y m) (Test o a b y′ m′)
   call : {q m m′ : ℕ} {xs ys : Args} → NewArgs t q xs ys → NewArc t p m m′ → Becomes t p n (Call q xs m) (Call q ys m′)
   wait : {s m m′ : ℕ} → NewArc t p m m′ → Becomes t p n (Wait s m) (Wait s m′)

@@ -23,7 +23,7 @@ use Rattle.text.specs.Writer.{fault}
 use Rattle.closing.specs.declared.Closing.{Closing}
 use Rattle.closing.specs.ReachLaws.{cases}
 use Rattle.closing.specs.Dirty.{useAt, dropped, blank, Dirty, top, passed}
-use Rattle.closing.specs.ClosedTable.{NewArc, Marked, NewArgs, Becomes, start, set, test, call, wait, signal, send, recv, assert, out, return, ClosedTable, Answers}
+use Rattle.closing.specs.ClosedTable.{NewArc, Marked, NewArgs, Becomes, start, setNode, test, call, wait, signal, send, recv, assert, out, return, ClosedTable, Answers}
 use Rattle.closing.specs.Closing.{dirty, isDirty, kept}
 use Rattle.closing.specs.DirtyLaws.{dirty-is}
 use Rattle.closing.specs.KeptLaws.{same-test, unkept-is, kept-is}
@@ -91,7 +91,7 @@ module _ (t : Table) where
     unfolding kept keeping closedNode
     becomes Absent k = absurd (false≢true k)
     becomes (Start to) k = start (arc-is t p to)
-    becomes (Set v o a b to) k = set (arc-is t p to)
+    becomes (Set v o a b to) k = setNode (arc-is t p to)
     becomes (Test o a b y m) k = test (arc-is t p y) (arc-is t p m)
     becomes (Read v to) k = absurd (false≢true k)
     becomes (Call q xs to) k = call (args-become q xs) (arc-is t p to)
@@ -105,7 +105,7 @@ module _ (t : Table) where
 
     becomes-only : {x y z : Node} → Becomes t p n x y → Becomes t p n x z → y ≡ z
     becomes-only (start f) (start g) = ap Start (arc-only p _ _ _ f g)
-    becomes-only (set {v = v} {o = o} {a = a} {b = b} f) (set g) = ap (Set v o a b) (arc-only p _ _ _ f g)
+    becomes-only (setNode {v = v} {o = o} {a = a} {b = b} f) (setNode g) = ap (Set v o a b) (arc-only p _ _ _ f g)
     becomes-only (test {o = o} {a = a} {b = b} f f′) (test g g′) = ap₂ (Test o a b) (arc-only p _ _ _ f g) (arc-only p _ _ _ f′ g′)
     becomes-only (call {q = q} h f) (call j g) = ap₂ (Call q) (args-only q _ _ _ h j) (arc-only p _ _ _ f g)
     becomes-only (wait {s = s} f) (wait g) = ap (Wait s) (arc-only p _ _ _ f g)

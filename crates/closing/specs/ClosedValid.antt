@@ -20,7 +20,7 @@ use Rattle.table.specs.declared.Table.{Table}
 use Rattle.text.specs.NumberLaws.{byOrder, and-left, and-right}
 use Rattle.text.specs.Format.{Scope}
 use Rattle.text.specs.Reader.{allBelow, isRemoved, iff, countRight, removedRight}
-use Rattle.text.specs.Writer.{scope, all, isZero, slotEmpty, queueEmpty, procEmpty, argsEmpty, procTidy, tidy, fault}
+use Rattle.text.specs.Writer.{scope, every, isZero, slotEmpty, queueEmpty, procEmpty, argsEmpty, procTidy, tidy, fault}
 use Rattle.text.specs.Right.{Within}
 use Rattle.text.specs.Valid.{Named, Arc, NodeValid, ProcValid, Lined, Valid}
 use Rattle.text.specs.LinedLaws.{arcs-within}
@@ -197,7 +197,7 @@ module _ (t : Table) (z : fault t ≡ 0) (o : t .closed ≡ false) where
   args-empty p n l m =
       let q = procAt t p in
       let f : ℕ → Bool = λ j. argsEmpty (nodeAt t p j) in
-      let h = and-right (all slotEmpty (drop (q .nodes) (q .slots))) _ (tidy-parts t (v .unused) .5 p l) in
+      let h = and-right (every slotEmpty (drop (q .nodes) (q .slots))) _ (tidy-parts t (v .unused) .5 p l) in
       below-all (q .nodes) f (and-left (allBelow (q .nodes) f) _ h) n m
 
   right-at : (p n : ℕ) → p < t .procs → n < procAt c p .nodes → Right p n (nodeAt c p n)
@@ -274,12 +274,12 @@ module _ (t : Table) (z : fault t ≡ 0) (o : t .closed ≡ false) where
   unfolding kept keeping isAbsent
   absent-at p n h = rw (unkept-node t p n (rw (outside-absent t z p n h)))
 
-  queues-empty : all queueEmpty (drop (t .queues) (c .queue)) ≡ true
+  queues-empty : every queueEmpty (drop (t .queues) (c .queue)) ≡ true
   queues-empty = behind-all queueEmpty (c .queue) noQueue (t .queues) (λ i l.
       let h = all-behind queueEmpty (t .queue) noQueue (t .queues) i (tidy-parts t (v .unused) .2) refl l in
       rw (queue-at i, and-left (isZero (queueAt t i .cap)) _ h, not-blank i l))
 
-  procs-empty : all procEmpty (drop (t .procs) (c .proc)) ≡ true
+  procs-empty : every procEmpty (drop (t .procs) (c .proc)) ≡ true
   unfolding closedProc maskOf
   procs-empty = behind-all procEmpty (c .proc) outside (t .procs) (λ p l.
       let h = far-empty t (v .unused) p l in

@@ -7,7 +7,7 @@ use mathlib.Core.Option.{Option, none, some}
 use lib.ListN.{length}
 use lib.Dec.{eqb, ltb}
 use Rattle.table.specs.Mask.{pick}
-use Rattle.table.specs.Table.{nodeAt, procAt, taskAt, argList, uses, sets, arcs, Keeping, always, never, ifClean, keeping}
+use Rattle.table.specs.Table.{nodeAt, procAt, taskAt, argList, uses, variableSet, arcs, Keeping, always, never, ifClean, keeping}
 use Rattle.table.specs.declared.Node.{Node}
 use Rattle.table.specs.declared.Node.the-variants.{Absent, Start, Set, Test, Read, Call, Wait, Signal, Send, Recv, Assert, Out, Return}
 use Rattle.table.specs.declared.Table.{Table}
@@ -72,7 +72,7 @@ alongEdges p n s ms v = elim (setsVar s v) [ true ↦ [] | false ↦ map (λ m. 
 
 unfoldable pub pathEdges : Table → ℕ → ℕ → List Edge
 pathEdges t p n = let x = nodeAt t p n in
-    afterEdges (procAt t p .vars) p n (sets x) (arcs x) ++ forEach (upTo (procAt t p .vars)) (alongEdges p n (sets x) (arcs x))
+    afterEdges (procAt t p .vars) p n (variableSet x) (arcs x) ++ forEach (upTo (procAt t p .vars)) (alongEdges p n (variableSet x) (arcs x))
 
 -- entry sets its dropped parameters before node 0
 unfoldable pub entryEdges : Table → ℕ → List Edge

@@ -5,7 +5,7 @@ use mathlib.Core.Logic.{_≢_}
 use mathlib.Core.List.{List, List·Memᴰ}
 use mathlib.Core.Option.{some}
 use lib.ListN.{getElem?}
-use Rattle.table.specs.Table.{nodeAt, procAt, taskAt, argList, uses, sets, arcs, never, ifClean, keeping}
+use Rattle.table.specs.Table.{nodeAt, procAt, taskAt, argList, uses, variableSet, arcs, never, ifClean, keeping}
 use Rattle.table.specs.declared.Operand.{Operand}
 use Rattle.table.specs.declared.Op.{Op}
 use Rattle.table.specs.declared.Args.{Args}
@@ -22,7 +22,7 @@ pub data Fact : Type 0 where
 -- A control path within procedure p from a node to n on which no node before n sets v.
 pub data Clear (t : Table) (p v n : ℕ) : ℕ → Type 0 where
   here : Clear t p v n n
-  on : {m : ℕ} (k : ℕ) → sets (nodeAt t p m) ≢ some v → List·Memᴰ k (arcs (nodeAt t p m)) → Clear t p v n k → Clear t p v n m
+  on : {m : ℕ} (k : ℕ) → variableSet (nodeAt t p m) ≢ some v → List·Memᴰ k (arcs (nodeAt t p m)) → Clear t p v n k → Clear t p v n m
 
 pub data Dirty (t : Table) : Fact → Type 0 where
   -- "Dirty settings are the least set with: every `read`;
@@ -34,7 +34,7 @@ pub data Dirty (t : Table) : Fact → Type 0 where
   -- entry into a procedure, for its dropped parameters": the fact `dropped`.
   -- "A use of v at node n is dirty if along some control path from a dirty setting of v to n, after that setting, no node before n sets v":
   -- from the node m, whose arc leads to k. "Unreached nodes count like others." A variable is one of its procedure's; in a table without a fault it always is
-  from-node : {p n v : ℕ} (m k : ℕ) → v < procAt t p .vars → sets (nodeAt t p m) ≡ some v → List·Memᴰ k (arcs (nodeAt t p m)) → Clear t p v n k → Dirty t (settingAt p m) → Dirty t (useAt p n v)
+  from-node : {p n v : ℕ} (m k : ℕ) → v < procAt t p .vars → variableSet (nodeAt t p m) ≡ some v → List·Memᴰ k (arcs (nodeAt t p m)) → Clear t p v n k → Dirty t (settingAt p m) → Dirty t (useAt p n v)
   -- or from entry, which comes before node 0. "Entry sets every other local to 0, and that is clean": no rule makes it dirty
   from-entry : {p n i : ℕ} → i < procAt t p .vars → Clear t p i n zero → Dirty t (dropped p i) → Dirty t (useAt p n i)
   -- "A parameter is dropped if its procedure is some task's top

@@ -12,7 +12,7 @@ use lib.ListN.{length, getD, getElem?, List·getD-eq-default}
 use lib.Dec.{ltb}
 use borrow.Author.Tests.{eqb-false, ne-eqb, ltb-true, ltb-false, lt-ltb}
 use Rattle.table.specs.Mask.{pick, bit, membersFrom}
-use Rattle.table.specs.Table.{nodeAt, procAt, argList, uses, sets, arcs, arcTo, arcNo, noSlot, outside}
+use Rattle.table.specs.Table.{nodeAt, procAt, argList, uses, variableSet, arcs, arcTo, arcNo, noSlot, outside}
 use Rattle.table.specs.declared.Args.{Args}
 use Rattle.table.specs.declared.Node.{Node}
 use Rattle.table.specs.declared.Node.the-variants.{Absent, Start, Set, Test, Read, Call, Wait, Signal, Send, Recv, Assert, Out, Return}
@@ -61,12 +61,12 @@ module _ (t : Table) where
   Keeps e = Dirty t (e .0) → Dirty t (e .1)
 
   -- a clear path, longer by one arc at its end
-  clear-on : {p v n m k : ℕ} → Clear t p v n m → sets (nodeAt t p n) ≢ some v → List·Memᴰ k (arcs (nodeAt t p n)) → Clear t p v k m
+  clear-on : {p v n m k : ℕ} → Clear t p v n m → variableSet (nodeAt t p n) ≢ some v → List·Memᴰ k (arcs (nodeAt t p n)) → Clear t p v k m
   clear-on {k = k} here s a = on k s a here
   clear-on (on j s′ a′ c) s a = on j s′ a′ (clear-on c s a)
 
   -- a dirty variable goes along an arc of a node that does not set it
-  pub use-on : {p n v k : ℕ} → sets (nodeAt t p n) ≢ some v → List·Memᴰ k (arcs (nodeAt t p n)) → Dirty t (useAt p n v) → Dirty t (useAt p k v)
+  pub use-on : {p n v k : ℕ} → variableSet (nodeAt t p n) ≢ some v → List·Memᴰ k (arcs (nodeAt t p n)) → Dirty t (useAt p n v) → Dirty t (useAt p k v)
   use-on s a (from-node m j l e b c d) = from-node m j l e b (clear-on c s a) d
   use-on s a (from-entry l c d) = from-entry l (clear-on c s a) d
 
@@ -98,22 +98,22 @@ module _ (t : Table) where
   node-sound p n (Out v to) e = all-nil Keeps
   node-sound p n Return e = all-nil Keeps
 
-  after-sound : (p n : ℕ) (s : Option ℕ) → sets (nodeAt t p n) ≡ s → All Keeps (afterEdges (procAt t p .vars) p n s (arcs (nodeAt t p n)))
+  after-sound : (p n : ℕ) (s : Option ℕ) → variableSet (nodeAt t p n) ≡ s → All Keeps (afterEdges (procAt t p .vars) p n s (arcs (nodeAt t p n)))
   unfolding afterEdges
   after-sound p n none e = all-nil Keeps
   after-sound p n (some v) e = cases (ltb v (procAt t p .vars))
       (λ l. rw l (all-map Keeps (λ m. (settingAt p n, useAt p m v)) (arcs (nodeAt t p n)) (λ m k d. from-node n m (ltb-true v _ l) e k here d)))
       (λ l. rw l (all-nil Keeps))
 
-  along-sound : (p n v : ℕ) → All Keeps (alongEdges p n (sets (nodeAt t p n)) (arcs (nodeAt t p n)) v)
+  along-sound : (p n v : ℕ) → All Keeps (alongEdges p n (variableSet (nodeAt t p n)) (arcs (nodeAt t p n)) v)
   unfolding alongEdges
-  along-sound p n v = cases (setsVar (sets (nodeAt t p n)) v)
+  along-sound p n v = cases (setsVar (variableSet (nodeAt t p n)) v)
       (λ k. rw (k, alongEdges) (all-nil Keeps))
-      (λ k. rw (k, alongEdges) (all-map Keeps (λ m. (useAt p n v, useAt p m v)) (arcs (nodeAt t p n)) (λ m j d. use-on (setsVar-false (sets (nodeAt t p n)) v k) j d)))
+      (λ k. rw (k, alongEdges) (all-map Keeps (λ m. (useAt p n v, useAt p m v)) (arcs (nodeAt t p n)) (λ m j d. use-on (setsVar-false (variableSet (nodeAt t p n)) v k) j d)))
 
   path-sound : (p n : ℕ) → All Keeps (pathEdges t p n)
   unfolding pathEdges
-  path-sound p n = all-append Keeps _ _ (after-sound p n (sets (nodeAt t p n)) refl) (all-each Keeps _ _ (λ v _. along-sound p n v))
+  path-sound p n = all-append Keeps _ _ (after-sound p n (variableSet (nodeAt t p n)) refl) (all-each Keeps _ _ (λ v _. along-sound p n v))
 
   edges-sound : All Keeps (edges t)
   unfolding edges overNodes entryEdges
@@ -172,7 +172,7 @@ module _ (t : Table) where
 
   -- an absent node has no edges
   path-empty : (p n : ℕ) → nodeAt t p n ≡ Absent → pathEdges t p n ≡ []
-  unfolding pathEdges afterEdges sets arcTo arcNo membersFrom bit forEach alongEdges
+  unfolding pathEdges afterEdges variableSet arcTo arcNo membersFrom bit forEach alongEdges
   path-empty p n e = rw e (none-each (upTo (procAt t p .vars)))
     where
       none-each : (vs : List ℕ) → forEach vs (alongEdges p n none []) ≡ []
@@ -191,13 +191,13 @@ module _ (t : Table) where
   in-act : (p n : ℕ) (e : Edge) → List·Memᴰ e (nodeEdges t p n (nodeAt t p n)) → List·Memᴰ e (edges t)
   in-act p n e m = in-node p n e (Memᴰ·append-left _ m)
 
-  in-after : (p n : ℕ) (e : Edge) → List·Memᴰ e (afterEdges (procAt t p .vars) p n (sets (nodeAt t p n)) (arcs (nodeAt t p n))) → List·Memᴰ e (edges t)
+  in-after : (p n : ℕ) (e : Edge) → List·Memᴰ e (afterEdges (procAt t p .vars) p n (variableSet (nodeAt t p n)) (arcs (nodeAt t p n))) → List·Memᴰ e (edges t)
   unfolding pathEdges
-  in-after p n e m = in-node p n e (Memᴰ·append-right (nodeEdges t p n (nodeAt t p n)) (Memᴰ·append-left (forEach (upTo (procAt t p .vars)) (alongEdges p n (sets (nodeAt t p n)) (arcs (nodeAt t p n)))) m))
+  in-after p n e m = in-node p n e (Memᴰ·append-right (nodeEdges t p n (nodeAt t p n)) (Memᴰ·append-left (forEach (upTo (procAt t p .vars)) (alongEdges p n (variableSet (nodeAt t p n)) (arcs (nodeAt t p n)))) m))
 
-  in-along : (p n v : ℕ) (e : Edge) → v < procAt t p .vars → List·Memᴰ e (alongEdges p n (sets (nodeAt t p n)) (arcs (nodeAt t p n)) v) → List·Memᴰ e (edges t)
+  in-along : (p n v : ℕ) (e : Edge) → v < procAt t p .vars → List·Memᴰ e (alongEdges p n (variableSet (nodeAt t p n)) (arcs (nodeAt t p n)) v) → List·Memᴰ e (edges t)
   unfolding pathEdges
-  in-along p n v e l m = in-node p n e (Memᴰ·append-right (nodeEdges t p n (nodeAt t p n)) (Memᴰ·append-right (afterEdges (procAt t p .vars) p n (sets (nodeAt t p n)) (arcs (nodeAt t p n))) (in-each (alongEdges p n (sets (nodeAt t p n)) (arcs (nodeAt t p n))) v e (upTo (procAt t p .vars)) (in-upTo v _ l) m)))
+  in-along p n v e l m = in-node p n e (Memᴰ·append-right (nodeEdges t p n (nodeAt t p n)) (Memᴰ·append-right (afterEdges (procAt t p .vars) p n (variableSet (nodeAt t p n)) (arcs (nodeAt t p n))) (in-each (alongEdges p n (variableSet (nodeAt t p n)) (arcs (nodeAt t p n))) v e (upTo (procAt t p .vars)) (in-upTo v _ l) m)))
 
   -- of the arguments us, which begin at parameter k, the one for parameter k + i
   in-passed : (p n q k i u : ℕ) (us : List ℕ) → k + i < procAt t q .params → getElem? us i ≡ some u → List·Memᴰ (useAt p n u, dropped q (k + i)) (passedTo t p n q k us)
@@ -217,7 +217,7 @@ module _ (t : Table) where
   unfolding alongEdges
   clear-reach l here r = r
   clear-reach {p} {v} l (on {m = m} k s a c) r = clear-reach l c
-      (edge (in-along p m v (useAt p m v, useAt p k v) l (rw (setsVar-other (sets (nodeAt t p m)) v s, alongEdges) (Memᴰ·map (λ j. (useAt p m v, useAt p j v)) a))) r)
+      (edge (in-along p m v (useAt p m v, useAt p k v) l (rw (setsVar-other (variableSet (nodeAt t p m)) v s, alongEdges) (Memᴰ·map (λ j. (useAt p m v, useAt p j v)) a))) r)
 
   -- what is dirty is reached
   dirty-reach : (f : Fact) → Dirty t f → Reach (sources t) (edges t) f

@@ -9,7 +9,7 @@ use table::Slot;
 use table::Task;
 ghost use Prim.Native.Nat.{_*_, _≤_};
 ghost use Rattle.text.specs.Number.{digits};
-ghost use Rattle.text.specs.Reader.{concat};
+ghost use Rattle.text.specs.Reader.{concatFrom};
 ghost use Rattle.put.specs.Put.{Put, PutField, FieldAt, LineAt, LinesAt};
 ghost use Rattle.writer.specs.Table.{NodesIn, ProcIn};
 ghost use Rattle.labels.specs.Graph.{topText, topsText, labelKey, clusterText};
@@ -65,7 +65,7 @@ fn put_cluster(out: &mut [u8], at: usize, closed: bool, tasks: [Task; 4], n: u8,
 // The nodes of procedure p; bit j of keep says whether node j counts as kept.
 fn put_nodes(out: &mut [u8], at: usize, p: u8, keep: u32, slots: [Slot; 32], n: u8) -> usize
     requires { ⌜ (LinesAt at) × (NodesIn slots n) ⌝ }
-    ensures { λ r. ⌜ Put (3576 * n) (now (out .entry)) at (concat (maskNodes p keep slots) n 0) (now (out .exit)) r ⌝ }
+    ensures { λ r. ⌜ Put (3576 * n) (now (out .entry)) at (concatFrom (maskNodes p keep slots) n 0) (now (out .exit)) r ⌝ }
 {
     let mut a = at;
     let mut j: u8 = 0;

@@ -25,16 +25,16 @@ use Rattle.scan.specs.declared.Ended.the-variants.{Is as Fed, Not as Unfed}
 -- what a line holds and the place after it, or its fault
 pub data Answer (A : Type 0) : Type 0 where
   got : A → ℕ → Answer A
-  not : Fault → Answer A
+  failed : Fault → Answer A
 
 -- the outcome on line l
 abbrev pub lineIn : {A : Type 0} → ℕ → List ℕ → Answer A → Outcome A
 lineIn l s (got a e) = took a (suc l) (drop e s)
-lineIn l s (not f) = refused f l
+lineIn l s (failed f) = refused f l
 
 abbrev pub lineWithin : {A : Type 0} → List ℕ → Answer A → Type 0
 lineWithin s (got a e) = e ≤ length s
-lineWithin s (not f) = Unit {0}
+lineWithin s (failed f) = Unit {0}
 
 -- the line d, its values made into one by g: on whatever line, the answer is the outcome
 pub record LineAt {A : Type 0} (d : Line) (g : Vals d → A) (s : List ℕ) (at : ℕ) (r : Answer A) : Type 0 where

@@ -38,7 +38,7 @@ use Rattle.numbers.specs.ValueLaws.{mapped-took, mapped-refused}
 use Rattle.words.specs.Answer.{ChoiceAt, kindOf, KindAt, OpAt}
 use Rattle.lists.specs.Sets.{SetAt}
 use Rattle.lists.specs.Passing.{PassedAt}
-use Rattle.fields.specs.Answer.{Answer, got, not, LineAt, numberFault, choiceFault, endFault, kindFault, opFault, operandFault, setFault, argsFault}
+use Rattle.fields.specs.Answer.{Answer, got, failed, LineAt, numberFault, choiceFault, endFault, kindFault, opFault, operandFault, setFault, argsFault}
 
 -- the value that a place's field has, or its fault
 abbrev FieldIs : List ℕ → (k : ValueKind) → List ℕ → ℕ → Of k → ℕ → Type 0
@@ -60,7 +60,7 @@ module _ {A : Type 0} {key : List ℕ} {k : ValueKind} {next : Of k → Line} {g
     within = u .within;
   }
 
-  stops : {f : Fault} → FieldNot key k s at f → LineAt (field key k next) g s at (not f)
+  stops : {f : Fault} → FieldNot key k s at f → LineAt (field key k next) g s at (failed f)
   unfolding line
   stops m = record { same = λ l. rw (m l); within = tt }
 
@@ -103,7 +103,7 @@ module _ {A : Type 0} {lo n : ℕ} {f : Fault} {key s : List ℕ} {at : ℕ} {r 
       → LineAt (field key (number lo n f) next) g s at o
   number-next q u = goes-on {g = g} (λ l. sym (m .same l) ∙ rw q) u
 
-  pub number-stop : {x y : Fault} → r ≡ NotNumber x → y ≡ numberFault r → LineAt (field key (number lo n f) next) g s at (not y)
+  pub number-stop : {x y : Fault} → r ≡ NotNumber x → y ≡ numberFault r → LineAt (field key (number lo n f) next) g s at (failed y)
   number-stop {x} q p = rw (p, q) (stops {g = g} (λ l. sym (m .same l) ∙ rw q))
 
 -- ---- one of two words
@@ -117,7 +117,7 @@ module _ {A : Type 0} {a b key s : List ℕ} {at : ℕ} {r : Choice} {next : Boo
       → LineAt (field key (choice a b) next) g s at o
   choice-next q u = goes-on {g = g} (λ l. sym (m .same l) ∙ rw q) u
 
-  pub choice-stop : {x y : Fault} → r ≡ NotChoice x → y ≡ choiceFault r → LineAt (field key (choice a b) next) g s at (not y)
+  pub choice-stop : {x y : Fault} → r ≡ NotChoice x → y ≡ choiceFault r → LineAt (field key (choice a b) next) g s at (failed y)
   choice-stop q p = rw (p, q) (stops {g = g} (λ l. sym (m .same l) ∙ rw q))
 
 -- ---- kind
@@ -131,7 +131,7 @@ module _ {A : Type 0} {c : Bool} {j : ℕ} {s : List ℕ} {at : ℕ} {r : KindAn
       → LineAt (field (bytes " kind=") (kind c j) next) g s at o
   kind-next q u = goes-on {g = g} (λ l. sym (m .same l) ∙ rw q) u
 
-  pub kind-stop : {x y : Fault} → r ≡ NotKind x → y ≡ kindFault r → LineAt (field (bytes " kind=") (kind c j) next) g s at (not y)
+  pub kind-stop : {x y : Fault} → r ≡ NotKind x → y ≡ kindFault r → LineAt (field (bytes " kind=") (kind c j) next) g s at (failed y)
   kind-stop q p = rw (p, q) (stops {g = g} (λ l. sym (m .same l) ∙ rw q))
 
 -- ---- op
@@ -145,7 +145,7 @@ module _ {A : Type 0} {t : Bool} {s : List ℕ} {at : ℕ} {r : Operation} {next
       → LineAt (field (bytes " op=") (operation t) next) g s at o
   op-next q u = goes-on {g = g} (λ l. sym (m .same l) ∙ rw q) u
 
-  pub op-stop : {x y : Fault} → r ≡ NotOp x → y ≡ opFault r → LineAt (field (bytes " op=") (operation t) next) g s at (not y)
+  pub op-stop : {x y : Fault} → r ≡ NotOp x → y ≡ opFault r → LineAt (field (bytes " op=") (operation t) next) g s at (failed y)
   op-stop q p = rw (p, q) (stops {g = g} (λ l. sym (m .same l) ∙ rw q))
 
 -- ---- operand
@@ -159,7 +159,7 @@ module _ {A : Type 0} {n : ℕ} {key s : List ℕ} {at : ℕ} {r : OperandAnswer
       → LineAt (field key (operand n) next) g s at o
   operand-next q u = goes-on {g = g} (λ l. sym (m .same l) ∙ rw q) u
 
-  pub operand-stop : {x y : Fault} → r ≡ NotOperand x → y ≡ operandFault r → LineAt (field key (operand n) next) g s at (not y)
+  pub operand-stop : {x y : Fault} → r ≡ NotOperand x → y ≡ operandFault r → LineAt (field key (operand n) next) g s at (failed y)
   operand-stop q p = rw (p, q) (stops {g = g} (λ l. sym (m .same l) ∙ rw q))
 
 -- ---- variable
@@ -173,7 +173,7 @@ module _ {A : Type 0} {c : Bool} {n : ℕ} {s : List ℕ} {at : ℕ} {r : Number
       → LineAt (field (bytes " var=") (variable c n) next) g s at o
   variable-next q u = goes-by {g = g} variableOf (λ l. sym (m .same l) ∙ rw q) u
 
-  pub variable-stop : {x y : Fault} → r ≡ NotNumber x → y ≡ numberFault r → LineAt (field (bytes " var=") (variable c n) next) g s at (not y)
+  pub variable-stop : {x y : Fault} → r ≡ NotNumber x → y ≡ numberFault r → LineAt (field (bytes " var=") (variable c n) next) g s at (failed y)
   variable-stop q p = rw (p, q) (stops {g = g} (λ l. mapped-refused variableOf _ (sym (sym (m .same l) ∙ rw q))))
 
 -- ---- set
@@ -187,7 +187,7 @@ module _ {A : Type 0} {one : Bool} {lo n : ℕ} {key s : List ℕ} {at : ℕ} {r
       → LineAt (field key (ascending one lo n) next) g s at o
   set-next q u = goes-by {g = g} setOf (λ l. sym (m .same l) ∙ rw q) u
 
-  pub set-stop : {x y : Fault} → r ≡ NotSet x → y ≡ setFault r → LineAt (field key (ascending one lo n) next) g s at (not y)
+  pub set-stop : {x y : Fault} → r ≡ NotSet x → y ≡ setFault r → LineAt (field key (ascending one lo n) next) g s at (failed y)
   set-stop q p = rw (p, q) (stops {g = g} (λ l. mapped-refused setOf _ (sym (sym (m .same l) ∙ rw q))))
 
 -- ---- args
@@ -201,7 +201,7 @@ module _ {A : Type 0} {c : Bool} {n : ℕ} {s : List ℕ} {at : ℕ} {r : Passed
       → LineAt (field (bytes " args=") (arguments c n) next) g s at o
   args-next q u = goes-by {g = g} argsOf (λ l. sym (m .same l) ∙ rw q) u
 
-  pub args-stop : {x y : Fault} → r ≡ NotArgs x → y ≡ argsFault r → LineAt (field (bytes " args=") (arguments c n) next) g s at (not y)
+  pub args-stop : {x y : Fault} → r ≡ NotArgs x → y ≡ argsFault r → LineAt (field (bytes " args=") (arguments c n) next) g s at (failed y)
   args-stop q p = rw (p, q) (stops {g = g} (λ l. mapped-refused argsOf _ (sym (sym (m .same l) ∙ rw q))))
 
 -- ---- the end of a line
@@ -210,6 +210,6 @@ module _ {A : Type 0} {s : List ℕ} {at : ℕ} {r : Ended} {g : Unit {0} → A}
   unfolding line
   feed-last q p = record { same = λ l. rw (p, ← m .same l, q); within = rw q at (m .within) }
 
-  pub feed-stop : {x y : Fault} → r ≡ Unfed x → y ≡ endFault r → LineAt end g s at (not y)
+  pub feed-stop : {x y : Fault} → r ≡ Unfed x → y ≡ endFault r → LineAt end g s at (failed y)
   unfolding line
   feed-stop q p = rw (p, q) (record { same = λ l. rw (← m .same l, q); within = tt })

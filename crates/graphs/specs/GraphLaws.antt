@@ -12,7 +12,7 @@ use Rattle.table.specs.declared.Proc.{Proc}
 use Rattle.table.specs.declared.Table.{Table}
 use Rattle.text.specs.declared.Reading.{Reading}
 use Rattle.text.specs.Number.{bytes}
-use Rattle.text.specs.Reader.{concat, read}
+use Rattle.text.specs.Reader.{concatFrom, read}
 use Rattle.text.specs.Writer.{fault}
 use Rattle.text.specs.RoundTrip.{read-good, read-fault}
 use Rattle.closing.specs.Program.{refusedLine}
@@ -26,8 +26,8 @@ use Rattle.graphs.specs.Graphs.{maskKept, maskProcs, Drawable}
 
 -- ---- rows that agree where they stand
 
-concat-below : (f g : ℕ → List ℕ) (n i : ℕ) → ((k : ℕ) → k < i + n → f k ≡ g k) → concat f n i ≡ concat g n i
-unfolding concat
+concat-below : (f g : ℕ → List ℕ) (n i : ℕ) → ((k : ℕ) → k < i + n → f k ≡ g k) → concatFrom f n i ≡ concatFrom g n i
+unfolding concatFrom
 concat-below f g zero i h = refl
 concat-below f g (suc n) i h = rw (h i (omega arith), concat-below f g n (suc i) (λ k l. h k (omega arith)))
 
@@ -47,7 +47,7 @@ graph-kept t keep d k = rw (concat-below
 
 -- ---- the whole
 
-pub graph-put : {l m n o : List ℕ} {a b r : ℕ} (t : Table) (keep : List ℕ) → Drawable t → Put 104 l 0 opening m a → Put (114553 * t .procs) m a (concat (maskProcs (t .closed) (t .task) (t .tasks) keep (t .proc)) (t .procs) 0) n b
+pub graph-put : {l m n o : List ℕ} {a b r : ℕ} (t : Table) (keep : List ℕ) → Drawable t → Put 104 l 0 opening m a → Put (114553 * t .procs) m a (concatFrom (maskProcs (t .closed) (t .task) (t .tasks) keep (t .proc)) (t .procs) 0) n b
     → Put 2 n b (bytes "}\n") o r → Put 917000 l 0 (graph t (maskKept keep)) o r
 unfolding graph
 graph-put t keep d x y z = put-more (omega (arith, d .procs .count)) (put-after x (put-after y z))

@@ -10,7 +10,7 @@ ghost use mathlib.Core.Path.{_≡_};
 ghost use Prim.Native.Nat.{_*_, _≤_};
 ghost use lib.ListN.{length};
 ghost use lib.Seq.{sets};
-ghost use Rattle.text.specs.Reader.{concat};
+ghost use Rattle.text.specs.Reader.{concatFrom};
 ghost use Rattle.put.specs.Put.{Put, TableAt};
 ghost use Rattle.writer.specs.Table.{ProcsIn};
 ghost use Rattle.labels.specs.Graph.{opening, graph, graphPrinted};
@@ -27,7 +27,7 @@ fn put_procs(
     n: u8,
 ) -> usize
     requires { ⌜ (TableAt at) × (count ≤ 4) × (ProcsIn procs n) ⌝ }
-    ensures { λ r. ⌜ Put (114553 * n) (now (out .entry)) at (concat (maskProcs closed tasks count keep procs) n 0) (now (out .exit)) r ⌝ }
+    ensures { λ r. ⌜ Put (114553 * n) (now (out .entry)) at (concatFrom (maskProcs closed tasks count keep procs) n 0) (now (out .exit)) r ⌝ }
 {
     let mut a = at;
     let mut i: u8 = 0;

@@ -15,7 +15,7 @@ use Rattle.table.specs.declared.Table.{Table}
 use Rattle.text.specs.declared.Reading.{Reading}
 use Rattle.text.specs.Number.{bytes, digits}
 use Rattle.text.specs.Value.{chosen}
-use Rattle.text.specs.Reader.{concat, read}
+use Rattle.text.specs.Reader.{concatFrom, read}
 use Rattle.closing.specs.Program.{refusedLine}
 use Rattle.machine.specs.Step.{Kept, keptIn}
 use Rattle.labels.specs.Label.{nodeSays}
@@ -52,7 +52,7 @@ abbrev pub deadEnd : ℕ → ℕ → List ℕ → List ℕ
 deadEnd p n word = nameText p n ++ (bytes "none [shape=point];\n" ++ (nameText p n ++ (bytes " -> " ++ (nameText p n ++ (bytes "none" ++ solidEnd word)))))
 
 abbrev pub edgesText : ℕ → ℕ → List ℕ → Bool → List ℕ → List ℕ
-edgesText p n word toss ms = concat (λ i. edgeText p n word toss i (getD ms i 0)) (length ms) 0
+edgesText p n word toss ms = concatFrom (λ i. edgeText p n word toss i (getD ms i 0)) (length ms) 0
 
 unfoldable pub arcText : ℕ → ℕ → List ℕ → ℕ → List ℕ
 arcText p n word to = let ms = members to in pick (eqb (length ms) 0) (deadEnd p n word) (edgesText p n word (ltb 1 (length ms)) ms)
@@ -81,7 +81,7 @@ abbrev pub topText : ℕ → ℕ → Task → List ℕ
 topText p i x = pick (eqb (x .top) p) (bytes ", top of task " ++ digits i) []
 
 abbrev pub topsText : List Task → ℕ → ℕ → List ℕ
-topsText tasks n p = concat (λ i. topText p i (getD tasks i noTask)) n 0
+topsText tasks n p = concatFrom (λ i. topText p i (getD tasks i noTask)) n 0
 
 -- the start of its label
 abbrev pub labelKey : Bool → List ℕ
@@ -94,7 +94,7 @@ abbrev pub slotText : ℕ → (ℕ → Bool) → List Slot → ℕ → List ℕ
 slotText p kept slots n = nodeText p n (kept n) (getD slots n noSlot .node)
 
 abbrev pub procText : Bool → List Task → ℕ → ℕ → (ℕ → Bool) → Proc → List ℕ
-procText closed tasks n p kept q = clusterText closed tasks n p ++ (concat (slotText p kept (q .slots)) (q .nodes) 0 ++ bytes "}\n")
+procText closed tasks n p kept q = clusterText closed tasks n p ++ (concatFrom (slotText p kept (q .slots)) (q .nodes) 0 ++ bytes "}\n")
 
 -- ---- the whole
 
@@ -103,7 +103,7 @@ opening = bytes "digraph table {\nfontname=monospace;\nnode [shape=box fontname=
 
 -- a table's graphs, with the nodes that count as kept
 unfoldable pub graph : Table → Kept → List ℕ
-graph t kept = opening ++ (concat (λ p. procText (t .closed) (t .task) (t .tasks) p (kept p) (procAt t p)) (t .procs) 0 ++ bytes "}\n")
+graph t kept = opening ++ (concatFrom (λ p. procText (t .closed) (t .task) (t .tasks) p (kept p) (procAt t p)) (t .procs) 0 ++ bytes "}\n")
 
 abbrev pub afterReading : ℕ → Reading → List ℕ
 afterReading zero r = graph (r .table) (keptIn (r .table))

@@ -12,7 +12,7 @@ use Rattle.table.specs.declared.Node.{Node}
 use Rattle.table.specs.declared.Node.the-variants.{Absent, Start, Set, Test, Read, Call, Wait, Signal, Send, Recv, Assert, Out, Return}
 use Rattle.text.specs.Number.{bytes, digits}
 use Rattle.text.specs.Value.{spellOperand, opWord}
-use Rattle.text.specs.Reader.{concat}
+use Rattle.text.specs.Reader.{concatFrom}
 
 -- a variable, or `-`
 abbrev pub variableText : ℕ → List ℕ
@@ -30,7 +30,7 @@ abbrev pub setText : ℕ → Op → Operand → Operand → List ℕ
 setText v o a b = bytes "set v" ++ (digits v ++ (bytes " = " ++ operationText o a b))
 
 abbrev pub callText : ℕ → Args → List ℕ
-callText q x = bytes "call proc " ++ (digits q ++ concat (argumentText x) (x .len) 0)
+callText q x = bytes "call proc " ++ (digits q ++ concatFrom (argumentText x) (x .len) 0)
 
 -- a word, a queue and a variable
 abbrev pub passText : List ℕ → ℕ → ℕ → List ℕ

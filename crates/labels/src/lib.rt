@@ -16,7 +16,7 @@ ghost use Prim.Native.Nat.{_*_, _≤_, _<_};
 ghost use lib.ListN.{length};
 ghost use Rattle.table.specs.Table.{argAt};
 ghost use Rattle.text.specs.Number.{bytes, digits};
-ghost use Rattle.text.specs.Reader.{concat};
+ghost use Rattle.text.specs.Reader.{concatFrom};
 ghost use Rattle.put.specs.Put.{Put, ValueAt, FieldAt};
 ghost use Rattle.node_lines.specs.NodeLines.{FewArgs};
 ghost use Rattle.labels.specs.Label.{variableText, argumentText, operationText, setText, callText, passText, nodeSays, SaysAt};
@@ -59,7 +59,7 @@ fn put_argument(out: &mut [u8], at: usize, x: Args, i: u8) -> usize
 
 fn put_arguments(out: &mut [u8], at: usize, x: Args) -> usize
     requires { ⌜ (at ≤ 1000000320) × (x .len ≤ 4) ⌝ }
-    ensures { λ r. ⌜ Put (12 * x .len) (now (out .entry)) at (concat (argumentText x) (x .len) 0) (now (out .exit)) r ⌝ }
+    ensures { λ r. ⌜ Put (12 * x .len) (now (out .entry)) at (concatFrom (argumentText x) (x .len) 0) (now (out .exit)) r ⌝ }
 {
     let n = x.len;
     let mut p = at;

@@ -14,7 +14,7 @@ use Rattle.text.specs.declared.Fault.{Fault}
 use Rattle.text.specs.declared.Fault.the-variants.{Arguments, Unclosed}
 use Rattle.text.specs.Fault.{number}
 use Rattle.text.specs.Value.{unless, orElse}
-use Rattle.text.specs.Reader.{allBelow, allPresent, countRight, removedRight, taskFault, nodeLate, procLate, concat, late, firstLate}
+use Rattle.text.specs.Reader.{allBelow, allPresent, countRight, removedRight, taskFault, nodeLate, procLate, concatFrom, late, firstLate}
 use Rattle.late_lines.specs.declared.At.{At}
 use Rattle.late.specs.declared.Late.{Late}
 use Rattle.late.specs.Late.{lateIn, lateOf}
@@ -25,18 +25,18 @@ use Rattle.late_nodes.specs.Terms.{termsOf}
 use Rattle.late_nodes.specs.NodeLaws.{callee-of, node-of}
 
 abbrev pub tasksLate : Table → List (Option Fault)
-tasksLate t = concat (λ i. taskFault t i ∷ []) (t .tasks) 0
+tasksLate t = concatFrom (λ i. taskFault t i ∷ []) (t .tasks) 0
 
 abbrev pub procsLate : Table → List (Option Fault)
-procsLate t = concat (procLate t) (t .procs) 0
+procsLate t = concatFrom (procLate t) (t .procs) 0
 
 -- ---- by the terms of a table, the faults of its lines are those that the reader finds
 
 pub tasks-of : (t : Table) {c : Terms} {a : At} → c ≡ termsOf t → a ≡ firstAt 3 (tasksLateBy c (t .task) (t .tasks)) → a ≡ firstAt 3 (tasksLate t)
-tasks-of t e h = (rw e at h) ∙ (λ ι. firstAt 3 (concat (λ i. dropFault (t .closed) (callee-of t (taskAt t i .top) ι .params) (callee-of t (taskAt t i .top) ι .drop) ∷ []) (t .tasks) 0))
+tasks-of t e h = (rw e at h) ∙ (λ ι. firstAt 3 (concatFrom (λ i. dropFault (t .closed) (callee-of t (taskAt t i .top) ι .params) (callee-of t (taskAt t i .top) ι .drop) ∷ []) (t .tasks) 0))
 
 pub proc-of : (t : Table) (p l : ℕ) {c : Terms} {a : At} → c ≡ termsOf t → a ≡ firstAt l (procLateBy c (procAt t p)) → a ≡ firstAt l (procLate t p)
-proc-of t p l e h = (rw e at h) ∙ (λ ι. firstAt l (none ∷ concat (λ n. pick (isAbsent (nodeAt t p n)) [] (node-of t (procAt t p) (nodeAt t p n) ι ∷ [])) (procAt t p .nodes) 0))
+proc-of t p l e h = (rw e at h) ∙ (λ ι. firstAt l (none ∷ concatFrom (λ n. pick (isAbsent (nodeAt t p n)) [] (node-of t (procAt t p) (nodeAt t p n) ι ∷ [])) (procAt t p .nodes) 0))
 
 -- ---- the lines of a whole table
 
@@ -65,8 +65,8 @@ laters-append : {xs ys : List (Option Fault)} → Laters xs → Laters ys → La
 laters-append nil k = k
 laters-append (cons f h) k = cons f (laters-append h k)
 
-laters-concat : (g : ℕ → List (Option Fault)) (n i : ℕ) → ((i : ℕ) → Laters (g i)) → Laters (concat g n i)
-unfolding concat
+laters-concat : (g : ℕ → List (Option Fault)) (n i : ℕ) → ((i : ℕ) → Laters (g i)) → Laters (concatFrom g n i)
+unfolding concatFrom
 laters-concat g zero i h = nil
 laters-concat g (suc n) i h = laters-append (h i) (laters-concat g n (suc i) h)
 

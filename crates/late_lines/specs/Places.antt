@@ -11,7 +11,7 @@ use Rattle.table.specs.declared.Proc.{Proc}
 use Rattle.table.specs.declared.Task.{Task}
 use Rattle.text.specs.declared.Fault.{Fault}
 use Rattle.text.specs.Fault.{number}
-use Rattle.text.specs.Reader.{allBelow, concat}
+use Rattle.text.specs.Reader.{allBelow, concatFrom}
 use Rattle.late_lines.specs.declared.At.{At}
 use Rattle.late_nodes.specs.declared.Terms.{Terms}
 use Rattle.late_nodes.specs.Terms.{calleeAt, presentIn, ifClosed, nodeFaultBy}
@@ -27,14 +27,14 @@ taskFaultBy c x = dropFault (c .closed) (calleeAt c (x .top) .params) (calleeAt 
 
 -- the first n tasks
 abbrev pub tasksLateBy : Terms → List Task → ℕ → List (Option Fault)
-tasksLateBy c xs n = concat (λ i. taskFaultBy c (getD xs i noTask) ∷ []) n 0
+tasksLateBy c xs n = concatFrom (λ i. taskFaultBy c (getD xs i noTask) ∷ []) n 0
 
 -- an absent node has no line
 abbrev pub nodeLateBy : Terms → ℕ → Node → List (Option Fault)
 nodeLateBy c m x = pick (isAbsent x) [] (nodeFaultBy c m x ∷ [])
 
 abbrev pub nodesLateBy : Terms → ℕ → Proc → List (Option Fault)
-nodesLateBy c m q = concat (λ n. nodeLateBy c m (nodeIn q n)) (q .nodes) 0
+nodesLateBy c m q = concatFrom (λ n. nodeLateBy c m (nodeIn q n)) (q .nodes) 0
 
 -- a procedure's line, which has none, and its node lines
 abbrev pub procLateBy : Terms → Proc → List (Option Fault)

@@ -16,7 +16,7 @@ use Rattle.text.specs.declared.Fault.{Fault}
 use Rattle.text.specs.declared.Fault.the-variants.{Long, Form, Misspelt, Ended, Range, Index, Reference, Arguments, Unclosed, Unused, Short}
 use Rattle.text.specs.Fault.{number}
 use Rattle.text.specs.NumberLaws.{cases}
-use Rattle.text.specs.Reader.{concat}
+use Rattle.text.specs.Reader.{concatFrom}
 use Rattle.text.specs.Structure.{numbered}
 use Rattle.text.specs.ValidLaws.{absent-is}
 use Rattle.late_lines.specs.declared.At.{At}
@@ -91,27 +91,27 @@ task-step c x l z p h = (rw (p, z) at h) ∙ sym (step-is l false (taskFaultBy c
 -- ---- n places, the first i of which have no fault and stand for the lines up to l
 
 pub record Walked (g : ℕ → List (Option Fault)) (n m l i : ℕ) : Type 0 where
-  pub left : firstAt m (concat g n 0) ≡ firstAt l (concat g (n - i) i)
+  pub left : firstAt m (concatFrom g n 0) ≡ firstAt l (concatFrom g (n - i) i)
 
 pub walked-none : (g : ℕ → List (Option Fault)) (n m : ℕ) → Walked g n m m 0
-walked-none g n m = let e : n ≡ n - 0 = omega arith in record { left = ap (λ (k : ℕ). firstAt m (concat g k 0)) e }
+walked-none g n m = let e : n ≡ n - 0 = omega arith in record { left = ap (λ (k : ℕ). firstAt m (concatFrom g k 0)) e }
 
-one-more : (g : ℕ → List (Option Fault)) (n i : ℕ) → i < n → concat g (n - i) i ≡ g i ++ concat g (n - (i + 1)) (i + 1)
-unfolding concat
+one-more : (g : ℕ → List (Option Fault)) (n i : ℕ) → i < n → concatFrom g (n - i) i ≡ g i ++ concatFrom g (n - (i + 1)) (i + 1)
+unfolding concatFrom
 one-more g n i u =
     let e : n - i ≡ suc (n - (i + 1)) = omega arith in
     let s : i + 1 ≡ suc i = omega arith in
     rw (e, s)
 
 pub walked-more : (g : ℕ → List (Option Fault)) (n m l i : ℕ) {a : At} → Walked g n m l i → i < n → a ≡ firstAt l (g i) → a .number ≡ 0 → Walked g n m (a .line) (i + 1)
-walked-more g n m l i w u e z = record { left = w .left ∙ ap (firstAt l) (one-more g n i u) ∙ at-good l (g i) (concat g (n - (i + 1)) (i + 1)) e z }
+walked-more g n m l i w u e z = record { left = w .left ∙ ap (firstAt l) (one-more g n i u) ∙ at-good l (g i) (concatFrom g (n - (i + 1)) (i + 1)) e z }
 
-pub walked-found : (g : ℕ → List (Option Fault)) (n m l i : ℕ) {a : At} → Walked g n m l i → i < n → a ≡ firstAt l (g i) → (a .number ≡ 0 → ⊥) → a ≡ firstAt m (concat g n 0)
-walked-found g n m l i w u e z = at-bad l (g i) (concat g (n - (i + 1)) (i + 1)) e z ∙ sym (w .left ∙ ap (firstAt l) (one-more g n i u))
+pub walked-found : (g : ℕ → List (Option Fault)) (n m l i : ℕ) {a : At} → Walked g n m l i → i < n → a ≡ firstAt l (g i) → (a .number ≡ 0 → ⊥) → a ≡ firstAt m (concatFrom g n 0)
+walked-found g n m l i w u e z = at-bad l (g i) (concatFrom g (n - (i + 1)) (i + 1)) e z ∙ sym (w .left ∙ ap (firstAt l) (one-more g n i u))
 
-pub walked-all : (g : ℕ → List (Option Fault)) (n m l i : ℕ) → Walked g n m l i → n ≤ i → _≡_ {A = At} (record { number = 0; line = l }) (firstAt m (concat g n 0))
-unfolding concat firstAt
-walked-all g n m l i w u = let e : n - i ≡ 0 = omega arith in sym (w .left ∙ ap (λ (k : ℕ). firstAt l (concat g k i)) e)
+pub walked-all : (g : ℕ → List (Option Fault)) (n m l i : ℕ) → Walked g n m l i → n ≤ i → _≡_ {A = At} (record { number = 0; line = l }) (firstAt m (concatFrom g n 0))
+unfolding concatFrom firstAt
+walked-all g n m l i w u = let e : n - i ≡ 0 = omega arith in sym (w .left ∙ ap (λ (k : ℕ). firstAt l (concatFrom g k i)) e)
 
 -- a procedure's line has no late fault; in open form no target is looked at
 pub proc-step : (c : Terms) (q : Proc) (m l : ℕ) {a : At} → (m ≡ presentIn q) ⊎ (c .closed ≡ false) → a ≡ firstAt (l + 1) (nodesLateBy c m q) → a ≡ firstAt l (procLateBy c q)
@@ -119,4 +119,4 @@ unfolding firstAt
 proc-step c q m l (inl e) h = let s : l + 1 ≡ suc l = omega arith in rw (s, e) at h
 proc-step c q m l (inr e) h =
     let s : l + 1 ≡ suc l = omega arith in
-    (rw s at h) ∙ (λ ι. firstAt (suc l) (concat (λ n. pick (isAbsent (nodeIn q n)) [] (node-open c m (presentIn q) (nodeIn q n) e ι ∷ [])) (q .nodes) 0))
+    (rw s at h) ∙ (λ ι. firstAt (suc l) (concatFrom (λ n. pick (isAbsent (nodeIn q n)) [] (node-open c m (presentIn q) (nodeIn q n) e ι ∷ [])) (q .nodes) 0))

@@ -11,7 +11,7 @@ use Rattle.table.specs.declared.Operand.the-variants.{Const}
 use Rattle.table.specs.declared.Table.{Table}
 use Rattle.text.specs.Number.{bytes, digits}
 use Rattle.text.specs.Value.{chosen, spellOperand, spellList}
-use Rattle.text.specs.Reader.{concat}
+use Rattle.text.specs.Reader.{concatFrom}
 use Rattle.machine.specs.declared.Frame.{Frame}
 use Rattle.machine.specs.declared.Entries.{Entries}
 use Rattle.machine.specs.declared.State.{State}
@@ -28,7 +28,7 @@ spellValue z = spellOperand (Const z)
 
 -- the first n of some values, as a list
 abbrev pub valuesText : List ℤ → ℕ → List ℕ
-valuesText l n = spellList (concat (λ i. spellValue (varAt l i) ∷ []) n 0)
+valuesText l n = spellList (concatFrom (λ i. spellValue (varAt l i) ∷ []) n 0)
 
 -- `steps=S used=U stop=N`
 abbrev pub answerLine : Running → List ℕ
@@ -61,7 +61,7 @@ abbrev pub frameLineOf : Table → State → ℕ → ℕ → List ℕ
 frameLineOf t s k j = let f = frameAt s k j in frameLine j f (procAt t (f .proc) .vars)
 
 abbrev pub taskLines : Table → State → ℕ → List ℕ
-taskLines t s k = taskLine k (openFrames s k) (isLost s k) ++ concat (frameLineOf t s k) (openFrames s k) 0
+taskLines t s k = taskLine k (openFrames s k) (isLost s k) ++ concatFrom (frameLineOf t s k) (openFrames s k) 0
 
 -- `sem=i count=c`
 abbrev pub semLine : ℕ → ℕ → List ℕ
@@ -75,7 +75,7 @@ queueLine i x = keyed (bytes "queue=") i (bytes " entries=" ++ (valuesText (x .i
 unfoldable pub report : Table → Running → List ℕ → List ℕ
 report t r log =
     answerLine r
-    ++ (concat (stepLine log) (r .steps) 0
-    ++ (concat (taskLines t (r .state)) (t .tasks) 0
-    ++ (concat (λ i. semLine i (semCount (r .state .sems) i)) (t .sems) 0
-    ++ concat (λ i. queueLine i (entriesAt (r .state .queues) i)) (t .queues) 0)))
+    ++ (concatFrom (stepLine log) (r .steps) 0
+    ++ (concatFrom (taskLines t (r .state)) (t .tasks) 0
+    ++ (concatFrom (λ i. semLine i (semCount (r .state .sems) i)) (t .sems) 0
+    ++ concatFrom (λ i. queueLine i (entriesAt (r .state .queues) i)) (t .queues) 0)))

@@ -32,9 +32,9 @@ pub record Ran : Type 0 where
   pub answer : Running
   pub log : List ℕ
 
--- `all` values, of which `rest` are left
+-- of the values given, `rest` are left
 abbrev pub ended : ℕ → List ℤ → ℕ → State → List ℤ → List ℕ → Ran
-ended stop all steps s rest log = record { answer = record { steps = steps; used = length all - length rest; stop = stop; state = s }; log = log }
+ended stop values steps s rest log = record { answer = record { steps = steps; used = length values - length rest; stop = stop; state = s }; log = log }
 
 module _ (t : Table) (keep : Kept) (most : ℕ) where
   -- "no such task", then "fewer than 8 log bytes left", then what the step says
@@ -44,15 +44,15 @@ module _ (t : Table) (keep : Kept) (most : ℕ) where
     | false ↦ stopped noSuchTask
   ]
 
-  module _ (all : List ℤ) where
+  module _ (values : List ℤ) where
     -- after a step the rest of the schedule; "A stopped step leaves state, log and used count as before it"
     abbrev pub afterStep : (ℕ → State → List ℤ → List ℕ → Ran) → ℕ → State → List ℤ → List ℕ → Step → Ran
-    afterStep go steps s rest log (stopped c) = ended (stopNumber c) all steps s rest log
+    afterStep go steps s rest log (stopped c) = ended (stopNumber c) values steps s rest log
     afterStep go steps s rest log (stepped e ns s′ rest′) = go (suc steps) s′ rest′ (sets log (8 * steps) (entryBytes e))
 
     -- "It runs the first task number of the schedule, then the rest of the schedule."
     unfoldable pub runFrom : List ℕ → ℕ → State → List ℤ → List ℕ → Ran
-    runFrom [] steps s rest log = ended 0 all steps s rest log
+    runFrom [] steps s rest log = ended 0 values steps s rest log
     runFrom (k ∷ ks) steps s rest log = afterStep (λ n s′ r l. runFrom ks n s′ r l) steps s rest log (turn k steps s rest log)
 
 -- "15 at the start comes before every step's faults, those met before a step too, and leaves all locals 0 and 0 used"

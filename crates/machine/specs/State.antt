@@ -11,7 +11,7 @@ use Rattle.table.specs.declared.Node.{Node}
 use Rattle.table.specs.declared.Node.the-variants.{Absent, Start, Set, Test, Read, Call, Wait, Signal, Send, Recv, Assert, Out, Return}
 use Rattle.table.specs.declared.Sem.{Sem}
 use Rattle.table.specs.declared.Table.{Table}
-use Rattle.text.specs.Reader.{allBelow, concat}
+use Rattle.text.specs.Reader.{allBelow, concatFrom}
 use Rattle.machine.specs.declared.Frame.{Frame}
 use Rattle.machine.specs.declared.Entries.{Entries}
 use Rattle.machine.specs.declared.State.{State}
@@ -80,9 +80,9 @@ firstFrames t i = pick (ltb i (t .tasks)) (firstFrame t i) noFrame ∷ replicate
 
 unfoldable pub firstState : Table → State
 firstState t = record {
-  depth = concat (λ i. pick (ltb i (t .tasks)) 1 0 ∷ []) 4 0;
+  depth = concatFrom (λ i. pick (ltb i (t .tasks)) 1 0 ∷ []) 4 0;
   lost = replicate 4 false;
-  frames = concat (firstFrames t) 4 0;
+  frames = concatFrom (firstFrames t) 4 0;
   sems = map (λ (x : Sem). x .count) (t .sem);
   queues = replicate 8 noEntries;
 }

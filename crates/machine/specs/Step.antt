@@ -15,7 +15,7 @@ use Rattle.table.specs.declared.Args.{Args}
 use Rattle.table.specs.declared.Node.{Node}
 use Rattle.table.specs.declared.Node.the-variants.{Absent, Start, Set, Test, Read, Call, Wait, Signal, Send, Recv, Assert, Out, Return}
 use Rattle.table.specs.declared.Table.{Table}
-use Rattle.text.specs.Reader.{concat}
+use Rattle.text.specs.Reader.{concatFrom}
 use Rattle.closing.specs.Closing.{dirty, kept}
 use Rattle.machine.specs.declared.Frame.{Frame}
 use Rattle.machine.specs.declared.Entries.{Entries}
@@ -268,7 +268,7 @@ passedAt l xs i = pick (ltb i (xs .len)) (varAt l (argAt xs i)) (pos 0)
 
 -- "A call opens a frame; its step ends before the callee's start"
 abbrev pub entering : List ℤ → ℕ → Args → Frame
-entering l q xs = record { proc = q; node = 0; vars = concat (λ i. passedAt l xs i ∷ []) 16 0 }
+entering l q xs = record { proc = q; node = 0; vars = concatFrom (λ i. passedAt l xs i ∷ []) 16 0 }
 
 abbrev pub called : State → ℕ → Frame → State
 called s k g = record {

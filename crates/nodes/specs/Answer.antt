@@ -19,7 +19,7 @@ use Rattle.nodes.specs.declared.To.{To}
 use Rattle.nodes.specs.declared.To.the-variants.{Is as IsTo, Not as NotTo}
 use Rattle.nodes.specs.declared.Body.{Body}
 use Rattle.nodes.specs.declared.Body.the-variants.{Is as IsBody, Not as NotBody}
-use Rattle.fields.specs.Answer.{Answer, got, not, LineAt}
+use Rattle.fields.specs.Answer.{Answer, got, failed, LineAt}
 
 -- the declared items that references on a node line are judged by
 abbrev pub scopeIn : Scope → Judged
@@ -41,7 +41,7 @@ lastSet key one n w = setOf (w .0)
 
 abbrev pub toIn : To → Answer ℕ
 toIn (IsTo m e) = got m e
-toIn (NotTo f) = not f
+toIn (NotTo f) = failed f
 
 abbrev pub toFault : To → Fault
 toFault (IsTo m e) = Fault.Form
@@ -49,7 +49,7 @@ toFault (NotTo f) = f
 
 abbrev pub bodyIn : Body → Answer Node
 bodyIn (IsBody x e) = got x e
-bodyIn (NotBody f) = not f
+bodyIn (NotBody f) = failed f
 
 abbrev pub bodyFault : Body → Fault
 bodyFault (IsBody x e) = Fault.Form
@@ -85,7 +85,7 @@ numbered c lo n w = record { at = w .0; node = nodeOf c (w .1 .0) (w .1 .1) }
 
 abbrev pub nodeIn : NodeAnswer → Answer Numbered
 nodeIn (IsNode x j e) = got (record { at = j; node = x }) e
-nodeIn (NotNode f l) = not f
+nodeIn (NotNode f l) = failed f
 
 abbrev pub nodeFits : ℕ → ℕ → NodeAnswer → Type 0
 nodeFits n line (IsNode x j e) = j < n

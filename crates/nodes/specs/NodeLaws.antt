@@ -24,7 +24,7 @@ use Rattle.words.specs.Answer.{kindOf}
 use Rattle.lists.specs.Sets.{SetAt}
 use Rattle.nodes.specs.declared.To.{To}
 use Rattle.nodes.specs.declared.To.the-variants.{Is as IsTo, Not as NotTo}
-use Rattle.fields.specs.Answer.{got, not, LineAt, endFault, setFault}
+use Rattle.fields.specs.Answer.{got, failed, LineAt, endFault, setFault}
 use Rattle.nodes.specs.Answer.{lastLine, lastSet, toIn, toFault, BodyAt, bodyFault}
 use Rattle.fields.specs.FieldLaws.{set-next, set-stop, feed-last, feed-stop, onto-not, onto-got}
 use Rattle.nodes.specs.declared.Body.{Body}
@@ -34,18 +34,18 @@ use Rattle.table.specs.declared.Node.the-variants.{Start, Set, Test, Read, Call
 
 -- ---- targets that end a line
 module _ {key : List ℕ} {one : Bool} {n : ℕ} {s : List ℕ} {at : ℕ} {r : Mask} (m : SetAt one 1 n key s at r) where
-  pub targets-stop : {x y : Fault} → r ≡ NotSet x → y ≡ setFault r → LineAt (lastLine key one n) (lastSet key one n) s at (not y)
+  pub targets-stop : {x y : Fault} → r ≡ NotSet x → y ≡ setFault r → LineAt (lastLine key one n) (lastSet key one n) s at (failed y)
   targets-stop q p = set-stop {g = lastSet key one n} m q p
 
   module _ {v e : ℕ} (q : r ≡ IsSet v e) {end : Ended} (f : FeedAt s e end) where
-    pub targets-unfed : {x y : Fault} → end ≡ Unfed x → y ≡ endFault end → LineAt (lastLine key one n) (lastSet key one n) s at (not y)
+    pub targets-unfed : {x y : Fault} → end ≡ Unfed x → y ≡ endFault end → LineAt (lastLine key one n) (lastSet key one n) s at (failed y)
     targets-unfed d p = set-next {g = lastSet key one n} m q (λ x h. feed-stop f d p)
 
     pub targets-fed : {z : ℕ} → end ≡ Fed z → LineAt (lastLine key one n) (lastSet key one n) s at (got v z)
     targets-fed d = set-next {g = lastSet key one n} m q (λ x h. feed-last f d (sym h))
 
 module _ {A : Type 0} {key : List ℕ} {one : Bool} {n : ℕ} {s : List ℕ} {at : ℕ} {r : To} {g : Vals (lastLine key one n) → A} (m : LineAt (lastLine key one n) (lastSet key one n) s at (toIn r)) where
-  pub last-stop : {x y : Fault} → r ≡ NotTo x → y ≡ toFault r → LineAt (lastLine key one n) g s at (not y)
+  pub last-stop : {x y : Fault} → r ≡ NotTo x → y ≡ toFault r → LineAt (lastLine key one n) g s at (failed y)
   unfolding line
   last-stop {x} q p = rw (p, q) (record { same = λ l. sym (onto-not (line (lastLine key one n) l (drop at s)) (lastSet key one n) g (sym (m .same l) ∙ rw q)); within = tt })
 
@@ -63,7 +63,7 @@ module _ {c : Judged} {s : List ℕ} {at : ℕ} {r : Body} where
   body-of q u = rw q u
 
 module _ {A : Type 0} {c : Judged} {k : NodeKind} {s : List ℕ} {at : ℕ} {r : Body} {g : Vals (fields c k) → A} (m : BodyAt c k s at r) where
-  pub body-stop : {x y : Fault} → r ≡ NotBody x → y ≡ bodyFault r → LineAt (fields c k) g s at (not y)
+  pub body-stop : {x y : Fault} → r ≡ NotBody x → y ≡ bodyFault r → LineAt (fields c k) g s at (failed y)
   body-stop {x} q p = rw (p, q) (record { same = λ l. sym (onto-not (line (fields c k) l (drop at s)) (nodeOf c k) g (sym (m .is .same l) ∙ rw q)); within = tt })
 
   pub body-got : {x : Node} {e : ℕ} → r ≡ IsBody x e → {a : A} → ((w : Vals (fields c k)) → nodeOf c k w ≡ x → a ≡ g w) → LineAt (fields c k) g s at (got a e)

@@ -3,7 +3,7 @@ ghost use Prim.Native.Nat.{_≤_};
 ghost use mathlib.Core.Path.{_≡_};
 ghost use mathlib.Core.List.{[], _∷_};
 ghost use lib.ListN.{length};
-ghost use Rattle.text.specs.Value.{start, set, test, read, call, wait, signal, send, recv, assert, out, return};
+ghost use Rattle.text.specs.Value.{start, setKind, test, read, call, wait, signal, send, recv, assert, out, return};
 ghost use Rattle.numbers.specs.Answer.{NumberAt};
 ghost use Rattle.fields.specs.Answer.{LineAt};
 ghost use Rattle.nodes.specs.Answer.{toFault, bodyFault, lastLine, lastSet, toIn, scopeIn, Fits, bodyIn, setLine, setNode, testLine, testNode, BodyAt, NodeAt};
@@ -111,7 +111,7 @@ fn set_operands(s: &[u8], at: usize, c: Scope, var: u8, op: table::Op) -> Body
 
 fn set_node(s: &[u8], at: usize, c: Scope) -> Body
     requires { ⌜ (at ≤ length (now s)) × Fits c ⌝ }
-    ensures { λ r. ⌜ BodyAt (scopeIn c) set (now (s .entry)) at r ⌝ }
+    ensures { λ r. ⌜ BodyAt (scopeIn c) setKind (now (s .entry)) at r ⌝ }
 {
     let var_field = numbers::number_word(
         s,

@@ -3,11 +3,11 @@ use Prim.Native.Nat.{ℕ, suc, _+_, _-_, _*_}
 use mathlib.Core.Bool.{Bool, _&&_}
 use mathlib.Core.List.{List, [], _∷_, _++_}
 use mathlib.Core.Option.{Option, none, some}
-use lib.Seq.{sets as store}
+use lib.Seq.{sets}
 use lib.Dec.{eqb}
 use lib.IntN.{ℤ}
 use Rattle.table.specs.Mask.{pick}
-use Rattle.table.specs.Table.{nodeAt, sets}
+use Rattle.table.specs.Table.{nodeAt, variableSet}
 use Rattle.table.specs.declared.Table.{Table}
 use Rattle.closing.specs.Closing.{setsVar}
 use Rattle.machine.specs.declared.State.{State}
@@ -42,7 +42,7 @@ afterEntry t s e ns h = afterFlow (e .task) (openFrames s (e .task)) (e .node) n
 module _ (t : Table) (keep : Kept) (most : ℕ) where
   abbrev pub afterTurn : (ℕ → State → List ℤ → List ℕ → History → History) → ℕ → State → List ℕ → History → Step → History
   afterTurn go steps s log h (stopped c) = h
-  afterTurn go steps s log h (stepped e ns s′ rest) = go (suc steps) s′ rest (store log (8 * steps) (entryBytes e)) (afterEntry t s e ns h)
+  afterTurn go steps s log h (stepped e ns s′ rest) = go (suc steps) s′ rest (sets log (8 * steps) (entryBytes e)) (afterEntry t s e ns h)
 
   unfoldable pub historyFrom : List ℕ → ℕ → State → List ℤ → List ℕ → History → History
   historyFrom [] steps s rest log h = h
@@ -60,4 +60,4 @@ history t ks vs most log = historyBegun t ks most log (begin t vs)
 -- procedure p; `none` is the entry, `last` what was the last setting before the nodes
 unfoldable pub lastSetting : Table → ℕ → ℕ → Option ℕ → List ℕ → Option ℕ
 lastSetting t p v last [] = last
-lastSetting t p v last (n ∷ ns) = lastSetting t p v (pick (setsVar (sets (nodeAt t p n)) v) (some n) last) ns
+lastSetting t p v last (n ∷ ns) = lastSetting t p v (pick (setsVar (variableSet (nodeAt t p n)) v) (some n) last) ns

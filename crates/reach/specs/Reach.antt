@@ -48,7 +48,7 @@ noted ends r n = grown (grown r (firstOf ends n) (2 ^ n)) (secondOf ends n) (2 ^
 pub record Sources (ends : List ℕ) (gone left : ℕ) (r : List ℕ) : Type 0 where
   pub masks : Masks 32 32 r
   pub only : (a m : ℕ) → bit a (cell r m) ≡ true → bit a gone ≡ true
-  pub all : (a m : ℕ) → bit a gone ≡ true → bit a left ≡ false → IsEnd ends a m → bit a (cell r m) ≡ true
+  pub each : (a m : ℕ) → bit a gone ≡ true → bit a left ≡ false → IsEnd ends a m → bit a (cell r m) ≡ true
 
 -- the nodes that are not kept
 abbrev pub droppedOf : ℕ → ℕ

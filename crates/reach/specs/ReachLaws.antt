@@ -51,7 +51,7 @@ module _ (ends : List ℕ) (gone : ℕ) where
     sources = record {
       masks = record { size = length-replicate {A = ℕ} 32 0; below = λ a. rw (cell-zeros 32 a) (omega arith) };
       only = λ a m b. absurd (false≢true (sym (bit-zero a) ∙ (rw (cell-zeros 32 m) at b)));
-      all = λ a m b c x. absurd (true≢false (sym b ∙ c));
+      each = λ a m b c x. absurd (true≢false (sym b ∙ c));
     };
     small = h;
     within = λ a b. b;
@@ -121,13 +121,13 @@ module _ (ends : List ℕ) (gone : ℕ) where
     all-in a b h k x = go (without-out left n a k)
       where
         go : (bit a left ≡ false) ⊎ (a ≡ n) → bit a (cell r2 b) ≡ true
-        go (inl y) = second-has a b (first-has a b (s .sources .all a b h y x))
+        go (inl y) = second-has a b (first-has a b (s .sources .each a b h y x))
         go (inr y) = rw y (own b (subst (λ (j : ℕ). IsEnd ends j b) y x))
 
     pub gather-next : Gathers left′ r2
     unfolding Sound
     gather-next = rw d (record {
-      sources = record { masks = both-masks; only = λ a b h. both-only b a h; all = all-in };
+      sources = record { masks = both-masks; only = λ a b h. both-only b a h; each = all-in };
       small = lt-trans fewer (s .small);
       within = λ a h. s .within a (without-in left n a h);
     })
@@ -274,7 +274,7 @@ module _ (kept : ℕ) (ends : List ℕ) where
       where
         go : (v : Bool) → bit n rest ≡ v → ⊥
         go true q = true≢false (sym (part n q) ∙ t)
-        go false q = true≢false (sym (sr .all n i (dropped-has n h b) q x) ∙ y)
+        go false q = true≢false (sym (sr .each n i (dropped-has n h b) q x) ∙ y)
 
     next-small : (b : Bool) → pick b (bitOr (without todo i) again) (without todo i) < 2 ^ 32
     next-small true = or-lt 32 _ _ (lt-trans less (s .small)) (sr .masks .below i)
@@ -362,8 +362,8 @@ module _ (kept : ℕ) (ends : List ℕ) where
 
   module _ {l l′ l₀ from : List ℕ} {fresh : Bool} {i todo todo′ todo₀ rest : ℕ} (s : Search l todo) (z : todo ≢ 0) (at : i ≡ lastOf todo) (v : Visits l₀ from todo₀ rest) (o : rest ≡ 0) (e : l′ ≡ joined ends l i) (f : Flag l l′ fresh)
       (d : todo′ ≡ pick fresh (bitOr (without todo i) (cell from i)) (without todo i)) where
-    all : Sources ends (droppedOf kept) 0 from
-    all = gather-end ends (droppedOf kept) (v .gathers) o
+    gathered : Sources ends (droppedOf kept) 0 from
+    gathered = gather-end ends (droppedOf kept) (v .gathers) o
 
     none-left : (n : ℕ) → bit n 0 ≡ true → bit n todo ≡ true
     none-left n h = absurd (false≢true (sym (bit-zero n) ∙ h))
@@ -372,7 +372,7 @@ module _ (kept : ℕ) (ends : List ℕ) where
     old = rw at (last-bit todo (s .small) z)
 
     pub search-next : Search l′ todo′
-    search-next = step-next s (omega arith) old all none-left e f d
+    search-next = step-next s (omega arith) old gathered none-left e f d
 
     pub search-less : left 32 (2 ^ 32) l′ todo′ < left 32 (2 ^ 32) l todo
-    search-less = step-less s (omega arith) old all none-left e f d
+    search-less = step-less s (omega arith) old gathered none-left e f d

@@ -25,20 +25,20 @@ use Rattle.records.specs.declared.ProcLine.{ProcLine}
 use Rattle.records.specs.declared.ProcLine.the-variants.{Is as IsProc, Refused as NotProc}
 use Rattle.records.specs.declared.TaskLine.{TaskLine}
 use Rattle.records.specs.declared.TaskLine.the-variants.{Is as IsTask, Refused as NotTask}
-use Rattle.fields.specs.Answer.{Answer, got, not, LineAt}
+use Rattle.fields.specs.Answer.{Answer, got, failed, LineAt}
 
 -- ---- the lines before the procedures
 
 abbrev pub headIn : HeadLine → Answer (Vals headLine)
 headIn (IsHead n c e) = got (n, (c, tt)) e
-headIn (NotHead f) = not f
+headIn (NotHead f) = failed f
 
 abbrev pub valsOf : Counts → Vals countsLine
 valsOf x = (x .tasks, (x .procs, (x .sems, (x .queues, tt))))
 
 abbrev pub countsIn : CountsLine → Answer (Vals countsLine)
 countsIn (IsCounts x e) = got (valsOf x) e
-countsIn (NotCounts f) = not f
+countsIn (NotCounts f) = failed f
 
 pub record Counted (x : Counts) : Type 0 where
   pub tasks : x .tasks < 5
@@ -68,18 +68,18 @@ taskOf procs i w = record { top = w .1 .0 }
 
 abbrev pub taskIn : TaskLine → Answer Task
 taskIn (IsTask t e) = got t e
-taskIn (NotTask f) = not f
+taskIn (NotTask f) = failed f
 
 abbrev pub semOf : (i : ℕ) → Vals (semLine i) → Sem
 semOf i w = record { count = w .1 .0 }
 
 abbrev pub semIn : SemLine → Answer Sem
 semIn (IsSem t e) = got t e
-semIn (NotSem f) = not f
+semIn (NotSem f) = failed f
 
 abbrev pub queueIn : QueueLine → Answer Queue
 queueIn (IsQueue t e) = got t e
-queueIn (NotQueue f) = not f
+queueIn (NotQueue f) = failed f
 
 pub record QueueAt (closed : Bool) (i : ℕ) (s : List ℕ) (at : ℕ) (r : QueueLine) : Type 0 where
   pub is : LineAt (queueLine closed i) (queueOf closed i) s at (queueIn r)
@@ -101,7 +101,7 @@ headOf closed i w = record { params = w .1 .0; vars = w .1 .1 .0; nodes = w .1 .
 
 abbrev pub procIn : ProcLine → Answer ProcHead
 procIn (IsProc x e) = got x e
-procIn (NotProc f) = not f
+procIn (NotProc f) = failed f
 
 abbrev pub procFits : ProcLine → Type 0
 procFits (IsProc x e) = Sized (x .params) (x .vars) (x .nodes)

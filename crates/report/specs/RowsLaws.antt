@@ -5,7 +5,7 @@ use mathlib.Core.List.{List}
 use native.Mathlib.Omega.{arith}
 use lib.ListN.{getD}
 use Rattle.table.specs.declared.Table.{Table}
-use Rattle.text.specs.Reader.{concat}
+use Rattle.text.specs.Reader.{concatFrom}
 use Rattle.put.specs.Put.{Put}
 use Rattle.put.specs.PutLaws.{put-after, put-more}
 use Rattle.put.specs.RowLaws.{concat-same}
@@ -28,10 +28,10 @@ module _ (t : Table) (r : Running) (log counts : List ℕ) (v : VariableCounts (
   -- the parts, one after another
   pub report-put : {l m n o i j : List ℕ} {p q u w x : ℕ} → Reportable t r log
       → Put 70 l 0 (answerLine r) m p
-      → Put (65 * r .steps) m p (concat (stepLine log) (r .steps) 0) n q
-      → Put (24920 * t .tasks) n q (concat tasks (t .tasks) 0) o u
-      → Put (40 * t .sems) o u (concat (λ a. semLine a (semCount (r .state .sems) a)) (t .sems) 0) i w
-      → Put (3090 * t .queues) i w (concat (λ a. queueLine a (entriesAt (r .state .queues) a)) (t .queues) 0) j x
+      → Put (65 * r .steps) m p (concatFrom (stepLine log) (r .steps) 0) n q
+      → Put (24920 * t .tasks) n q (concatFrom tasks (t .tasks) 0) o u
+      → Put (40 * t .sems) o u (concatFrom (λ a. semLine a (semCount (r .state .sems) a)) (t .sems) 0) i w
+      → Put (3090 * t .queues) i w (concatFrom (λ a. queueLine a (entriesAt (r .state .queues) a)) (t .queues) 0) j x
       → Put 4400000 l 0 (report t r log) j x
   unfolding report
   report-put h a b c d e =

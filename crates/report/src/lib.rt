@@ -13,7 +13,7 @@ use report_tasks::variable_counts;
 use report_values::put_values_line;
 use table::Table;
 ghost use Prim.Native.Nat.{_*_, _≤_};
-ghost use Rattle.text.specs.Reader.{concat};
+ghost use Rattle.text.specs.Reader.{concatFrom};
 ghost use Rattle.put.specs.Put.{Put, LinesAt};
 ghost use Rattle.machine.specs.State.{semCount, entriesAt};
 ghost use Rattle.machine.specs.Report.{answerLine, semLine, queueLine, report};
@@ -31,7 +31,7 @@ fn put_answer_line(out: &mut [u8], at: usize, r: Running) -> usize
 
 fn put_sems(out: &mut [u8], at: usize, sems: [u8; 8], n: u8) -> usize
     requires { ⌜ (at ≤ 700000000) × (n ≤ 8) ⌝ }
-    ensures { λ r. ⌜ Put (40 * n) (now (out .entry)) at (concat (λ i. semLine i (semCount sems i)) n 0) (now (out .exit)) r ⌝ }
+    ensures { λ r. ⌜ Put (40 * n) (now (out .entry)) at (concatFrom (λ i. semLine i (semCount sems i)) n 0) (now (out .exit)) r ⌝ }
 {
     let mut p = at;
     let mut i: u8 = 0;
@@ -55,7 +55,7 @@ fn put_queue_line(out: &mut [u8], at: usize, i: u8, x: Entries) -> usize
 
 fn put_queues(out: &mut [u8], at: usize, queues: [Entries; 8], n: u8) -> usize
     requires { ⌜ (at ≤ 800000000) × (n ≤ 8) ⌝ }
-    ensures { λ r. ⌜ Put (3090 * n) (now (out .entry)) at (concat (λ i. queueLine i (entriesAt queues i)) n 0) (now (out .exit)) r ⌝ }
+    ensures { λ r. ⌜ Put (3090 * n) (now (out .entry)) at (concatFrom (λ i. queueLine i (entriesAt queues i)) n 0) (now (out .exit)) r ⌝ }
 {
     let mut p = at;
     let mut i: u8 = 0;

@@ -11,7 +11,7 @@ ghost use mathlib.Core.List.{_∷_, [], _++_};
 ghost use Prim.Native.Nat.{_+_, _*_, _≤_, _<_};
 ghost use lib.ListN.{length};
 ghost use Rattle.text.specs.Number.{bytes};
-ghost use Rattle.text.specs.Reader.{concat};
+ghost use Rattle.text.specs.Reader.{concatFrom};
 ghost use Rattle.put.specs.Put.{Put, LinesAt};
 ghost use Rattle.machine.specs.Report.{spellValue, loggedValue, stepLine};
 
@@ -60,7 +60,7 @@ fn put_step_line(out: &mut [u8], at: usize, log: &[u8], i: usize) -> usize
 // The lines of the first n steps.
 pub fn put_steps(out: &mut [u8], at: usize, log: &[u8], n: usize) -> usize
     requires { ⌜ (at ≤ 1000) × (n ≤ 65536) × (8 * n ≤ length (now log)) ⌝ }
-    ensures { λ r. ⌜ Put (65 * n) (now (out .entry)) at (concat (stepLine (now (log .entry))) n 0) (now (out .exit)) r ⌝ }
+    ensures { λ r. ⌜ Put (65 * n) (now (out .entry)) at (concatFrom (stepLine (now (log .entry))) n 0) (now (out .exit)) r ⌝ }
 {
     let mut p = at;
     let mut i = 0;

@@ -6,7 +6,7 @@ use mathlib.Core.List.{List, [], _++_}
 use lib.ListN.{getD}
 use Rattle.table.specs.Table.{outside}
 use Rattle.table.specs.declared.Proc.{Proc}
-use Rattle.text.specs.Reader.{concat}
+use Rattle.text.specs.Reader.{concatFrom}
 use Rattle.machine.specs.declared.Frame.{Frame}
 use Rattle.machine.specs.State.{place}
 use Rattle.machine.specs.Report.{frameLine, taskLine}
@@ -24,7 +24,7 @@ frameRow frames counts k j = let f = frameIn frames k j in frameLine j f (getD c
 
 -- a task's lines
 abbrev pub taskRow : List ℕ → List Bool → List Frame → List ℕ → ℕ → List ℕ
-taskRow depth lost frames counts k = taskLine k (getD depth k 0) (getD lost k false) ++ concat (frameRow frames counts k) (getD depth k 0) 0
+taskRow depth lost frames counts k = taskLine k (getD depth k 0) (getD lost k false) ++ concatFrom (frameRow frames counts k) (getD depth k 0) 0
 
 -- no task has more frames open than places
 pub record Few (depth : List ℕ) : Type 0 where

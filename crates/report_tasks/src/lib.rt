@@ -10,7 +10,7 @@ ghost use mathlib.Core.Path.{_≡_};
 ghost use mathlib.Core.List.{_++_};
 ghost use Prim.Native.Nat.{_*_, _≤_, _<_};
 ghost use lib.ListN.{getD};
-ghost use Rattle.text.specs.Reader.{concat};
+ghost use Rattle.text.specs.Reader.{concatFrom};
 ghost use Rattle.put.specs.Put.{Put, LinesAt};
 ghost use Rattle.machine.specs.Report.{frameLine, taskLine};
 ghost use Rattle.report_tasks.specs.Rows.{VariableCounts, frameRow, taskRow, Few};
@@ -61,7 +61,7 @@ fn put_frames(
     counts: [u8; 8],
 ) -> usize
     requires { ⌜ (at ≤ 800000000) × (k < 4) × (n ≤ 8) ⌝ }
-    ensures { λ r. ⌜ Put (3110 * n) (now (out .entry)) at (concat (frameRow frames counts k) n 0) (now (out .exit)) r ⌝ }
+    ensures { λ r. ⌜ Put (3110 * n) (now (out .entry)) at (concatFrom (frameRow frames counts k) n 0) (now (out .exit)) r ⌝ }
 {
     let mut p = at;
     let mut j: u8 = 0;
@@ -98,7 +98,7 @@ fn put_task(
     counts: [u8; 8],
 ) -> usize
     requires { ⌜ (at ≤ 700000000) × (k < 4) × (n ≤ 8) ⌝ }
-    ensures { λ r. ⌜ Put 24920 (now (out .entry)) at (taskLine k n lost ++ concat (frameRow frames counts k) n 0) (now (out .exit)) r ⌝ }
+    ensures { λ r. ⌜ Put 24920 (now (out .entry)) at (taskLine k n lost ++ concatFrom (frameRow frames counts k) n 0) (now (out .exit)) r ⌝ }
 {
     let a = put_task_line(out, at, k, n, lost);
     put_frames(out, a, k, n, frames, counts)
@@ -115,7 +115,7 @@ pub fn put_tasks(
     counts: [u8; 8],
 ) -> usize
     requires { ⌜ (at ≤ 600000000) × (n ≤ 4) × (Few depth) ⌝ }
-    ensures { λ r. ⌜ Put (24920 * n) (now (out .entry)) at (concat (taskRow depth lost frames counts) n 0) (now (out .exit)) r ⌝ }
+    ensures { λ r. ⌜ Put (24920 * n) (now (out .entry)) at (concatFrom (taskRow depth lost frames counts) n 0) (now (out .exit)) r ⌝ }
 {
     let mut p = at;
     let mut k: u8 = 0;

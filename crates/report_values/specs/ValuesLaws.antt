@@ -7,7 +7,7 @@ use lib.IntN.{ℤ}
 use borrow.Author.Tests.{ne-eqb}
 use Rattle.text.specs.Number.{bytes}
 use Rattle.text.specs.Value.{commas}
-use Rattle.text.specs.Reader.{concat}
+use Rattle.text.specs.Reader.{concatFrom}
 use Rattle.put.specs.Put.{Put}
 use Rattle.put.specs.PutLaws.{put-after, put-more}
 use Rattle.put.specs.RowLaws.{concat-last}
@@ -16,7 +16,7 @@ use Rattle.machine.specs.Report.{spellValue, valuesText}
 use Rattle.report_values.specs.Values.{itemText}
 
 abbrev items : List ℤ → ℕ → List (List ℕ)
-items l n = concat (λ i. spellValue (varAt l i) ∷ []) n 0
+items l n = concatFrom (λ i. spellValue (varAt l i) ∷ []) n 0
 
 commas-last : (x : List ℕ) (xs : List (List ℕ)) (y : List ℕ) → commas (x ∷ xs) ++ (44 ∷ y) ≡ commas ((x ∷ xs) ++ (y ∷ []))
 unfolding commas
@@ -30,23 +30,23 @@ items-last : (l : List ℤ) (k : ℕ) → items l (suc (suc k)) ≡ items l (suc
 items-last l k = let o : 0 + suc k ≡ suc k = omega arith in concat-last (item l) (suc k) 0 ∙ ap (λ (i : ℕ). items l (suc k) ++ item l i) o
 
 commas-more : (l : List ℤ) (k : ℕ) → commas (items l (suc k)) ++ (44 ∷ spellValue (varAt l (suc k))) ≡ commas (items l (suc (suc k)))
-unfolding concat
-commas-more l k = commas-last (spellValue (varAt l 0)) (concat (item l) k 1) (spellValue (varAt l (suc k))) ∙ ap commas (sym (items-last l k))
+unfolding concatFrom
+commas-more l k = commas-last (spellValue (varAt l 0)) (concatFrom (item l) k 1) (spellValue (varAt l (suc k))) ∙ ap commas (sym (items-last l k))
 
 -- the first i values stand there
 pub record Listing (l : List ℤ) (before : List ℕ) (at : ℕ) (after : List ℕ) (p i : ℕ) : Type 0 where
   pub put : Put (12 * i) before at (commas (items l i)) after p
 
 pub listing-none : {b a : List ℕ} {at p n : ℕ} (l : List ℤ) → n ≡ 0 → Put 4 b at (bytes "none") a p → Put 3060 b at (valuesText l n) a p
-unfolding concat
+unfolding concatFrom
 listing-none l z u = rw z (put-more (omega arith) u)
 
 pub listing-start : {l : List ℤ} {b : List ℕ} {at : ℕ} → Listing l b at b at 0
-unfolding concat commas
+unfolding concatFrom commas
 listing-start = record { put = record { few = omega arith; bytes = refl; same = refl; next = omega arith } }
 
 pub listing-turn : {l : List ℤ} {b a c : List ℕ} {at p q i : ℕ} {z : ℤ} → Listing l b at a p i → z ≡ varAt l i → Put 12 a p (itemText i z) c q → Listing l b at c q (i + 1)
-unfolding concat commas
+unfolding concatFrom commas
 listing-turn {l} {b} {a} {c} {at} {p} {q} {i} {z} g e u = record { put = go i (g .put) (rw e at u) }
   where
     go : (i : ℕ) → Put (12 * i) b at (commas (items l i)) a p → Put 12 a p (itemText i (varAt l i)) c q → Put (12 * (i + 1)) b at (commas (items l (i + 1))) c q
@@ -57,7 +57,7 @@ listing-turn {l} {b} {a} {c} {at} {p} {q} {i} {z} g e u = record { put = go i (g
         (subst (λ (t : List ℕ). Put (12 * suc (suc k)) b at t c q) (commas-more l k) (put-more (omega arith) (put-after v (rw (ne-eqb (suc k) 0 (λ y. omega arith)) at w))))
 
 pub listing-end : {l : List ℤ} {b a : List ℕ} {at p i n : ℕ} → Listing l b at a p i → i ≤ n → n ≤ i → (n ≡ 0 → ⊥) → n ≤ 255 → Put 3060 b at (valuesText l n) a p
-unfolding concat
+unfolding concatFrom
 listing-end {l} {b} {a} {at} {p} {i} {n} g h k z u = let e : i ≡ n = omega arith in rw (← e) (go i (λ y. z (omega arith)) (omega arith) (g .put))
   where
     go : (i : ℕ) → (i ≡ 0 → ⊥) → i ≤ 255 → Put (12 * i) b at (commas (items l i)) a p → Put 3060 b at (valuesText l i) a p

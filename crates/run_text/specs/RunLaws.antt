@@ -15,7 +15,7 @@ use Rattle.table.specs.Table.{nodeAt, arcTo}
 use Rattle.table.specs.declared.Node.{Node}
 use Rattle.table.specs.declared.Node.the-variants.{Absent, Start, Set, Test, Read, Call, Wait, Signal, Send, Recv, Assert, Out, Return}
 use Rattle.table.specs.declared.Table.{Table}
-use Rattle.text.specs.Reader.{concat}
+use Rattle.text.specs.Reader.{concatFrom}
 use Rattle.text.specs.Writer.{fault}
 use Rattle.machine.specs.declared.Frame.{Frame}
 use Rattle.machine.specs.declared.State.{State}
@@ -116,7 +116,7 @@ module _ (t : Table) (keep : Kept) (most : ℕ) where
 -- ---- the first state
 
 first-few : (t : Table) → Few (firstState t)
-unfolding firstState concat
+unfolding firstState concatFrom
 first-few t = record { few = go }
   where
     one : (b : Bool) → pick b 1 0 ≤ 8

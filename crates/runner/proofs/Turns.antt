@@ -18,7 +18,7 @@ use Rattle.table.specs.declared.Node.{Node}
 use Rattle.table.specs.declared.Node.the-variants.{Absent, Start, Set, Test, Read, Call, Wait, Signal, Send, Recv, Assert, Out, Return}
 use Rattle.table.specs.declared.Slot.{Slot}
 use Rattle.table.specs.declared.Table.{Table}
-use Rattle.text.specs.Reader.{concat}
+use Rattle.text.specs.Reader.{concatFrom}
 use Rattle.machine.specs.declared.Frame.{Frame}
 use Rattle.machine.specs.declared.State.{State}
 use Rattle.machine.specs.State.{noFrame, openFrames, isLost, place, topmost, standsBefore, withFrames, blockedAt, blocked}
@@ -326,7 +326,7 @@ module _ (t : Table) (keep : List ℕ) (ready : Ready t keep) (most : ℕ) (vs :
               sym opened-is
 
           frame-good : FrameGood fr
-          unfolding concat
+          unfolding concatFrom
           frame-good =
               let h : Placed (Call q xs to) = rw calls at placed in
               rw enters (record { proc = h .0; node = omega arith; vars = refl })

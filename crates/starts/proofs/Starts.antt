@@ -15,7 +15,7 @@ use Rattle.table.specs.Table.{noSlot, taskAt, procAt, nodeAt}
 use Rattle.table.specs.declared.Slot.{Slot}
 use Rattle.table.specs.declared.Sem.{Sem}
 use Rattle.table.specs.declared.Table.{Table}
-use Rattle.text.specs.Reader.{concat}
+use Rattle.text.specs.Reader.{concatFrom}
 use Rattle.machine.specs.declared.Frame.{Frame}
 use Rattle.machine.specs.declared.State.{State}
 use Rattle.machine.specs.State.{noFrame, noEntries, firstFrame, firstState, withFrames, firstInputs, spent, begun, takeInputs, begin}
@@ -126,7 +126,7 @@ pub first-is : (t : Table) {z a b c d : Frame} {k l m n : ℕ} → z ≡ noFrame
     → k ≡ depthAt t 0 → l ≡ depthAt t 1 → m ≡ depthAt t 2 → n ≡ depthAt t 3 → length (t .sem) ≡ 8
     → made t (k ∷ l ∷ m ∷ n ∷ []) (placed z a b c d) (getD (t .sem) 0 (record { count = 0 }) .count ∷ getD (t .sem) 1 (record { count = 0 }) .count ∷ getD (t .sem) 2 (record { count = 0 }) .count ∷ getD (t .sem) 3 (record { count = 0 }) .count ∷ getD (t .sem) 4 (record { count = 0 }) .count ∷ getD (t .sem) 5 (record { count = 0 }) .count ∷ getD (t .sem) 6 (record { count = 0 }) .count ∷ getD (t .sem) 7 (record { count = 0 }) .count ∷ [])
     ≡ firstState t
-unfolding firstState concat
+unfolding firstState concatFrom
 first-is t ez ea eb ec ed ek el em en h =
     λ i. made t (ek i ∷ el i ∷ em i ∷ en i ∷ []) (placed (ez i) (ea i) (eb i) (ec i) (ed i)) (counts (t .sem) h i)
 

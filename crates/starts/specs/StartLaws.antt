@@ -12,7 +12,7 @@ use borrow.Author.Tests.{lt-ltb, ltb-true, ltb-false}
 use Rattle.table.specs.Mask.{pick}
 use Rattle.table.specs.Table.{taskAt, procAt}
 use Rattle.table.specs.declared.Table.{Table}
-use Rattle.text.specs.Reader.{concat}
+use Rattle.text.specs.Reader.{concatFrom}
 use Rattle.machine.specs.declared.Frame.{Frame}
 use Rattle.machine.specs.declared.State.{State}
 use Rattle.machine.specs.State.{noFrame, firstFrame, firstState, withInputs, firstInputs, Begun, spent, begun, takeInputs, begin}
@@ -64,11 +64,11 @@ module _ (t : Table) {keep : List ℕ} (r : Ready t keep) where
       go false e = record { proc = omega arith; node = omega arith; vars = refl }
 
   frames-good : (P : Frame → Type 0) → ((f : Frame) → FrameGood f → P f) → All P (firstState t .frames)
-  unfolding firstState concat
+  unfolding firstState concatFrom
   frames-good P f = all-some P (firstAt t 0) (firstAt t 1) (firstAt t 2) (firstAt t 3) noFrame (f _ (first-good 0)) (f _ (first-good 1)) (f _ (first-good 2)) (f _ (first-good 3)) (f noFrame (record { proc = omega arith; node = omega arith; vars = refl }))
 
   first-depth : (i : ℕ) → i < t .tasks → getD (firstState t .depth) i 0 ≡ 1
-  unfolding firstState concat
+  unfolding firstState concatFrom
   first-depth zero h = rw (lt-ltb 0 (t .tasks) h) refl
   first-depth (suc zero) h = rw (lt-ltb 1 (t .tasks) h) refl
   first-depth (suc (suc zero)) h = rw (lt-ltb 2 (t .tasks) h) refl
@@ -76,7 +76,7 @@ module _ (t : Table) {keep : List ℕ} (r : Ready t keep) where
   first-depth (suc (suc (suc (suc i)))) h = absurd (omega (arith, r .tasks))
 
   sizes : (length (firstState t .depth) ≡ 4) × (length (firstState t .frames) ≡ 32)
-  unfolding firstState concat
+  unfolding firstState concatFrom
   sizes = (refl, refl)
 
   start-good : Good t (firstState t)

@@ -13,7 +13,7 @@ use borrow.Author.Tests.{le-ltb, lt-ltb}
 use Rattle.table.specs.Mask.{pick}
 use Rattle.table.specs.Values.{holds}
 use Rattle.table.specs.declared.Args.{Args}
-use Rattle.text.specs.Reader.{concat}
+use Rattle.text.specs.Reader.{concatFrom}
 use Rattle.machine.specs.State.{varAt}
 use Rattle.machine.specs.Step.{entering}
 use Rattle.values.proofs.Again.{again}
@@ -39,7 +39,7 @@ passing l len i v = pick (ltb i len) (varAt l v) (pos 0)
 pub entering-is : (l : List ℤ) (q : ℕ) (xs : Args) {a b c d : ℤ} → xs .len ≤ 4
     → a ≡ passing l (xs .len) 0 (xs .a0) → b ≡ passing l (xs .len) 1 (xs .a1) → c ≡ passing l (xs .len) 2 (xs .a2) → d ≡ passing l (xs .len) 3 (xs .a3)
     → four a b c d ≡ entering l q xs .vars
-unfolding concat
+unfolding concatFrom
 entering-is l q xs h e f g k =
     (λ i. four (e i) (f i) (g i) (k i)) ∙
     rw (le-ltb 4 (xs .len) (omega arith), le-ltb 5 (xs .len) (omega arith), le-ltb 6 (xs .len) (omega arith), le-ltb 7 (xs .len) (omega arith), le-ltb 8 (xs .len) (omega arith), le-ltb 9 (xs .len) (omega arith), le-ltb 10 (xs .len) (omega arith), le-ltb 11 (xs .len) (omega arith), le-ltb 12 (xs .len) (omega arith), le-ltb 13 (xs .len) (omega arith), le-ltb 14 (xs .len) (omega arith), le-ltb 15 (xs .len) (omega arith)) refl

@@ -116,20 +116,20 @@ uses (Out v to) = v ∷ []
 uses Return = []
 
 -- the variable that it sets
-unfoldable pub sets : Node → Option ℕ
-sets Absent = none
-sets (Start to) = none
-sets (Set v o a b to) = some v
-sets (Test o a b y n) = none
-sets (Read v to) = some v
-sets (Call q xs to) = none
-sets (Wait s to) = none
-sets (Signal s to) = none
-sets (Send q v to) = none
-sets (Recv q v to) = some v
-sets (Assert v to) = none
-sets (Out v to) = none
-sets Return = none
+unfoldable pub variableSet : Node → Option ℕ
+variableSet Absent = none
+variableSet (Start to) = none
+variableSet (Set v o a b to) = some v
+variableSet (Test o a b y n) = none
+variableSet (Read v to) = some v
+variableSet (Call q xs to) = none
+variableSet (Wait s to) = none
+variableSet (Signal s to) = none
+variableSet (Send q v to) = none
+variableSet (Recv q v to) = some v
+variableSet (Assert v to) = none
+variableSet (Out v to) = none
+variableSet Return = none
 
 -- its arc, as a mask; of a test the one taken at `yes`
 unfoldable pub arcTo : Node → ℕ

@@ -22,11 +22,11 @@ use Rattle.text.specs.declared.Fault.{Fault}
 use Rattle.text.specs.declared.Fault.the-variants.{Form, Ended, Index}
 use Rattle.text.specs.Fault.{number}
 use Rattle.text.specs.NumberLaws.{cases}
-use Rattle.text.specs.Value.{NodeKind, start, set as setKind, test, read, call, wait, signal, send, recv, assert, out, return, ValueKind, spell, check, orElse}
+use Rattle.text.specs.Value.{NodeKind, start, setKind, test, read, call, wait, signal, send, recv, assert, out, return, ValueKind, spell, check, orElse}
 use Rattle.text.specs.Line.{Line, Vals, write, Outcome, took, refused, Parser, onto, _>>=_, give, After, at, differs, broken, after, fieldOf, line, lineFault}
 use Rattle.text.specs.LineLaws.{Sound, judgement, line-write, head-sound, counts-sound, task-sound, sem-sound, queue-sound, proc-sound, node-sound}
 use Rattle.text.specs.Format.{headLine, countsLine, taskLine, semLine, queueLine, procLine, Scope, nodeLine, fields, setOf, nodeOf, Described, noLine, described, describe}
-use Rattle.text.specs.Reader.{rows, queueOf, Numbered, nodeRow, slotOf, openNodes, ifKey, furtherNodes, closedNodes, nodesOf, procOf, scopeOf, procRow, body, table, concat}
+use Rattle.text.specs.Reader.{rows, queueOf, Numbered, nodeRow, slotOf, openNodes, ifKey, furtherNodes, closedNodes, nodesOf, procOf, scopeOf, procRow, body, table, concatFrom}
 use Rattle.text.specs.Writer.{queueVals, procVals, nodeText, scope, procText, text}
 use Rattle.text.specs.LinedLaws.{all-same, proc-is}
 use Rattle.text.specs.ValueLaws.{no}
@@ -101,19 +101,19 @@ placed-set d Q n i xs ys a q =
 
 -- rows whose texts g stand one after another, up to the one before e, each read as what has its Q or with its fault
 ends-rows : {A : Type 0} (d : A) (Q : ℕ → A → Type 0) (f : ℕ → Parser A) (g : ℕ → List ℕ) (c : ℕ → Option Fault) (s : List ℕ) (e : ℕ)
-    → ((i n l : ℕ) → suc i + n ≡ e → Ends (Q i) (concat g n (suc i) ++ s) (c i) (f i l (g i ++ (concat g n (suc i) ++ s))))
-    → (n i : ℕ) → i + n ≡ e → (xs : List A) (l : ℕ) → Ends (Placed d Q n i xs) s (firstOf c n i) (rows f n i xs l (concat g n i ++ s))
-unfolding rows concat firstOf
+    → ((i n l : ℕ) → suc i + n ≡ e → Ends (Q i) (concatFrom g n (suc i) ++ s) (c i) (f i l (g i ++ (concatFrom g n (suc i) ++ s))))
+    → (n i : ℕ) → i + n ≡ e → (xs : List A) (l : ℕ) → Ends (Placed d Q n i xs) s (firstOf c n i) (rows f n i xs l (concatFrom g n i ++ s))
+unfolding rows concatFrom firstOf
 ends-rows d Q f g c s e row zero i h xs l = ends-took (placed-none d Q i xs)
 ends-rows d Q f g c s e row (suc n) i h xs l =
-    rw (append-assoc (g i) (concat g n (suc i)) s)
+    rw (append-assoc (g i) (concatFrom g n (suc i)) s)
     (ends-then _ (row i n l (omega arith)) (λ a k z q.
     ends-weaken (λ ys. placed-set d Q n i xs ys a q) (ends-rows d Q f g c s e row n (suc i) (omega arith) (set xs i a) k)))
 
 -- rows of one line each, and what is read behind them
 rows-then : {A B : Type 0} (z : A) (Q : ℕ → A → Type 0) {R : B → Type 0} (d : ℕ → Line) → ((i : ℕ) → Sound (d i)) → (w : (i : ℕ) → Vals (d i)) (h : (i : ℕ) → Vals (d i) → A) → ((i : ℕ) → Q i (h i (w i)))
     → (n : ℕ) (xs : List A) (l : ℕ) (s : List ℕ) {r : List ℕ} {c : Option Fault} (f : List A → Parser B) → ((ys : List A) (l : ℕ) → Placed z Q n 0 xs ys → Ends R r c (f ys l s))
-    → Ends R r (orElse (firstOf (λ i. lineFault (d i) (w i)) n 0) c) (onto (rows (λ i. line (d i) >>= λ w. give (h i w)) n 0 xs l (concat (λ i. write (d i) (w i)) n 0 ++ s)) f)
+    → Ends R r (orElse (firstOf (λ i. lineFault (d i) (w i)) n 0) c) (onto (rows (λ i. line (d i) >>= λ w. give (h i w)) n 0 xs l (concatFrom (λ i. write (d i) (w i)) n 0 ++ s)) f)
 rows-then z Q d g w h q n xs l s f k = ends-then f
     (ends-rows z Q (λ i. line (d i) >>= λ w. give (h i w)) (λ i. write (d i) (w i)) (λ i. lineFault (d i) (w i)) s n (λ i m l e. ends-row (Q i) (d i) (g i) (w i) l _ (h i) (q i)) n 0 (omega arith) xs l)
     (λ ys l e p. k ys l p)
@@ -184,14 +184,14 @@ module _ (t : Table) (q : Proc) where
 
   -- the fault where a node before i is due, with n places from i on left
   ends-gap : {P : Numbered → Type 0} {r : List ℕ} (lo n i l : ℕ) (s : List ℕ) → lo < i → Lacking (after (bytes "node=") s)
-      → Ends P r (some (gap q n i)) (nodeRow c lo (suc lo) l (concat lines n i ++ s))
-  unfolding gap concat line number describe isAbsent lineFault check
+      → Ends P r (some (gap q n i)) (nodeRow c lo (suc lo) l (concatFrom lines n i ++ s))
+  unfolding gap concatFrom line number describe isAbsent lineFault check
   ends-gap lo zero i l s u h = let f = lacking-field (ValueKind.number lo (suc lo) Index) l s h in rw (f .2) (ends-refused (f .1))
   ends-gap lo (suc n) i l s u h = by-line c (nodeIn q i)
       (λ a e. rw a (ends-gap lo n (suc i) l s (omega arith) h))
       (λ k w a e.
       let z : lineFault (nodeLine c lo (suc lo)) (i, (k, w)) ≡ some Index = rw (le-leb lo i (omega arith), le-ltb i (suc lo) (omega arith)) in
-      rw (a, e, append-assoc (nodeText c i (described k w)) (concat lines n (suc i)) s) (ends-fault (rw z at (ends-node lo (suc lo) i l k w (concat lines n (suc i) ++ s)))))
+      rw (a, e, append-assoc (nodeText c i (described k w)) (concatFrom lines n (suc i)) s) (ends-fault (rw z at (ends-node lo (suc lo) i l k w (concatFrom lines n (suc i) ++ s)))))
 
   -- what is read from node j's place, and its fault
   abbrev Read-back : ℕ → Slot → Type 0
@@ -201,23 +201,23 @@ module _ (t : Table) (q : Proc) where
   faultAt j = placeFault c q j (d j)
 
   ends-open : t .closed ≡ false → (s : List ℕ) (l : ℕ) → Lacking (after (bytes "node=") s)
-      → Ends (Placed noSlot Read-back (q .nodes) 0 noSlots) s (firstOf faultAt (q .nodes) 0) (openNodes c l (concat lines (q .nodes) 0 ++ s))
+      → Ends (Placed noSlot Read-back (q .nodes) 0 noSlots) s (firstOf faultAt (q .nodes) 0) (openNodes c l (concatFrom lines (q .nodes) 0 ++ s))
   ends-open o s l h = ends-rows noSlot Read-back _ lines faultAt s (q .nodes) row (q .nodes) 0 (omega arith) noSlots l
     where
       row : (i n l : ℕ) → suc i + n ≡ q .nodes
-          → Ends (Read-back i) (concat lines n (suc i) ++ s) (faultAt i) ((nodeRow c i (suc i) >>= λ x. give (slotOf x)) l (lines i ++ (concat lines n (suc i) ++ s)))
+          → Ends (Read-back i) (concatFrom lines n (suc i) ++ s) (faultAt i) ((nodeRow c i (suc i) >>= λ x. give (slotOf x)) l (lines i ++ (concatFrom lines n (suc i) ++ s)))
       row i n l e = by-line c (nodeIn q i)
           (λ a b.
           let m : q .nodes - suc i ≡ n = omega arith in
           let z : placeFault c q i noLine ≡ some (gap q n (suc i)) = rw (o, m) in
           rw (b, z) (ends-map {P = λ x. Read-back i (slotOf x)} slotOf (ends-gap i n (suc i) l s (omega arith) h) (λ x p. p)))
-          (λ k w a b. rw b (ends-map slotOf (ends-node i (suc i) i l k w (concat lines n (suc i) ++ s)) (λ x p. rw b (p .1))))
+          (λ k w a b. rw b (ends-map slotOf (ends-node i (suc i) i l k w (concatFrom lines n (suc i) ++ s)) (λ x p. rw b (p .1))))
 
   -- closed: the further nodes, with n places from i on, behind the node `last`
   ends-further : t .closed ≡ true → (s : List ℕ) → Lacking (after (bytes "node=") s)
       → (n i f last : ℕ) → i + n ≡ q .nodes → last < i → n ≤ f → (xs : List Slot) → ((j : ℕ) → i ≤ j → getD xs j noSlot ≡ noSlot) → (l : ℕ)
-      → Ends (Placed noSlot Read-back n i xs) s (firstOf faultAt n i) (furtherNodes c f last xs l (concat lines n i ++ s))
-  unfolding furtherNodes firstOf concat write after lineFault check
+      → Ends (Placed noSlot Read-back n i xs) s (firstOf faultAt n i) (furtherNodes c f last xs l (concatFrom lines n i ++ s))
+  unfolding furtherNodes firstOf concatFrom write after lineFault check
   ends-further o s h zero i zero last m u v xs b l = ends-took (placed-none noSlot Read-back i xs)
   ends-further o s h zero i (suc f) last m u v xs b l = rw (lacking-ifKey s h) (ends-took (placed-none noSlot Read-back i xs))
   ends-further o s h (suc n) i zero last m u v xs b l = absurd (omega arith)
@@ -230,32 +230,32 @@ module _ (t : Table) (q : Proc) where
       let z : lineFault (nodeLine c (suc last) (c .nodes)) (i, (k, w)) ≡ lineFault (nodeLine c i (suc i)) (i, (k, w)) =
       rw (le-leb (suc last) i (omega arith), lt-ltb i (q .nodes) (omega arith), le-leb i i (omega arith), lt-ltb i (suc i) (omega arith))
       in
-      rw (e, append-assoc (nodeText c i (described k w)) (concat lines n (suc i)) s)
-      (ends-then _ (rw z at (ends-node (suc last) (c .nodes) i l k w (concat lines n (suc i) ++ s))) (λ x y g p.
+      rw (e, append-assoc (nodeText c i (described k w)) (concatFrom lines n (suc i)) s)
+      (ends-then _ (rw z at (ends-node (suc last) (c .nodes) i l k w (concatFrom lines n (suc i) ++ s))) (λ x y g p.
       rw (p .0) (ends-weaken (λ ys. placed-set noSlot Read-back n i xs ys (slotOf x) (rw e (p .1)))
       (ends-further o s h n (suc i) f i (omega arith) (omega arith) (omega arith) (set xs i (slotOf x)) (λ j g. getD-set-other xs i j (slotOf x) noSlot (λ p. omega arith) ∙ b j (omega arith)) y)))))
 
   -- closed, with suc m places
   ends-closed : t .closed ≡ true → (m : ℕ) → q .nodes ≡ suc m → (s : List ℕ) (l : ℕ) → Lacking (after (bytes "node=") s)
-      → Ends (Placed noSlot Read-back (suc m) 0 noSlots) s (firstOf faultAt (suc m) 0) (closedNodes c l (concat lines (suc m) 0 ++ s))
-  unfolding firstOf concat
+      → Ends (Placed noSlot Read-back (suc m) 0 noSlots) s (firstOf faultAt (suc m) 0) (closedNodes c l (concatFrom lines (suc m) 0 ++ s))
+  unfolding firstOf concatFrom
   ends-closed o m e s l h = by-line c (nodeIn q 0)
       (λ a b.
       let k : q .nodes - 1 ≡ m = omega arith in
       let z : placeFault c q 0 noLine ≡ some (gap q m 1) = rw (o, k) in
       rw (b, z) (ends-last {P = λ x. ⊥} {s = []} _ (ends-gap 0 m 1 l s (omega arith) h) (λ x y p. absurd {0} p)))
       (λ k w a b.
-      rw (b, append-assoc (nodeText c 0 (described k w)) (concat lines m 1) s)
-      (ends-then _ (ends-node 0 1 0 l k w (concat lines m 1 ++ s)) (λ x y g p.
+      rw (b, append-assoc (nodeText c 0 (described k w)) (concatFrom lines m 1) s)
+      (ends-then _ (ends-node 0 1 0 l k w (concatFrom lines m 1 ++ s)) (λ x y g p.
       ends-weaken (λ ys. placed-set noSlot Read-back m 0 noSlots ys (slotOf x) (rw b (p .1)))
       (ends-further o s h m 1 (q .nodes) 0 (omega arith) (omega arith) (omega arith) (set noSlots 0 (slotOf x)) (λ j u. getD-set-other noSlots 0 j (slotOf x) noSlot (λ p. omega arith) ∙ all-same noSlot 32 j) y))))
 
   ends-nodes : (b : Bool) → t .closed ≡ b → 1 ≤ q .nodes → (s : List ℕ) (l : ℕ) → Lacking (after (bytes "node=") s)
-      → Ends (Placed noSlot Read-back (q .nodes) 0 noSlots) s (firstOf faultAt (q .nodes) 0) (nodesOf c b l (concat lines (q .nodes) 0 ++ s))
+      → Ends (Placed noSlot Read-back (q .nodes) 0 noSlots) s (firstOf faultAt (q .nodes) 0) (nodesOf c b l (concatFrom lines (q .nodes) 0 ++ s))
   ends-nodes false o m s l h = ends-open o s l h
   ends-nodes true o m s l h =
       let e : q .nodes ≡ suc (q .nodes - 1) = omega arith in
-      subst (λ (k : ℕ). Ends (Placed noSlot Read-back k 0 noSlots) s (firstOf faultAt k 0) (closedNodes c l (concat lines k 0 ++ s))) (sym e) (ends-closed o (q .nodes - 1) e s l h)
+      subst (λ (k : ℕ). Ends (Placed noSlot Read-back k 0 noSlots) s (firstOf faultAt k 0) (closedNodes c l (concatFrom lines k 0 ++ s))) (sym e) (ends-closed o (q .nodes - 1) e s l h)
 
 -- ---- procedures
 
@@ -281,14 +281,14 @@ ends-proc t p l s h =
     let q = procAt t p in
     let b = t .closed in
     let v = procVals b p q in
-    let nodes = concat (lines t q) (q .nodes) 0 in
+    let nodes = concatFrom (lines t q) (q .nodes) 0 in
     rw (append-assoc (write (procLine b p) v) nodes s)
     (line-then (procLine b p) (proc-sound b p) v l (nodes ++ s) _ (λ l n.
     rw (vals-scope b (t .procs) (t .sems) (t .queues) p q) (ends-map _ (ends-nodes t q b refl (omega (arith, proc-is b p q .0 n .3)) s l h) (λ xs k. vals-same t b refl p q xs k))))
 
 -- what follows a procedure's lines
-procs-lacking : (t : Table) (n i : ℕ) → Lacking (after (bytes "node=") (concat (procText t) n i ++ []))
-unfolding concat write after
+procs-lacking : (t : Table) (n i : ℕ) → Lacking (after (bytes "node=") (concatFrom (procText t) n i ++ []))
+unfolding concatFrom write after
 procs-lacking t zero i = tt
 procs-lacking t (suc n) i = tt
 
@@ -316,10 +316,10 @@ ends-table t =
     let counts : Vals countsLine = (t .tasks, (t .procs, (t .sems, (t .queues, tt)))) in
     let taskVals : (i : ℕ) → Vals (taskLine (t .procs) i) = λ i. (i, (taskAt t i .top, tt)) in
     let semVals : (i : ℕ) → Vals (semLine i) = λ i. (i, (semAt t i .count, tt)) in
-    let procs = concat (procText t) (t .procs) 0 in
-    let queues = concat (λ i. write (queueLine b i) (queueVals b i (queueAt t i))) (t .queues) 0 ++ procs in
-    let sems = concat (λ i. write (semLine i) (semVals i)) (t .sems) 0 ++ queues in
-    let tasks = concat (λ i. write (taskLine (t .procs) i) (taskVals i)) (t .tasks) 0 ++ sems in
+    let procs = concatFrom (procText t) (t .procs) 0 in
+    let queues = concatFrom (λ i. write (queueLine b i) (queueVals b i (queueAt t i))) (t .queues) 0 ++ procs in
+    let sems = concatFrom (λ i. write (semLine i) (semVals i)) (t .sems) 0 ++ queues in
+    let tasks = concatFrom (λ i. write (taskLine (t .procs) i) (taskVals i)) (t .tasks) 0 ++ sems in
     line-then headLine head-sound (t .trap, (b, tt)) 1 (write countsLine counts ++ tasks) _ (λ l e.
     line-then countsLine counts-sound counts l tasks _ (λ l e.
     rows-then noTask (λ i x. x .top ≡ taskAt t i .top) (taskLine (t .procs)) (task-sound (t .procs)) taskVals (λ i w. record { top = w .1 .0 }) (λ i. refl) (t .tasks) (replicate 4 noTask) l sems _ (λ ts l h₁.

@@ -12,7 +12,7 @@ use Rattle.table.specs.declared.Node.{Node}
 use Rattle.table.specs.declared.Node.the-variants.{Absent, Start, Set, Test, Read, Call, Wait, Signal, Send, Recv, Assert, Out, Return}
 use Rattle.text.specs.Number.{bytes}
 use Rattle.text.specs.declared.Fault.the-variants.{Index}
-use Rattle.text.specs.Value.{NodeKind, start, set, test, read, call, wait, signal, send, recv, assert, out, return, ValueKind, number, choice, kind, operation, operand, variable, ascending, arguments, from, due, oneOf}
+use Rattle.text.specs.Value.{NodeKind, start, setKind, test, read, call, wait, signal, send, recv, assert, out, return, ValueKind, number, choice, kind, operation, operand, variable, ascending, arguments, from, due, oneOf}
 use Rattle.text.specs.Line.{Line, end, field, Vals}
 
 -- ---- the lines before the procedures
@@ -100,7 +100,7 @@ toField c =
 -- what stands behind the kind
 abbrev pub fields : Scope → NodeKind → Line
 fields c start = toField c
-fields c set =
+fields c setKind =
     field (bytes " var=") (oneOf (c .vars)) λ v.
     field (bytes " op=") (operation false) λ o.
     field (bytes " a=") (operand (c .vars)) λ a.
@@ -178,7 +178,7 @@ argNames x = map nameOf (take (x .len) (argPlaces x ++ replicate (x .len - 4) (x
 
 unfoldable pub nodeOf : (c : Scope) (k : NodeKind) → Vals (fields c k) → Node
 nodeOf c start w = Start (setOf (w .0))
-nodeOf c set w = Set (w .0) (w .1 .0) (w .1 .1 .0) (w .1 .1 .1 .0) (setOf (w .1 .1 .1 .1 .0))
+nodeOf c setKind w = Set (w .0) (w .1 .0) (w .1 .1 .0) (w .1 .1 .1 .0) (setOf (w .1 .1 .1 .1 .0))
 nodeOf c test w = Test (w .0) (w .1 .0) (w .1 .1 .0) (setOf (w .1 .1 .1 .0)) (setOf (w .1 .1 .1 .1 .0))
 nodeOf c read w = Read (w .0) (setOf (w .1 .0))
 nodeOf c call w = Call (w .0) (argsOf (w .1 .0)) (setOf (w .1 .1 .0))
@@ -198,7 +198,7 @@ pub data Described (c : Scope) : Type 0 where
 unfoldable pub describe : (c : Scope) → Node → Described c
 describe c Absent = noLine
 describe c (Start to) = described start (members to, tt)
-describe c (Set v o a b to) = described set (v, (o, (a, (b, (members to, tt)))))
+describe c (Set v o a b to) = described setKind (v, (o, (a, (b, (members to, tt)))))
 describe c (Test o a b y n) = described test (o, (a, (b, (members y, (members n, tt)))))
 describe c (Read v to) = described read (v, (members to, tt))
 describe c (Call q xs to) = described call (q, (argNames xs, (members to, tt)))

@@ -11,7 +11,7 @@ use lib.Seq.{take-append-seam, drop-append-seam}
 use borrow.Author.Tests.{eqb-true, eq-eqb, lt-ltb}
 use Rattle.text.specs.declared.Fault.{Fault}
 use Rattle.text.specs.NumberLaws.{cases}
-use Rattle.text.specs.Value.{NodeKind, start, set, test, read, call, wait, signal, send, recv, assert, out, return, ValueKind, Of, same, spell, said, orElse, check}
+use Rattle.text.specs.Value.{NodeKind, start, setKind, test, read, call, wait, signal, send, recv, assert, out, return, ValueKind, Of, same, spell, said, orElse, check}
 use Rattle.text.specs.ValueLaws.{no, Apart, said-spell, spell-said, run-spell}
 use Rattle.text.specs.Line.{Line, end, field, Vals, write, Outcome, took, refused, Parser, onto, After, at, differs, broken, after, stops, run, verdict, judged, valueOf, afterKey, fieldOf, line, lineFault}
 use Rattle.text.specs.Format.{headLine, countsLine, taskLine, semLine, queueLine, procLine, Scope, toField, fields, nodeLine}
@@ -167,7 +167,7 @@ to-sound c = (tt, λ to. (refl, tt))
 
 fields-sound : (c : Scope) (k : NodeKind) → (starts (fields c k) ≡ true) × Sound (fields c k)
 fields-sound c start = (refl, to-sound c)
-fields-sound c set = (refl, (tt, λ v. (refl, (tt, λ o. (refl, (tt, λ a. (refl, (tt, λ b. (refl, to-sound c)))))))))
+fields-sound c setKind = (refl, (tt, λ v. (refl, (tt, λ o. (refl, (tt, λ a. (refl, (tt, λ b. (refl, to-sound c)))))))))
 fields-sound c test = (refl, (tt, λ o. (refl, (tt, λ a. (refl, (tt, λ b. (refl, (tt, λ y. (refl, (tt, λ n. (refl, tt)))))))))))
 fields-sound c read = (refl, (tt, λ v. (refl, to-sound c)))
 fields-sound c call = (refl, (tt, λ p. (refl, (tt, λ xs. (refl, to-sound c)))))

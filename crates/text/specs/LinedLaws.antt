@@ -19,7 +19,7 @@ use Rattle.table.specs.declared.Queue.{Queue}
 use Rattle.table.specs.declared.Table.{Table}
 use Rattle.text.specs.declared.Fault.{Fault}
 use Rattle.text.specs.NumberLaws.{cases}
-use Rattle.text.specs.Value.{orElse, NodeKind, start, set, test, read, call, wait, signal, send, recv, assert, out, return, arguments, isOne}
+use Rattle.text.specs.Value.{orElse, NodeKind, start, setKind, test, read, call, wait, signal, send, recv, assert, out, return, arguments, isOne}
 use Rattle.text.specs.Line.{Vals, lineFault}
 use Rattle.text.specs.Format.{headLine, countsLine, taskLine, semLine, queueLine, procLine, Scope, targets, nodeLine, fields, nameOf, argNames, describe}
 use Rattle.text.specs.Writer.{queueVals, procVals, scope}
@@ -85,7 +85,7 @@ place-valid : (c : Scope) (q : Proc) (j : ℕ) (x : Node) → placeFault c q j (
 unfolding describe
 place-valid c q j Absent e = let h = and-is (c .closed) (ltb 0 j) .0 (unless-is _ _ .0 e) in (ltb-true 0 j (h .1), h .0)
 place-valid c q j (Start to) e = let h = node-is c j start _ .0 e in (h .0, arc-is c to .0 (h .1 .0))
-place-valid c q j (Set v o a b to) e = let h = node-is c j set _ .0 e in (h .0, h .1 .0 .1, h .1 .1 .1 .0, h .1 .1 .1 .1 .0, arc-is c to .0 (h .1 .1 .1 .1 .1 .0))
+place-valid c q j (Set v o a b to) e = let h = node-is c j setKind _ .0 e in (h .0, h .1 .0 .1, h .1 .1 .1 .0, h .1 .1 .1 .1 .0, arc-is c to .0 (h .1 .1 .1 .1 .1 .0))
 place-valid c q j (Test o a b y n) e = let h = node-is c j test _ .0 e in (h .0, h .1 .0, h .1 .1 .0, h .1 .1 .1 .0, arc-is c y .0 (h .1 .1 .1 .1 .0), arc-is c n .0 (h .1 .1 .1 .1 .1 .0))
 place-valid c q j (Read v to) e = let h = node-is c j read _ .0 e in (h .0 .0, h .0 .1, h .1 .0 .1, arc-is c to .0 (h .1 .1 .0))
 place-valid c q j (Call p xs to) e = let h = node-is c j call _ .0 e in (h .0, h .1 .0 .1, args-is c xs .0 (h .1 .1 .0), arc-is c to .0 (h .1 .1 .1 .0))
@@ -101,7 +101,7 @@ valid-place : (c : Scope) (q : Proc) (j : ℕ) (x : Node) → NodeValid c j x �
 unfolding describe
 valid-place c q j Absent v = unless-is _ _ .1 (and-is (c .closed) (ltb 0 j) .1 (v .1, lt-ltb 0 j (v .0)))
 valid-place c q j (Start to) v = node-is c j start _ .1 (v .0, (arc-is c to .1 (v .1), tt))
-valid-place c q j (Set x o a b to) v = node-is c j set _ .1 (v .0, ((omega arith, v .1), (tt, (v .2, (v .3, (arc-is c to .1 (v .4), tt))))))
+valid-place c q j (Set x o a b to) v = node-is c j setKind _ .1 (v .0, ((omega arith, v .1), (tt, (v .2, (v .3, (arc-is c to .1 (v .4), tt))))))
 valid-place c q j (Test o a b y n) v = node-is c j test _ .1 (v .0, (v .1, (v .2, (v .3, (arc-is c y .1 (v .4), (arc-is c n .1 (v .5), tt))))))
 valid-place c q j (Read x to) v = node-is c j read _ .1 ((v .0, v .1), ((omega arith, v .2), (arc-is c to .1 (v .3), tt)))
 valid-place c q j (Call p xs to) v = node-is c j call _ .1 (v .0, ((omega arith, v .1), (args-is c xs .1 (v .2), (arc-is c to .1 (v .3), tt))))

@@ -20,14 +20,14 @@ use Rattle.text.specs.declared.Fault.{Fault}
 use Rattle.text.specs.declared.Fault.the-variants.{Misspelt, Reference}
 use Rattle.text.specs.Number.{bytes}
 use Rattle.text.specs.NumberLaws.{cases, byOrder, and-left, and-right}
-use Rattle.text.specs.Value.{NodeKind, start, set as setting, test, read, call, wait, signal, send, recv, assert, out, return, number, variable, ascending, arguments, spell, unless, ascends, within, isOne, noneRemoved, allDeclared, check}
+use Rattle.text.specs.Value.{NodeKind, start, setKind, test, read, call, wait, signal, send, recv, assert, out, return, number, variable, ascending, arguments, spell, unless, ascends, within, isOne, noneRemoved, allDeclared, check}
 use Rattle.text.specs.ValueLaws.{no}
 use Rattle.text.specs.Line.{Vals, write, took, onto, _>>=_, give, After, at, differs, broken, after, line}
 use Rattle.text.specs.LineLaws.{line-read, onto-read, node-sound}
 use Rattle.text.specs.MaskLists.{members-set, set-members}
 use Rattle.text.specs.Format.{Scope, fields, nodeLine, variableOf, nameOf, setOf, argsOf, argNames, nodeOf, Described, noLine, described, describe}
 use Rattle.text.specs.Reader.{Numbered, nodeRow, slotOf, ifKey, furtherNodes, nodesOf, countRight}
-use Rattle.text.specs.Writer.{nodeText, all, isZero, argsEmpty}
+use Rattle.text.specs.Writer.{nodeText, every, isZero, argsEmpty}
 use Rattle.text.specs.ArgsLaws.{args-again}
 use Rattle.text.specs.RowLaws.{Faultless, or-left, or-right, unless-none, faultless, line-only, Rows, Row, Filled, fill-done, fill-step, rows-fill}
 
@@ -93,14 +93,14 @@ args-back c n xs h e l = go xs l (names-back n xs h (unless-none (allDeclared n 
     go (a ∷ b ∷ c ∷ d ∷ f ∷ xs) l e = absurd (omega arith)
 
 -- and arguments with nothing behind them
-zero-all : (n : ℕ) (ns : List ℕ) → all isZero (n ∷ ns) ≡ true → (n ≡ 0) × (all isZero ns ≡ true)
-unfolding all
-zero-all n ns e = (eqb-true n 0 (and-left (isZero n) (all isZero ns) e), and-right (isZero n) (all isZero ns) e)
+zero-all : (n : ℕ) (ns : List ℕ) → every isZero (n ∷ ns) ≡ true → (n ≡ 0) × (every isZero ns ≡ true)
+unfolding every
+zero-all n ns e = (eqb-true n 0 (and-left (isZero n) (every isZero ns) e), and-right (isZero n) (every isZero ns) e)
 
-args-forth : (x : Args) → all isZero (drop (x .len) (argPlaces x)) ≡ true → min (length (argNames x)) 5 ≤ 4 → argsOf (argNames x) ≡ x
+args-forth : (x : Args) → every isZero (drop (x .len) (argPlaces x)) ≡ true → min (length (argNames x)) 5 ≤ 4 → argsOf (argNames x) ≡ x
 args-forth x z l = go (x .len) (x .a0) (x .a1) (x .a2) (x .a3) z l
   where
-    go : (n a b c d : ℕ) → all isZero (drop n (a ∷ b ∷ c ∷ d ∷ [])) ≡ true → min (length (argNames (record { len = n; a0 = a; a1 = b; a2 = c; a3 = d }))) 5 ≤ 4
+    go : (n a b c d : ℕ) → every isZero (drop n (a ∷ b ∷ c ∷ d ∷ [])) ≡ true → min (length (argNames (record { len = n; a0 = a; a1 = b; a2 = c; a3 = d }))) 5 ≤ 4
         → argsOf (argNames (record { len = n; a0 = a; a1 = b; a2 = c; a3 = d })) ≡ record { len = n; a0 = a; a1 = b; a2 = c; a3 = d }
     go zero a b c d z l =
         let p = zero-all a (b ∷ c ∷ d ∷ []) z in
@@ -138,7 +138,7 @@ pub describe-node : (t : Table) (c : Scope) (k : NodeKind) (w : Vals (fields c k
     → FitsIn t (nodeOf c k w) → describe c (nodeOf c k w) ≡ described k w
 unfolding nodeOf describe
 describe-node t c start w v n f g = rw (list-back _ 1 (c .nodes) (w .0) n (f .0))
-describe-node t c setting w v n f g = rw (list-back _ 1 (c .nodes) (w .1 .1 .1 .1 .0) n (f .1 .1 .1 .1 .0))
+describe-node t c setKind w v n f g = rw (list-back _ 1 (c .nodes) (w .1 .1 .1 .1 .0) n (f .1 .1 .1 .1 .0))
 describe-node t c test w v n f g = rw (list-back _ 1 (c .nodes) (w .1 .1 .1 .0) n (f .1 .1 .1 .0), list-back _ 1 (c .nodes) (w .1 .1 .1 .1 .0) n (f .1 .1 .1 .1 .0))
 describe-node t c read w v n f g = rw (list-back _ 1 (c .nodes) (w .1 .0) n (f .1 .0))
 describe-node t c call w v n f g = rw (args-back (c .closed) (c .vars) (w .1 .0) v (f .1 .0) (few t _ (argsOf (w .1 .0)) _ g), list-back _ 1 (c .nodes) (w .1 .1 .0) n (f .1 .1 .0))
@@ -184,7 +184,7 @@ FaultlessNode c j (described k w) = Faultless (nodeLine c j (suc j)) (j, (k, w))
 describe-fine : (c : Scope) (j : ℕ) (k : NodeKind) (w : Vals (fields c k)) → c .vars ≤ removed → c .nodes ≤ 32 → Faultless (nodeLine c j (suc j)) (j, (k, w)) → FaultlessNode c j (describe c (nodeOf c k w))
 unfolding nodeOf describe
 describe-fine c j start w v n f = rw (list-back _ 1 (c .nodes) (w .0) n (f .1 .1 .0)) f
-describe-fine c j setting w v n f = rw (list-back _ 1 (c .nodes) (w .1 .1 .1 .1 .0) n (f .1 .1 .1 .1 .1 .1 .0)) f
+describe-fine c j setKind w v n f = rw (list-back _ 1 (c .nodes) (w .1 .1 .1 .1 .0) n (f .1 .1 .1 .1 .1 .1 .0)) f
 describe-fine c j test w v n f = rw (list-back _ 1 (c .nodes) (w .1 .1 .1 .0) n (f .1 .1 .1 .1 .1 .0), list-back _ 1 (c .nodes) (w .1 .1 .1 .1 .0) n (f .1 .1 .1 .1 .1 .1 .0)) f
 describe-fine c j read w v n f = rw (list-back _ 1 (c .nodes) (w .1 .0) n (f .1 .1 .1 .0)) f
 describe-fine c j call w v n f =
@@ -199,14 +199,14 @@ describe-fine c j return w v n f = f
 
 -- a node made of a line has nothing behind its arguments
 node-args : (c : Scope) (k : NodeKind) (w : Vals (fields c k)) → argsEmpty (nodeOf c k w) ≡ true
-unfolding nodeOf argsEmpty all
+unfolding nodeOf argsEmpty every
 node-args c start w = refl
-node-args c setting w = refl
+node-args c setKind w = refl
 node-args c test w = refl
 node-args c read w = refl
 node-args c call w = go (w .1 .0)
   where
-    go : (xs : List (Option ℕ)) → all isZero (drop (min (length xs) 5) (argPlaces (argsOf xs))) ≡ true
+    go : (xs : List (Option ℕ)) → every isZero (drop (min (length xs) 5) (argPlaces (argsOf xs))) ≡ true
     go [] = refl
     go (a ∷ []) = refl
     go (a ∷ b ∷ []) = refl

@@ -14,7 +14,7 @@ use Rattle.table.specs.declared.Proc.{Proc}
 use Rattle.table.specs.declared.Table.{Table}
 use Rattle.text.specs.declared.Fault.{Fault}
 use Rattle.text.specs.Number.{bytes}
-use Rattle.text.specs.Value.{NodeKind, start, set as setting, test, read as reads, call, wait, signal, send, recv, assert, out, return}
+use Rattle.text.specs.Value.{NodeKind, start, setKind, test, read as reads, call, wait, signal, send, recv, assert, out, return}
 use Rattle.text.specs.Line.{Vals, Outcome, took, refused, Parser, onto, After, at, differs, broken, after, line}
 use Rattle.text.specs.Format.{headLine, countsLine, procLine, Scope, fields, nodeLine, nodeOf}
 use Rattle.text.specs.Reader.{rows, taskRow, semRow, queueRow, Numbered, nodeRow, slotOf, ifKey, furtherNodes, nodesOf, droppedBy, scopeOf, procRow, atEnd, body, table, late, good, resultOf, readLines, read}
@@ -100,7 +100,7 @@ zero-small = pow-pos 32
 node-small : (c : Scope) (k : NodeKind) (w : Vals (fields c k)) → SmallArcs (nodeOf c k w)
 unfolding nodeOf arcTo arcNo
 node-small c start w = (maskOf-lt 32 _, zero-small)
-node-small c setting w = (maskOf-lt 32 _, zero-small)
+node-small c setKind w = (maskOf-lt 32 _, zero-small)
 node-small c test w = (maskOf-lt 32 _, maskOf-lt 32 _)
 node-small c reads w = (maskOf-lt 32 _, zero-small)
 node-small c call w = (maskOf-lt 32 _, zero-small)

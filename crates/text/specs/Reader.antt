@@ -175,21 +175,21 @@ abbrev pub taskFault : Table → ℕ → Option Fault
 taskFault t i = let q = procAt t (taskAt t i .top) in unless (not (t .closed) || allBelow (q .params) (λ j. bit j (q .drop))) Unclosed
 
 -- what each of n things says, from i on, one list after another
-unfoldable pub concat : {A : Type 0} → (ℕ → List A) → ℕ → ℕ → List A
-concat f zero i = []
-concat f (suc n) i = f i ++ concat f n (suc i)
+unfoldable pub concatFrom : {A : Type 0} → (ℕ → List A) → ℕ → ℕ → List A
+concatFrom f zero i = []
+concatFrom f (suc n) i = f i ++ concatFrom f n (suc i)
 
 abbrev pub nodeLate : Table → Proc → Node → List (Option Fault)
 nodeLate t q x = pick (isAbsent x) [] (nodeFault t q x ∷ [])
 
 abbrev pub procLate : Table → ℕ → List (Option Fault)
-procLate t p = none ∷ concat (λ n. nodeLate t (procAt t p) (nodeAt t p n)) (procAt t p .nodes) 0
+procLate t p = none ∷ concatFrom (λ n. nodeLate t (procAt t p) (nodeAt t p n)) (procAt t p .nodes) 0
 
 -- the late fault of each line, or none, from line 1 on
 unfoldable pub late : Table → List (Option Fault)
 late t =
-    none ∷ none ∷ (concat (λ i. taskFault t i ∷ []) (t .tasks) 0
-    ++ (replicate (t .sems) none ++ (replicate (t .queues) none ++ concat (procLate t) (t .procs) 0)))
+    none ∷ none ∷ (concatFrom (λ i. taskFault t i ∷ []) (t .tasks) 0
+    ++ (replicate (t .sems) none ++ (replicate (t .queues) none ++ concatFrom (procLate t) (t .procs) 0)))
 
 -- ---- the answer
 

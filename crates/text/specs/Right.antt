@@ -10,13 +10,13 @@ use Rattle.table.specs.declared.Operand.{Operand}
 use Rattle.table.specs.declared.Operand.the-variants.{Var, Const}
 use Rattle.table.specs.declared.Op.{Op}
 use Rattle.table.specs.declared.Op.the-variants.{Add, Sub, And, Or, Xor, Shr, Lt, Eq}
-use Rattle.text.specs.Value.{NodeKind, start, set, test, read, call, wait, signal, send, recv, assert, out, return, ValueKind, number, choice, kind, operation, operand, variable, ascending, arguments, Of, ascends, isOne}
+use Rattle.text.specs.Value.{NodeKind, start, setKind, test, read, call, wait, signal, send, recv, assert, out, return, ValueKind, number, choice, kind, operation, operand, variable, ascending, arguments, Of, ascends, isOne}
 use Rattle.text.specs.Line.{Line, end, field, Vals}
 
 -- node 0 is the only start, and only an open table reads
 abbrev pub KindRight : Bool → ℕ → NodeKind → Type 0
 KindRight c j start = j ≡ 0
-KindRight c j set = 0 < j
+KindRight c j setKind = 0 < j
 KindRight c j test = 0 < j
 KindRight c j read = (0 < j) × (c ≡ false)
 KindRight c j call = 0 < j

@@ -17,7 +17,7 @@ use Rattle.table.specs.declared.Op.the-variants.{Add, Sub, And, Or, Xor, Shr, L
 use Rattle.text.specs.declared.Fault.{Fault}
 use Rattle.text.specs.NumberLaws.{and-left, and-right}
 use Rattle.text.specs.ValueLaws.{no}
-use Rattle.text.specs.Value.{NodeKind, start, set, test, read, call, wait, signal, send, recv, assert, out, return, ValueKind, number, choice, kind, operation, operand, variable, ascending, arguments, Of, unless, orElse, kindFault, opFault, operandFault, variableFault, ascends, within, isOne, noneRemoved, allDeclared, check}
+use Rattle.text.specs.Value.{NodeKind, start, setKind, test, read, call, wait, signal, send, recv, assert, out, return, ValueKind, number, choice, kind, operation, operand, variable, ascending, arguments, Of, unless, orElse, kindFault, opFault, operandFault, variableFault, ascends, within, isOne, noneRemoved, allDeclared, check}
 use Rattle.text.specs.Line.{Line, end, field, Vals, lineFault}
 use Rattle.text.specs.Right.{KindRight, Fits, OperandIn, NameIn, Within, Right, Rights}
 
@@ -39,8 +39,8 @@ and-is a b = (λ e. (and-left a b e, and-right a b e), λ e. rw (e .0) (e .1))
 kind-is : (c : Bool) (j : ℕ) (v : NodeKind) → (kindFault c j v ≡ none) ↔ KindRight c j v
 kind-is c zero start = (λ e. refl, λ h. refl)
 kind-is c (suc j) start = (λ e. no (cc), λ h. absurd (omega arith))
-kind-is c zero set = (λ e. no (cc), λ h. absurd (omega arith))
-kind-is c (suc j) set = (λ e. omega arith, λ h. refl)
+kind-is c zero setKind = (λ e. no (cc), λ h. absurd (omega arith))
+kind-is c (suc j) setKind = (λ e. omega arith, λ h. refl)
 kind-is c zero test = (λ e. no (cc), λ h. absurd (omega arith))
 kind-is c (suc j) test = (λ e. omega arith, λ h. refl)
 kind-is false zero read = (λ e. no (cc), λ h. absurd (omega arith))

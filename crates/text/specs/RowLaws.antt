@@ -13,7 +13,7 @@ use Rattle.text.specs.Value.{unless, orElse, check}
 use Rattle.text.specs.ValueLaws.{no}
 use Rattle.text.specs.Line.{Line, end, field, Vals, write, took, Parser, line, lineFault}
 use Rattle.text.specs.LineLaws.{Sound, judgement, line-write, onto-read}
-use Rattle.text.specs.Reader.{rows, concat}
+use Rattle.text.specs.Reader.{rows, concatFrom}
 
 -- ---- lines
 
@@ -72,7 +72,7 @@ pub record Row {A : Type 0} (R : Rows A) (i : ℕ) (s : List ℕ) (a : A) (r : L
 
 -- the n rows of L from row i on
 abbrev pub written : {A : Type 0} → Rows A → List A → ℕ → ℕ → List ℕ
-written R L n i = concat (λ j. R .text j (getD L j (R .empty))) n i
+written R L n i = concatFrom (λ j. R .text j (getD L j (R .empty))) n i
 
 abbrev pub Each : {A : Type 0} → Rows A → (ℕ → A → Type 0) → List A → ℕ → ℕ → Type 0
 Each R P L i e = (j : ℕ) → i ≤ j → j < e → P j (getD L j (R .empty))
@@ -95,14 +95,14 @@ atOrLater P i j h p q = byOrder i j q (λ k. let e : i ≡ j = omega arith in su
 module _ {A : Type 0} (R : Rows A) where
   -- what stands behind a row may be more rows
   next-all : (M : List A) (n i e : ℕ) → e ≡ i + n → (s : List ℕ) → R .Next e s → R .Next i (written R M n i ++ s)
-  unfolding concat
+  unfolding concatFrom
   next-all M zero i e q s x = let p : e ≡ i = omega arith in rw p at x
   next-all M (suc n) i e q s x = rw (append-assoc (R .text i (getD M i (R .empty))) (written R M n (suc i)) s)
       (R .next i (getD M i (R .empty)) (written R M n (suc i) ++ s) (next-all M n (suc i) e (omega arith) s x))
 
   -- no row, and one row before others
   pub fill-done : (e : ℕ) (l : List A) (s : List ℕ) → Filled R 0 e e l l s s
-  unfolding concat
+  unfolding concatFrom
   fill-done e l s =
       let z = R .empty in
       record {
@@ -122,7 +122,7 @@ module _ {A : Type 0} (R : Rows A) where
 
   pub fill-step : (n i e : ℕ) (l : List A) (s : List ℕ) (a : A) (t : List ℕ) (L : List A) (r : List ℕ) → e ≡ i + suc n → i < length l
       → Row R i s a t → Filled R n (suc i) e (set l i a) L t r → Filled R (suc n) i e l L s r
-  unfolding concat
+  unfolding concatFrom
   fill-step n i e l s a t L r p h w f =
       let z = R .empty in
       let here : getD L i z ≡ a = f .earlier i (omega arith) ∙ getD-set-same l i a z h in

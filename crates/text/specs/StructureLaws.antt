@@ -21,7 +21,7 @@ use Rattle.text.specs.NumberLaws.{cases, byOrder}
 use Rattle.text.specs.Value.{unless, orElse}
 use Rattle.text.specs.Line.{Outcome}
 use Rattle.text.specs.Format.{Scope, variableOf, nameOf, argsOf, argNames, nodeOf, describe}
-use Rattle.text.specs.Reader.{table, allBelow, allPresent, isRemoved, iff, countRight, removedRight, nodeFault, taskFault, concat, nodeLate, procLate, late, firstLate, resultOf, readLines}
+use Rattle.text.specs.Reader.{table, allBelow, allPresent, isRemoved, iff, countRight, removedRight, nodeFault, taskFault, concatFrom, nodeLate, procLate, late, firstLate, resultOf, readLines}
 use Rattle.text.specs.Writer.{text, scope, tidy, faultIn, fault}
 use Rattle.text.specs.MaskLists.{bit-again, members-again}
 use Rattle.text.specs.Right.{Within}
@@ -33,8 +33,8 @@ use Rattle.text.specs.EndsLaws.{Ends, ends-took, ends-refused, back, Pro
 
 -- ---- the same for each
 
-concat-same : {A : Type 0} (f g : ℕ → List A) (n i : ℕ) → ((j : ℕ) → i ≤ j → j < i + n → f j ≡ g j) → concat f n i ≡ concat g n i
-unfolding concat
+concat-same : {A : Type 0} (f g : ℕ → List A) (n i : ℕ) → ((j : ℕ) → i ≤ j → j < i + n → f j ≡ g j) → concatFrom f n i ≡ concatFrom g n i
+unfolding concatFrom
 concat-same f g zero i h = refl
 concat-same f g (suc n) i h = rw (h i (omega arith) (omega arith), concat-same f g n (suc i) (λ j l u. h j (omega arith) (omega arith)))
 
@@ -178,10 +178,10 @@ module _ (t r : Table) (s : Same t r) (v : Lined t) where
   late-same : late r ≡ late t
   unfolding late
   late-same =
-      let a : concat (λ i. taskFault r i ∷ []) (r .tasks) 0 ≡ concat (λ i. taskFault t i ∷ []) (t .tasks) 0 =
-      ap (λ (n : ℕ). concat (λ i. taskFault r i ∷ []) n 0) (s .tasks) ∙ concat-same (λ i. taskFault r i ∷ []) (λ i. taskFault t i ∷ []) (t .tasks) 0 (λ i l u. ap (λ f. f ∷ []) (task-late i (omega arith)))
+      let a : concatFrom (λ i. taskFault r i ∷ []) (r .tasks) 0 ≡ concatFrom (λ i. taskFault t i ∷ []) (t .tasks) 0 =
+      ap (λ (n : ℕ). concatFrom (λ i. taskFault r i ∷ []) n 0) (s .tasks) ∙ concat-same (λ i. taskFault r i ∷ []) (λ i. taskFault t i ∷ []) (t .tasks) 0 (λ i l u. ap (λ f. f ∷ []) (task-late i (omega arith)))
       in
-      let b : concat (procLate r) (r .procs) 0 ≡ concat (procLate t) (t .procs) 0 = ap (λ (n : ℕ). concat (procLate r) n 0) (s .procs) ∙ concat-same (procLate r) (procLate t) (t .procs) 0 (λ p l u. proc-late p (omega arith)) in
+      let b : concatFrom (procLate r) (r .procs) 0 ≡ concatFrom (procLate t) (t .procs) 0 = ap (λ (n : ℕ). concatFrom (procLate r) n 0) (s .procs) ∙ concat-same (procLate r) (procLate t) (t .procs) 0 (λ p l u. proc-late p (omega arith)) in
       rw (a, b, s .sems, s .queues)
 
 -- ---- the fault

@@ -27,8 +27,8 @@ use Rattle.text.specs.Line.{Line, Vals, write, Outcome, took, refused, P
 use Rattle.text.specs.LineLaws.{Sound, line-read, onto-read, head-sound, counts-sound, task-sound, sem-sound, queue-sound, proc-sound}
 use Rattle.text.specs.MaskLists.{set-members}
 use Rattle.text.specs.Format.{headLine, countsLine, taskLine, semLine, queueLine, procLine, Scope, setOf, describe}
-use Rattle.text.specs.Reader.{rows, taskRow, semRow, queueOf, queueRow, droppedBy, procOf, scopeOf, nodesOf, procRow, atEnd, body, table, allBelow, countRight, concat, late, nodeLate, taskFault, procLate, firstLate, good, resultOf, readLines}
-use Rattle.text.specs.Writer.{queueVals, procVals, scope, text, all, isZero, slotEmpty, taskEmpty, semEmpty, queueEmpty, procEmpty, argsEmpty, procTidy, tidy}
+use Rattle.text.specs.Reader.{rows, taskRow, semRow, queueOf, queueRow, droppedBy, procOf, scopeOf, nodesOf, procRow, atEnd, body, table, allBelow, countRight, concatFrom, late, nodeLate, taskFault, procLate, firstLate, good, resultOf, readLines}
+use Rattle.text.specs.Writer.{queueVals, procVals, scope, text, every, isZero, slotEmpty, taskEmpty, semEmpty, queueEmpty, procEmpty, argsEmpty, procTidy, tidy}
 use Rattle.text.specs.RowLaws.{Faultless, or-left, unless-none, faultless, line-only, Rows, Row, written, Filled, atOrLater, rows-fill}
 use Rattle.text.specs.NodeLaws.{number-fact, list-back, FitsIn, FaultlessNode, NoNode, no-line, nodeRows, nodes-fill}
 
@@ -93,19 +93,19 @@ queue-row true i = line-row (queueLine true) _ noQueue _ i (queue-sound true i) 
 
 -- a list of m places that is empty behind the first n
 all-rest : {A : Type 0} (f : A → Bool) (e z : A) (m n : ℕ) (l : List A) → length l ≡ m → ((j : ℕ) → j < m → f (getD l j z) ≡ true → getD l j z ≡ e)
-    → all f (drop n l) ≡ true → drop n l ≡ drop n (replicate m e)
-unfolding all
+    → every f (drop n l) ≡ true → drop n l ≡ drop n (replicate m e)
+unfolding every
 all-rest f e z zero zero [] h g q = refl
 all-rest f e z zero (suc n) [] h g q = refl
 all-rest f e z zero n (x ∷ l) h g q = absurd (omega arith)
 all-rest f e z (suc m) n [] h g q = absurd (omega arith)
 all-rest f e z (suc m) zero (x ∷ l) h g q =
-    rw (g 0 (omega arith) (and-left (f x) (all f l) q), all-rest f e z m zero l (omega arith) (λ j k. g (suc j) (omega arith)) (and-right (f x) (all f l) q))
+    rw (g 0 (omega arith) (and-left (f x) (every f l) q), all-rest f e z m zero l (omega arith) (λ j k. g (suc j) (omega arith)) (and-right (f x) (every f l) q))
 all-rest f e z (suc m) (suc n) (x ∷ l) h g q = all-rest f e z m n l (omega arith) (λ j k. g (suc j) (omega arith)) q
 
 -- a list of empty places is empty there
-rest-all : {A : Type 0} (f : A → Bool) (e : A) → f e ≡ true → (m n : ℕ) → all f (drop n (replicate m e)) ≡ true
-unfolding all
+rest-all : {A : Type 0} (f : A → Bool) (e : A) → f e ≡ true → (m n : ℕ) → every f (drop n (replicate m e)) ≡ true
+unfolding every
 rest-all f e h zero zero = refl
 rest-all f e h zero (suc n) = refl
 rest-all f e h (suc m) zero = rw h (rest-all f e h m zero)
@@ -170,7 +170,7 @@ proc-forth false i q w h t e = (
   ap (λ (u : Vals (procLine false i)). u .1 .0) e,
   ap (λ (u : Vals (procLine false i)). u .1 .1 .0) e,
   ap (λ (u : Vals (procLine false i)). u .1 .1 .1 .0) e,
-  eqb-true (q .drop) 0 (and-right (allBelow (q .nodes) (λ j. argsEmpty (nodeIn q j))) _ (and-right (all slotEmpty (drop (q .nodes) (q .slots))) _ t)),
+  eqb-true (q .drop) 0 (and-right (allBelow (q .nodes) (λ j. argsEmpty (nodeIn q j))) _ (and-right (every slotEmpty (drop (q .nodes) (q .slots))) _ t)),
 )
 proc-forth true i q w h t e = (
   ap (λ (u : Vals (procLine true i)). u .1 .0) e,
@@ -195,7 +195,7 @@ absent-is (Assert v to) e = no (cc)
 absent-is (Out v to) e = no (cc)
 absent-is Return e = no (cc)
 
-slots-rest : (n : ℕ) (l : List Slot) → length l ≡ 32 → all slotEmpty (drop n l) ≡ true → drop n l ≡ drop n noSlots
+slots-rest : (n : ℕ) (l : List Slot) → length l ≡ 32 → every slotEmpty (drop n l) ≡ true → drop n l ≡ drop n noSlots
 slots-rest n l h e = all-rest slotEmpty noSlot noSlot 32 n l h (λ j k q. ap (λ (x : Node). record { node = x }) (absent-is (getD l j noSlot .node) q)) e
 
 no-drop : (closed : Bool) (i : ℕ) (w : Vals (procLine closed i)) → closed || isZero (droppedBy closed i w) ≡ true
@@ -210,10 +210,10 @@ proc-only : (t : Table) (closed : Bool) (procs sems queues i : ℕ) (w : Vals (p
 proc-only t closed procs sems queues i w L s r F g q s′ h x v e =
     let d = proc-forth closed i q w (h .1) (h .2) v in
     let a = allBelow (q .nodes) (λ j. argsEmpty (nodeIn q j)) in
-    let rest = and-right (all slotEmpty (drop (q .nodes) (q .slots))) (a && (closed || isZero (q .drop))) (h .2) in
+    let rest = and-right (every slotEmpty (drop (q .nodes) (q .slots))) (a && (closed || isZero (q .drop))) (h .2) in
     let args = all-below (q .nodes) (λ j. argsEmpty (nodeIn q j)) (and-left a (closed || isZero (q .drop)) rest) in
     let o = F .only g (q .slots) s′ (h .0) (λ j k. absurd (omega arith))
-    (rw (d .2) at (slots-rest (q .nodes) (q .slots) (h .0) (and-left (all slotEmpty (drop (q .nodes) (q .slots))) _ (h .2))))
+    (rw (d .2) at (slots-rest (q .nodes) (q .slots) (h .0) (and-left (every slotEmpty (drop (q .nodes) (q .slots))) _ (h .2))))
     (λ j k u. (args j (rw (d .2) u), h .3 j .0, h .3 j .1)) (λ lo n l v l′ r y. absurd (no-line _ lo n l s′ x v l′ r y)) (sym (rw (d .1, d .2) at e)) in
     (λ ι. record { params = d .0 ι; vars = d .1 ι; nodes = d .2 ι; drop = d .3 ι; slots = o .0 ι }, o .1)
 
@@ -339,10 +339,10 @@ behind : (t : Table) (s : List ℕ) → Shaped t → tidy t ≡ true
     → Behind t (t .closed) (t .tasks) (t .procs) (t .sems) (t .queues) s
 unfolding tidy
 behind t s v w e =
-    let tasks = all taskEmpty (drop (t .tasks) (t .task)) in
-    let sems = all semEmpty (drop (t .sems) (t .sem)) in
-    let queues = all queueEmpty (drop (t .queues) (t .queue)) in
-    let procs = all procEmpty (drop (t .procs) (t .proc)) in
+    let tasks = every taskEmpty (drop (t .tasks) (t .task)) in
+    let sems = every semEmpty (drop (t .sems) (t .sem)) in
+    let queues = every queueEmpty (drop (t .queues) (t .queue)) in
+    let procs = every procEmpty (drop (t .procs) (t .proc)) in
     let blanks = allBelow (t .queues) (λ i. t .closed || not (queueAt t i .blank)) in
     let w₁ = and-right tasks _ w in
     let w₂ = and-right sems _ w₁ in
@@ -365,7 +365,7 @@ parsed : (h : Vals headLine) (c : Vals countsLine) (ts : List Task) (ss : List S
     → Filled (queueRows (h .1 .0)) (c .1 .1 .1 .0) 0 (c .1 .1 .1 .0) (replicate 8 noQueue) qs s₄ s₅
     → Filled (procRows (tableOf h c ts ss qs ps) (h .1 .0) (c .1 .0) (c .1 .1 .0) (c .1 .1 .1 .0)) (c .1 .0) 0 (c .1 .0) (replicate 8 noProc) ps s₅ []
     → Parsed s (tableOf h c ts ss qs ps)
-unfolding tidy text isAbsent all
+unfolding tidy text isAbsent every
 parsed h c ts ss qs ps l m n s s₁ s₂ s₃ s₄ s₅ a b T S Q P =
     let x = line-read headLine l s h m s₁ a in
     let y = line-read countsLine m s₁ c n s₂ b in
@@ -456,10 +456,10 @@ none-right : (xs ys : List (Option Fault)) → AllNone (xs ++ ys) → AllNone ys
 none-right [] ys h = h
 none-right (x ∷ xs) ys h = none-right xs ys (h .1)
 
-none-each : (f : ℕ → List (Option Fault)) (n i : ℕ) → AllNone (concat f n i) → (j : ℕ) → i ≤ j → j < i + n → AllNone (f j)
-unfolding concat
+none-each : (f : ℕ → List (Option Fault)) (n i : ℕ) → AllNone (concatFrom f n i) → (j : ℕ) → i ≤ j → j < i + n → AllNone (f j)
+unfolding concatFrom
 none-each f zero i h j k u = absurd (omega arith)
-none-each f (suc n) i h j k u = atOrLater (λ j. AllNone (f j)) i j k (none-left (f i) (concat f n (suc i)) h) (λ k. none-each f n (suc i) (none-right (f i) (concat f n (suc i)) h) j k (omega arith))
+none-each f (suc n) i h j k u = atOrLater (λ j. AllNone (f j)) i j k (none-left (f i) (concatFrom f n (suc i)) h) (λ k. none-each f n (suc i) (none-right (f i) (concatFrom f n (suc i)) h) j k (omega arith))
 
 pub good-late : (t u : Table) (l : ℕ) (fs : List (Option Fault)) → firstLate t l fs ≡ good u → (t ≡ u) × AllNone fs
 unfolding firstLate
@@ -474,7 +474,7 @@ count-right t q x h = cases (isAbsent x) (λ e. rw (absent-is x e)) (λ e. let f
 fitting : (t : Table) → AllNone (late t) → ((q : ℕ) → procAt t q .params ≤ 4) → Fitting t
 unfolding late
 fitting t h small p k j u =
-    let f = none-right (concat (λ i. taskFault t i ∷ []) (t .tasks) 0) _ (h .1 .1) in
+    let f = none-right (concatFrom (λ i. taskFault t i ∷ []) (t .tasks) 0) _ (h .1 .1) in
     let g = none-right (replicate (t .queues) none) _ (none-right (replicate (t .sems) none) _ f) in
     let m = none-each (procLate t) (t .procs) 0 g p (omega arith) (omega arith) in
     (count-right t (procAt t p) (nodeAt t p j) (none-each (λ n. nodeLate t (procAt t p) (nodeAt t p n)) (procAt t p .nodes) 0 (m .1) j (omega arith) (omega arith)), small)

@@ -21,10 +21,10 @@ use Rattle.table.specs.declared.Table.{Table}
 use Rattle.text.specs.declared.Fault.the-variants.{Misspelt, Range, Reference}
 use Rattle.text.specs.Number.{digits}
 use Rattle.text.specs.NumberLaws.{byOrder, and-left, and-right, digits-small, digits-large}
-use Rattle.text.specs.Value.{start, set, test, read as reading, call, wait, signal, send, recv, assert, out, return, ValueKind, number, choice, kind, operation, operand, variable, ascending, arguments, Of, spellVariable, spellOperand, commas, spellList, spell, unless, ascends, within, noneRemoved, allDeclared, check}
+use Rattle.text.specs.Value.{start, setKind, test, read as reading, call, wait, signal, send, recv, assert, out, return, ValueKind, number, choice, kind, operation, operand, variable, ascending, arguments, Of, spellVariable, spellOperand, commas, spellList, spell, unless, ascends, within, noneRemoved, allDeclared, check}
 use Rattle.text.specs.Line.{Line, end, field, Vals, write}
 use Rattle.text.specs.Format.{headLine, countsLine, taskLine, semLine, queueLine, procLine, Scope, nodeLine, argNames, describe}
-use Rattle.text.specs.Reader.{concat, good, readLines, read}
+use Rattle.text.specs.Reader.{concatFrom, good, readLines, read}
 use Rattle.text.specs.Writer.{queueVals, procVals, nodeText, scope, procText, text, fault}
 use Rattle.text.specs.RowLaws.{Faultless, or-right, unless-none}
 use Rattle.text.specs.NodeLaws.{number-fact, list-fact, FitsIn, few, FaultlessNode}
@@ -127,7 +127,7 @@ unfolding spell check
 spell-short (number lo n f) v e h = let u = number-fact lo n f v e in digits-short 2 v (omega arith)
 spell-short (choice a b) false e h = omega arith
 spell-short (choice a b) true e h = omega arith
-spell-short (kind c j) v e h = elim v [ start ↦ omega arith | set ↦ omega arith | test ↦ omega arith | reading ↦ omega arith | call ↦ omega arith | wait ↦ omega arith | signal ↦ omega arith | send ↦ omega arith | recv ↦ omega arith | assert ↦ omega arith | out ↦ omega arith | return ↦ omega arith ]
+spell-short (kind c j) v e h = elim v [ start ↦ omega arith | setKind ↦ omega arith | test ↦ omega arith | reading ↦ omega arith | call ↦ omega arith | wait ↦ omega arith | signal ↦ omega arith | send ↦ omega arith | recv ↦ omega arith | assert ↦ omega arith | out ↦ omega arith | return ↦ omega arith ]
 spell-short (operation t) v e h = elim v [ Add ↦ omega arith | Sub ↦ omega arith | And ↦ omega arith | Or ↦ omega arith | Xor ↦ omega arith | Shr ↦ omega arith | Lt ↦ omega arith | Eq ↦ omega arith ]
 spell-short (operand n) v e h = operand-short n v h e
 spell-short (variable c n) none e h = omega arith
@@ -191,13 +191,13 @@ node-short t c j Return b h g f = let a = write-short (nodeLine c j (suc j)) _ f
 -- ---- tables
 
 -- n texts of at most m bytes each
-concat-short : (f : ℕ → List ℕ) (m n i : ℕ) → ((j : ℕ) → i ≤ j → j < i + n → length (f j) ≤ m) → length (concat f n i) ≤ n * m
-unfolding concat
+concat-short : (f : ℕ → List ℕ) (m n i : ℕ) → ((j : ℕ) → i ≤ j → j < i + n → length (f j) ≤ m) → length (concatFrom f n i) ≤ n * m
+unfolding concatFrom
 concat-short f m zero i h = omega arith
 concat-short f m (suc n) i h =
     let a = h i (omega arith) (omega arith) in
     let b = concat-short f m n (suc i) (λ j k u. h j (omega arith) (omega arith)) in
-    rw (length-append (f i) (concat f n (suc i))) (omega arith)
+    rw (length-append (f i) (concatFrom f n (suc i))) (omega arith)
 
 -- a procedure has 32 node lines at most
 proc-text : (t : Table) → Lines t → Fitting t → (p : ℕ) → p < t .procs → length (procText t p) ≤ 137 + 32 * 249

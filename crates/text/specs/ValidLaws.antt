@@ -22,9 +22,9 @@ use Rattle.text.specs.Fault.{number}
 use Rattle.text.specs.NumberLaws.{cases, byOrder, and-left, and-right}
 use Rattle.text.specs.ValueLaws.{no}
 use Rattle.text.specs.Value.{unless, orElse}
-use Rattle.text.specs.Reader.{allBelow, allPresent, countRight, removedRight, nodeFault, taskFault, concat, nodeLate, procLate, late}
+use Rattle.text.specs.Reader.{allBelow, allPresent, countRight, removedRight, nodeFault, taskFault, concatFrom, nodeLate, procLate, late}
 use Rattle.text.specs.Format.{Scope}
-use Rattle.text.specs.Writer.{scope, all, isZero, slotEmpty, taskEmpty, semEmpty, queueEmpty, procEmpty, procTidy, tidy, fault}
+use Rattle.text.specs.Writer.{scope, every, isZero, slotEmpty, taskEmpty, semEmpty, queueEmpty, procEmpty, procTidy, tidy, fault}
 use Rattle.text.specs.RightLaws.{unless-is, else-is, and-is}
 use Rattle.text.specs.Structure.{firstOf, firstIn, linesFault, tableFault, numbered}
 use Rattle.text.specs.Valid.{Named, NodeValid, Valid}
@@ -72,10 +72,10 @@ in-append [] ys = refl
 in-append (none ∷ xs) ys = in-append xs ys
 in-append (some f ∷ xs) ys = refl
 
-in-concat : (f : ℕ → List (Option Fault)) (n i : ℕ) → firstIn (concat f n i) ≡ firstOf (λ j. firstIn (f j)) n i
-unfolding firstIn concat firstOf
+in-concat : (f : ℕ → List (Option Fault)) (n i : ℕ) → firstIn (concatFrom f n i) ≡ firstOf (λ j. firstIn (f j)) n i
+unfolding firstIn concatFrom firstOf
 in-concat f zero i = refl
-in-concat f (suc n) i = in-append (f i) (concat f n (suc i)) ∙ rw (in-concat f n (suc i))
+in-concat f (suc n) i = in-append (f i) (concatFrom f n (suc i)) ∙ rw (in-concat f n (suc i))
 
 in-none : (n : ℕ) → firstIn (replicate n none) ≡ none
 unfolding firstIn
@@ -126,10 +126,10 @@ nodesLate t p = firstOf (λ n. firstIn (nodeLate t (procAt t p) (nodeAt t p n)))
 late-parts : (t : Table) → firstIn (late t) ≡ orElse (tasksLate t) (firstOf (nodesLate t) (t .procs) 0)
 unfolding late firstIn tasksLate nodesLate
 late-parts t =
-    let ts = concat (λ i. taskFault t i ∷ []) (t .tasks) 0 in
+    let ts = concatFrom (λ i. taskFault t i ∷ []) (t .tasks) 0 in
     let ss = replicate (t .sems) none in
     let qs = replicate (t .queues) none in
-    let ps = concat (procLate t) (t .procs) 0 in
+    let ps = concatFrom (procLate t) (t .procs) 0 in
     let p : (λ p. firstIn (procLate t p)) ≡ nodesLate t = fun-ext (λ p. in-concat (λ n. nodeLate t (procAt t p) (nodeAt t p n)) (procAt t p .nodes) 0) in
     rw (in-append ts (ss ++ (qs ++ ps)), in-append ss (qs ++ ps), in-none (t .sems), in-append qs ps, in-none (t .queues), in-concat (λ i. taskFault t i ∷ []) (t .tasks) 0, in-concat (procLate t) (t .procs) 0, p)
 
@@ -175,18 +175,18 @@ of-valid t v =
 
 -- ---- where the nodes are
 
-all-at : {A : Type 0} (f : A → Bool) (xs : List A) (d : A) → all f xs ≡ true → f d ≡ true → (i : ℕ) → f (getD xs i d) ≡ true
-unfolding all
+all-at : {A : Type 0} (f : A → Bool) (xs : List A) (d : A) → every f xs ≡ true → f d ≡ true → (i : ℕ) → f (getD xs i d) ≡ true
+unfolding every
 all-at f [] d e h i = h
-all-at f (x ∷ xs) d e h zero = and-left (f x) (all f xs) e
-all-at f (x ∷ xs) d e h (suc i) = all-at f xs d (and-right (f x) (all f xs) e) h i
+all-at f (x ∷ xs) d e h zero = and-left (f x) (every f xs) e
+all-at f (x ∷ xs) d e h (suc i) = all-at f xs d (and-right (f x) (every f xs) e) h i
 
 -- behind what is counted, and back
-pub all-behind : {A : Type 0} (f : A → Bool) (xs : List A) (d : A) (n i : ℕ) → all f (drop n xs) ≡ true → f d ≡ true → n ≤ i → f (getD xs i d) ≡ true
+pub all-behind : {A : Type 0} (f : A → Bool) (xs : List A) (d : A) (n i : ℕ) → every f (drop n xs) ≡ true → f d ≡ true → n ≤ i → f (getD xs i d) ≡ true
 all-behind f xs d n i e h l = let p : n + (i - n) ≡ i = omega arith in rw (p) at (rw (getD-drop n xs (i - n) d) at (all-at f (drop n xs) d e h (i - n)))
 
-pub behind-all : {A : Type 0} (f : A → Bool) (xs : List A) (d : A) (n : ℕ) → ((i : ℕ) → n ≤ i → f (getD xs i d) ≡ true) → all f (drop n xs) ≡ true
-unfolding all
+pub behind-all : {A : Type 0} (f : A → Bool) (xs : List A) (d : A) (n : ℕ) → ((i : ℕ) → n ≤ i → f (getD xs i d) ≡ true) → every f (drop n xs) ≡ true
+unfolding every
 behind-all f [] d zero h = refl
 behind-all f [] d (suc n) h = refl
 behind-all f (x ∷ xs) d zero h = rw (h 0 (omega arith)) (behind-all f xs d zero (λ i l. h (suc i) (omega arith)))
@@ -194,26 +194,26 @@ behind-all f (x ∷ xs) d (suc n) h = behind-all f xs d n (λ i l. h (suc i) (om
 
 -- the unused places, part by part
 pub tidy-parts : (t : Table) → tidy t ≡ true
-    → (all taskEmpty (drop (t .tasks) (t .task)) ≡ true) × (all semEmpty (drop (t .sems) (t .sem)) ≡ true) × (all queueEmpty (drop (t .queues) (t .queue)) ≡ true) × (all procEmpty (drop (t .procs) (t .proc)) ≡ true)
+    → (every taskEmpty (drop (t .tasks) (t .task)) ≡ true) × (every semEmpty (drop (t .sems) (t .sem)) ≡ true) × (every queueEmpty (drop (t .queues) (t .queue)) ≡ true) × (every procEmpty (drop (t .procs) (t .proc)) ≡ true)
     × ((i : ℕ) → i < t .queues → t .closed || not (queueAt t i .blank) ≡ true) × ((p : ℕ) → p < t .procs → procTidy (t .closed) (procAt t p) ≡ true)
 unfolding tidy
 tidy-parts t e =
-    let h₁ = and-is (all taskEmpty (drop (t .tasks) (t .task))) _ .0 e in
-    let h₂ = and-is (all semEmpty (drop (t .sems) (t .sem))) _ .0 (h₁ .1) in
-    let h₃ = and-is (all queueEmpty (drop (t .queues) (t .queue))) _ .0 (h₂ .1) in
-    let h₄ = and-is (all procEmpty (drop (t .procs) (t .proc))) _ .0 (h₃ .1) in
+    let h₁ = and-is (every taskEmpty (drop (t .tasks) (t .task))) _ .0 e in
+    let h₂ = and-is (every semEmpty (drop (t .sems) (t .sem))) _ .0 (h₁ .1) in
+    let h₃ = and-is (every queueEmpty (drop (t .queues) (t .queue))) _ .0 (h₂ .1) in
+    let h₄ = and-is (every procEmpty (drop (t .procs) (t .proc))) _ .0 (h₃ .1) in
     let h₅ = and-is (allBelow (t .queues) (λ i. t .closed || not (queueAt t i .blank))) (allBelow (t .procs) (λ p. procTidy (t .closed) (procAt t p))) .0 (h₄ .1) in
     (h₁ .0, h₂ .0, h₃ .0, h₄ .0, below-all (t .queues) _ (h₅ .0), below-all (t .procs) _ (h₅ .1))
 
 -- behind the procedures every place is 0,
-pub far-empty : (t : Table) → tidy t ≡ true → (p : ℕ) → t .procs ≤ p → (procAt t p .params ≡ 0) × (procAt t p .vars ≡ 0) × (procAt t p .nodes ≡ 0) × (all slotEmpty (procAt t p .slots) ≡ true)
-unfolding all
+pub far-empty : (t : Table) → tidy t ≡ true → (p : ℕ) → t .procs ≤ p → (procAt t p .params ≡ 0) × (procAt t p .vars ≡ 0) × (procAt t p .nodes ≡ 0) × (every slotEmpty (procAt t p .slots) ≡ true)
+unfolding every
 far-empty t e p l =
     let q = procAt t p in
     let h₁ = and-is (isZero (q .params)) _ .0 (all-behind procEmpty (t .proc) outside (t .procs) p (tidy-parts t e .3) refl l) in
     let h₂ = and-is (isZero (q .vars)) _ .0 (h₁ .1) in
     let h₃ = and-is (isZero (q .nodes)) _ .0 (h₂ .1) in
-    (eqb-true (q .params) 0 (h₁ .0), eqb-true (q .vars) 0 (h₂ .0), eqb-true (q .nodes) 0 (h₃ .0), and-right (isZero (q .drop)) (all slotEmpty (q .slots)) (h₃ .1))
+    (eqb-true (q .params) 0 (h₁ .0), eqb-true (q .vars) 0 (h₂ .0), eqb-true (q .nodes) 0 (h₃ .0), and-right (isZero (q .drop)) (every slotEmpty (q .slots)) (h₃ .1))
 
 -- and no place holds a node
 far-absent : (t : Table) → tidy t ≡ true → (p n : ℕ) → t .procs ≤ p → nodeAt t p n ≡ Absent
@@ -229,7 +229,7 @@ outside-absent t z p n h =
     elim h [
       | inl l ↦ far-absent t e p n l
       | inr l ↦ byOrder p (t .procs)
-          (λ u. absent-is (nodeIn q n) (all-behind slotEmpty (q .slots) noSlot (q .nodes) n (and-left (all slotEmpty (drop (q .nodes) (q .slots))) _ (tidy-parts t e .5 p u)) refl l))
+          (λ u. absent-is (nodeIn q n) (all-behind slotEmpty (q .slots) noSlot (q .nodes) n (and-left (every slotEmpty (drop (q .nodes) (q .slots))) _ (tidy-parts t e .5 p u)) refl l))
           (far-absent t e p n)
     ]
 

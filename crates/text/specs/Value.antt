@@ -16,7 +16,7 @@ use Rattle.text.specs.declared.Fault.the-variants.{Form, Misspelt, Range
 
 -- the kinds of nodes, by their words
 pub data NodeKind : Type 0 where
-  start set test read call wait signal send recv assert out return : NodeKind
+  start setKind test read call wait signal send recv assert out return : NodeKind
 
 pub data ValueKind : Type 0 where
   -- a number at least the first and below the second; outside, the fault
@@ -61,7 +61,7 @@ oneOf n = number 0 n Reference
 
 abbrev pub kindWord : NodeKind → List ℕ
 kindWord start = bytes "start"
-kindWord set = bytes "set"
+kindWord setKind = bytes "set"
 kindWord test = bytes "test"
 kindWord read = bytes "read"
 kindWord call = bytes "call"
@@ -74,7 +74,7 @@ kindWord out = bytes "out"
 kindWord return = bytes "return"
 
 abbrev pub kinds : List NodeKind
-kinds = start ∷ set ∷ test ∷ read ∷ call ∷ wait ∷ signal ∷ send ∷ recv ∷ assert ∷ out ∷ return ∷ []
+kinds = start ∷ setKind ∷ test ∷ read ∷ call ∷ wait ∷ signal ∷ send ∷ recv ∷ assert ∷ out ∷ return ∷ []
 
 abbrev pub opWord : Op → List ℕ
 opWord Add = bytes "add"
@@ -224,8 +224,8 @@ orElse none g = g
 abbrev pub kindFault : Bool → ℕ → NodeKind → Option Fault
 kindFault c zero start = none
 kindFault c (suc j) start = some Index
-kindFault c zero set = some Index
-kindFault c (suc j) set = none
+kindFault c zero setKind = some Index
+kindFault c (suc j) setKind = none
 kindFault c zero test = some Index
 kindFault c (suc j) test = none
 kindFault false zero read = some Index

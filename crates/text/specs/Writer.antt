@@ -19,7 +19,7 @@ use Rattle.text.specs.declared.Fault.the-variants.{Unused, Short}
 use Rattle.text.specs.Fault.{number}
 use Rattle.text.specs.Line.{Vals, write}
 use Rattle.text.specs.Format.{headLine, countsLine, taskLine, semLine, queueLine, procLine, Scope, nodeLine, Described, noLine, described, describe}
-use Rattle.text.specs.Reader.{allBelow, concat, Result, good, bad, readLines}
+use Rattle.text.specs.Reader.{allBelow, concatFrom, Result, good, bad, readLines}
 
 -- ---- the lines that a table stands for, faulty or not
 
@@ -42,22 +42,22 @@ scope t q = record { closed = t .closed; procs = t .procs; sems = t .sems; queue
 abbrev pub procText : Table → ℕ → List ℕ
 procText t i = let q = procAt t i in
     write (procLine (t .closed) i) (procVals (t .closed) i q)
-    ++ concat (λ j. nodeText (scope t q) j (describe (scope t q) (nodeIn q j))) (q .nodes) 0
+    ++ concatFrom (λ j. nodeText (scope t q) j (describe (scope t q) (nodeIn q j))) (q .nodes) 0
 
 unfoldable pub text : Table → List ℕ
 text t =
     write headLine (t .trap, (t .closed, tt))
     ++ (write countsLine (t .tasks, (t .procs, (t .sems, (t .queues, tt))))
-    ++ (concat (λ i. write (taskLine (t .procs) i) (i, (taskAt t i .top, tt))) (t .tasks) 0
-    ++ (concat (λ i. write (semLine i) (i, (semAt t i .count, tt))) (t .sems) 0
-    ++ (concat (λ i. write (queueLine (t .closed) i) (queueVals (t .closed) i (queueAt t i))) (t .queues) 0
-    ++ concat (procText t) (t .procs) 0))))
+    ++ (concatFrom (λ i. write (taskLine (t .procs) i) (i, (taskAt t i .top, tt))) (t .tasks) 0
+    ++ (concatFrom (λ i. write (semLine i) (i, (semAt t i .count, tt))) (t .sems) 0
+    ++ (concatFrom (λ i. write (queueLine (t .closed) i) (queueVals (t .closed) i (queueAt t i))) (t .queues) 0
+    ++ concatFrom (procText t) (t .procs) 0))))
 
 -- ---- places that are not used
 
-unfoldable pub all : {A : Type 0} → (A → Bool) → List A → Bool
-all f [] = true
-all f (x ∷ xs) = f x && all f xs
+unfoldable pub every : {A : Type 0} → (A → Bool) → List A → Bool
+every f [] = true
+every f (x ∷ xs) = f x && every f xs
 
 abbrev pub isZero : ℕ → Bool
 isZero n = eqb n 0
@@ -75,7 +75,7 @@ abbrev pub queueEmpty : Queue → Bool
 queueEmpty x = isZero (x .cap) && not (x .blank)
 
 abbrev pub procEmpty : Proc → Bool
-procEmpty x = isZero (x .params) && (isZero (x .vars) && (isZero (x .nodes) && (isZero (x .drop) && all slotEmpty (x .slots))))
+procEmpty x = isZero (x .params) && (isZero (x .vars) && (isZero (x .nodes) && (isZero (x .drop) && every slotEmpty (x .slots))))
 
 -- the places behind a call's arguments
 unfoldable pub argsEmpty : Node → Bool
@@ -84,7 +84,7 @@ argsEmpty (Start to) = true
 argsEmpty (Set v o a b to) = true
 argsEmpty (Test o a b y n) = true
 argsEmpty (Read v to) = true
-argsEmpty (Call q xs to) = all isZero (drop (xs .len) (argPlaces xs))
+argsEmpty (Call q xs to) = every isZero (drop (xs .len) (argPlaces xs))
 argsEmpty (Wait s to) = true
 argsEmpty (Signal s to) = true
 argsEmpty (Send q v to) = true
@@ -95,15 +95,15 @@ argsEmpty Return = true
 
 -- within a procedure: places behind its nodes and behind its calls' arguments, and `drop` in an open table
 abbrev pub procTidy : Bool → Proc → Bool
-procTidy closed q = all slotEmpty (drop (q .nodes) (q .slots)) && (allBelow (q .nodes) (λ j. argsEmpty (nodeIn q j)) && (closed || isZero (q .drop)))
+procTidy closed q = every slotEmpty (drop (q .nodes) (q .slots)) && (allBelow (q .nodes) (λ j. argsEmpty (nodeIn q j)) && (closed || isZero (q .drop)))
 
 -- places at or beyond a count, and what an open table does not have
 unfoldable pub tidy : Table → Bool
 tidy t =
-    all taskEmpty (drop (t .tasks) (t .task))
-    && (all semEmpty (drop (t .sems) (t .sem))
-    && (all queueEmpty (drop (t .queues) (t .queue))
-    && (all procEmpty (drop (t .procs) (t .proc))
+    every taskEmpty (drop (t .tasks) (t .task))
+    && (every semEmpty (drop (t .sems) (t .sem))
+    && (every queueEmpty (drop (t .queues) (t .queue))
+    && (every procEmpty (drop (t .procs) (t .proc))
     && (allBelow (t .queues) (λ i. t .closed || not (queueAt t i .blank))
     && allBelow (t .procs) (λ p. procTidy (t .closed) (procAt t p))))))
 

@@ -17,7 +17,7 @@ use Rattle.table.specs.declared.Proc.{Proc}
 use Rattle.table.specs.declared.Table.{Table}
 use Rattle.text.specs.NumberLaws.{cases, byOrder, and-left, and-right}
 use Rattle.text.specs.Reader.{allBelow}
-use Rattle.text.specs.Writer.{all, isZero, slotEmpty, taskEmpty, semEmpty, queueEmpty, procEmpty, argsEmpty, procTidy, tidy}
+use Rattle.text.specs.Writer.{every, isZero, slotEmpty, taskEmpty, semEmpty, queueEmpty, procEmpty, argsEmpty, procTidy, tidy}
 use Rattle.text.specs.ValidLaws.{below-all, all-below}
 use Rattle.targets.specs.MaskTests.{same-truth}
 use Rattle.unused.specs.Unused.{taskFits, semFits, queueFits, procFits, tasksTidy, semsTidy, queuesTidy, slotsTidy, procsTidy, headTidy, Ranged}
@@ -33,16 +33,16 @@ and-true false = refl
 -- ---- places behind a count
 
 module _ {A : Type 0} (f : A → Bool) (d : A) where
-  behind : (xs : List A) (n j : ℕ) → all f (drop n xs) ≡ true → n ≤ j → j < length xs → f (getD xs j d) ≡ true
-  unfolding all
+  behind : (xs : List A) (n j : ℕ) → every f (drop n xs) ≡ true → n ≤ j → j < length xs → f (getD xs j d) ≡ true
+  unfolding every
   behind [] n j e l u = absurd (omega arith)
-  behind (x ∷ xs) zero zero e l u = and-left (f x) (all f xs) e
-  behind (x ∷ xs) zero (suc j) e l u = behind xs zero j (and-right (f x) (all f xs) e) (omega arith) (omega arith)
+  behind (x ∷ xs) zero zero e l u = and-left (f x) (every f xs) e
+  behind (x ∷ xs) zero (suc j) e l u = behind xs zero j (and-right (f x) (every f xs) e) (omega arith) (omega arith)
   behind (x ∷ xs) (suc n) zero e l u = absurd (omega arith)
   behind (x ∷ xs) (suc n) (suc j) e l u = behind xs n j e (omega arith) (omega arith)
 
-  all-behind : (xs : List A) (n : ℕ) → ((j : ℕ) → n ≤ j → j < length xs → f (getD xs j d) ≡ true) → all f (drop n xs) ≡ true
-  unfolding all
+  all-behind : (xs : List A) (n : ℕ) → ((j : ℕ) → n ≤ j → j < length xs → f (getD xs j d) ≡ true) → every f (drop n xs) ≡ true
+  unfolding every
   all-behind [] zero h = refl
   all-behind [] (suc n) h = refl
   all-behind (x ∷ xs) zero h = rw (h 0 (omega arith) (omega arith)) (all-behind xs zero (λ j l u. h (suc j) (omega arith) (omega arith)))
@@ -50,11 +50,11 @@ module _ {A : Type 0} (f : A → Bool) (d : A) where
 
   -- g below the count, f from it on
   split : (g : A → Bool) (xs : List A) (n k : ℕ) → length xs ≡ k → n ≤ k
-      → all f (drop n xs) && allBelow n (λ j. g (getD xs j d)) ≡ allBelow k (λ j. pick (ltb j n) (g (getD xs j d)) (f (getD xs j d)))
+      → every f (drop n xs) && allBelow n (λ j. g (getD xs j d)) ≡ allBelow k (λ j. pick (ltb j n) (g (getD xs j d)) (f (getD xs j d)))
   split g xs n k e l = same-truth (a && b) (allBelow k h) there back
     where
       a : Bool
-      a = all f (drop n xs)
+      a = every f (drop n xs)
 
       b : Bool
       b = allBelow n (λ j. g (getD xs j d))
@@ -74,19 +74,19 @@ module _ {A : Type 0} (f : A → Bool) (d : A) where
           rw (p, q)
 
   -- nothing is asked below the count
-  only-behind : (xs : List A) (n k : ℕ) → length xs ≡ k → n ≤ k → all f (drop n xs) ≡ allBelow k (λ j. pick (ltb j n) true (f (getD xs j d)))
+  only-behind : (xs : List A) (n k : ℕ) → length xs ≡ k → n ≤ k → every f (drop n xs) ≡ allBelow k (λ j. pick (ltb j n) true (f (getD xs j d)))
   only-behind xs n k e l =
-      let a = all f (drop n xs) in
+      let a = every f (drop n xs) in
       sym (and-true a) ∙ ap (λ (b : Bool). a && b) (sym (all-below n (λ j. true) (λ j u. refl))) ∙ split (λ x. true) xs n k e l
 
 -- ---- a procedure
 
-slots-are : (q : Proc) → length (q .slots) ≡ 32 → q .nodes ≤ 32 → all slotEmpty (drop (q .nodes) (q .slots)) && allBelow (q .nodes) (λ j. argsEmpty (nodeIn q j)) ≡ slotsTidy q
+slots-are : (q : Proc) → length (q .slots) ≡ 32 → q .nodes ≤ 32 → every slotEmpty (drop (q .nodes) (q .slots)) && allBelow (q .nodes) (λ j. argsEmpty (nodeIn q j)) ≡ slotsTidy q
 unfolding slotsTidy
 slots-are q e l = split slotEmpty noSlot (λ x. argsEmpty (x .node)) (q .slots) (q .nodes) 32 e l
 
 used-is : (closed : Bool) (q : Proc) → length (q .slots) ≡ 32 → q .nodes ≤ 32 → procTidy closed q ≡ (closed || isZero (q .drop)) && slotsTidy q
-used-is closed q e l = rw (← (slots-are q e l)) (turn (all slotEmpty (drop (q .nodes) (q .slots))) (allBelow (q .nodes) (λ j. argsEmpty (nodeIn q j))) (closed || isZero (q .drop)))
+used-is closed q e l = rw (← (slots-are q e l)) (turn (every slotEmpty (drop (q .nodes) (q .slots))) (allBelow (q .nodes) (λ j. argsEmpty (nodeIn q j))) (closed || isZero (q .drop)))
   where
     turn : (a b c : Bool) → a && (b && c) ≡ c && (a && b)
     turn true true true = refl
@@ -101,12 +101,12 @@ unfolding allBelow
 unused-is q e = cases (isZero (q .nodes))
     (λ z.
     let n = eqb-true (q .nodes) 0 z in
-    let s : all slotEmpty (q .slots) ≡ slotsTidy q = from (q .nodes) n ∙ slots-are q e (omega arith) in
+    let s : every slotEmpty (q .slots) ≡ slotsTidy q = from (q .nodes) n ∙ slots-are q e (omega arith) in
     rw s (regroup (isZero (q .params)) (isZero (q .vars)) (isZero (q .nodes)) (isZero (q .drop)) (slotsTidy q)))
     (λ z. rw z (both-false (isZero (q .params)) (isZero (q .vars)) (slotsTidy q)))
   where
-    from : (k : ℕ) → k ≡ 0 → all slotEmpty (q .slots) ≡ all slotEmpty (drop k (q .slots)) && allBelow k (λ j. argsEmpty (nodeIn q j))
-    from k z = rw z (sym (and-true (all slotEmpty (q .slots))))
+    from : (k : ℕ) → k ≡ 0 → every slotEmpty (q .slots) ≡ every slotEmpty (drop k (q .slots)) && allBelow k (λ j. argsEmpty (nodeIn q j))
+    from k z = rw z (sym (and-true (every slotEmpty (q .slots))))
 
     regroup : (a b c d s : Bool) → a && (b && (c && (d && s))) ≡ (a && (b && (c && d))) && s
     regroup true true true d s = refl
@@ -136,7 +136,7 @@ tidy-is t r a b c d =
       ← (split procEmpty outside (procTidy (t .closed)) (t .proc) (t .procs) 8 d (r .procs)),
     )
     (regroup (allBelow 4 (λ i. taskFits (ltb i (t .tasks)) (getD (t .task) i noTask))) (allBelow 8 (λ i. semFits (ltb i (t .sems)) (getD (t .sem) i noSem)))
-    (all queueEmpty (drop (t .queues) (t .queue))) (allBelow (t .queues) (λ i. t .closed || not (queueAt t i .blank))) (all procEmpty (drop (t .procs) (t .proc))) (allBelow (t .procs) (λ p. procTidy (t .closed) (procAt t p))))
+    (every queueEmpty (drop (t .queues) (t .queue))) (allBelow (t .queues) (λ i. t .closed || not (queueAt t i .blank))) (every procEmpty (drop (t .procs) (t .proc))) (allBelow (t .procs) (λ p. procTidy (t .closed) (procAt t p))))
   where
     regroup : (a b c e d f : Bool) → a && (b && (c && (d && (e && f)))) ≡ a && (b && ((c && e) && (d && f)))
     regroup true true true true d f = refl
@@ -179,15 +179,15 @@ queue-zero closed used x e z = rw (e, eq-eqb (x .cap) 0 z)
 pub queue-cap : (closed used : Bool) (x : Queue) → used ≡ false → (x .cap ≡ 0 → ⊥) → false ≡ queueFits closed used x
 queue-cap closed used x e z = rw (e, ne-eqb (x .cap) 0 z)
 
-pub call-args : {x : Node} {q to : ℕ} (xs : Args) {r : Bool} → x ≡ Call q xs to → r ≡ all isZero (drop (xs .len) (argPlaces xs)) → r ≡ argsEmpty x
+pub call-args : {x : Node} {q to : ℕ} (xs : Args) {r : Bool} → x ≡ Call q xs to → r ≡ every isZero (drop (xs .len) (argPlaces xs)) → r ≡ argsEmpty x
 unfolding argsEmpty
 call-args xs e h = rw e h
 
 pub spare : ℕ → ℕ → ℕ → Bool
 spare len k v = ltb k len || eqb v 0
 
-args-in : (l a b c d : ℕ) → all isZero (drop l (a ∷ b ∷ c ∷ d ∷ [])) ≡ spare l 0 a && (spare l 1 b && (spare l 2 c && spare l 3 d))
-unfolding all spare
+args-in : (l a b c d : ℕ) → every isZero (drop l (a ∷ b ∷ c ∷ d ∷ [])) ≡ spare l 0 a && (spare l 1 b && (spare l 2 c && spare l 3 d))
+unfolding every spare
 args-in zero a b c d = rw (and-true (eqb d 0))
 args-in (suc zero) a b c d = rw (and-true (eqb d 0))
 args-in (suc (suc zero)) a b c d = rw (and-true (eqb d 0))
@@ -196,11 +196,11 @@ args-in (suc (suc (suc (suc l)))) a b c d =
     let n = suc (suc (suc (suc l))) in
     rw (lt-ltb 0 n (omega arith), lt-ltb 1 n (omega arith), lt-ltb 2 n (omega arith), lt-ltb 3 n (omega arith)) (none l)
   where
-    none : (l : ℕ) → all isZero (drop l []) ≡ true
+    none : (l : ℕ) → every isZero (drop l []) ≡ true
     none zero = refl
     none (suc l) = refl
 
-pub args-are : (xs : Args) → all isZero (drop (xs .len) (argPlaces xs)) ≡ spare (xs .len) 0 (xs .a0) && (spare (xs .len) 1 (xs .a1) && (spare (xs .len) 2 (xs .a2) && spare (xs .len) 3 (xs .a3)))
+pub args-are : (xs : Args) → every isZero (drop (xs .len) (argPlaces xs)) ≡ spare (xs .len) 0 (xs .a0) && (spare (xs .len) 1 (xs .a1) && (spare (xs .len) 2 (xs .a2) && spare (xs .len) 3 (xs .a3)))
 args-are xs = args-in (xs .len) (xs .a0) (xs .a1) (xs .a2) (xs .a3)
 
 pub spare-used : (len k v : ℕ) → k < len → true ≡ spare len k v

@@ -12,7 +12,7 @@ ghost use mathlib.Core.Bool.{true};
 ghost use Prim.Native.Nat.{_≤_};
 ghost use lib.ListN.{drop};
 ghost use Rattle.table.specs.Table.{argPlaces};
-ghost use Rattle.text.specs.Writer.{all, isZero, argsEmpty, tidy};
+ghost use Rattle.text.specs.Writer.{every, isZero, argsEmpty, tidy};
 ghost use Rattle.unused.specs.Unused.{taskFits, semFits, queueFits, slotFits, procFits, tasksTidy, semsTidy, queuesTidy, slotsTidy, procsTidy, headTidy, Ranged};
 ghost use Rattle.unused.specs.UnusedLaws.{spare as spareAt};
 
@@ -60,7 +60,7 @@ fn spare(len: u8, k: u8, v: u8) -> bool
 }
 
 fn call_fits(xs: Args) -> bool
-    ensures { λ r. ⌜ r ≡ all isZero (drop (xs .len) (argPlaces xs)) ⌝ }
+    ensures { λ r. ⌜ r ≡ every isZero (drop (xs .len) (argPlaces xs)) ⌝ }
 {
     let a = spare(xs.len, 0, xs.a0);
     let b = spare(xs.len, 1, xs.a1);

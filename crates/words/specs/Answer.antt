@@ -10,7 +10,7 @@ use Rattle.table.specs.Mask.{pick}
 use Rattle.table.specs.declared.Op.{Op}
 use Rattle.table.specs.declared.Op.the-variants.{Add, Sub, And, Or, Xor, Shr, Lt, Eq}
 use Rattle.text.specs.Number.{bytes}
-use Rattle.text.specs.Value.{NodeKind, start, set, test, read, call, wait, signal, send, recv, assert, out, return, choice, kind, operation, kindWord, opWord, same, named, said}
+use Rattle.text.specs.Value.{NodeKind, start, setKind, test, read, call, wait, signal, send, recv, assert, out, return, choice, kind, operation, kindWord, opWord, same, named, said}
 use Rattle.text.specs.Line.{Outcome, took, refused, judged, valueOf, fieldOf}
 use Rattle.scan.specs.Place.{RunEnd}
 use Rattle.words.specs.declared.Quick.{Quick}
@@ -56,7 +56,7 @@ pub record ChoiceAt (a b key s : List ℕ) (at : ℕ) (r : Choice) : Type 0 wher
 
 abbrev pub kindOf : Word → NodeKind
 kindOf Start = start
-kindOf Set = set
+kindOf Set = setKind
 kindOf Test = test
 kindOf Read = read
 kindOf Call = call

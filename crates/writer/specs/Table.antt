@@ -12,7 +12,7 @@ use Rattle.table.specs.declared.Queue.{Queue}
 use Rattle.table.specs.declared.Proc.{Proc}
 use Rattle.table.specs.declared.Table.{Table}
 use Rattle.text.specs.Number.{bytes}
-use Rattle.text.specs.Reader.{concat}
+use Rattle.text.specs.Reader.{concatFrom}
 use Rattle.text.specs.Writer.{fitted}
 use Rattle.text.specs.declared.Writing.{Writing}
 use Rattle.writer.specs.declared.Front.{Front}
@@ -63,7 +63,7 @@ abbrev pub slotBytes : List Slot → ℕ → List ℕ
 slotBytes slots j = nodeBytes j (getD slots j noSlot .node)
 
 abbrev pub procBytes : Bool → ℕ → Proc → List ℕ
-procBytes closed i q = procLineText closed i (q .params) (q .vars) (q .nodes) (q .drop) ++ concat (slotBytes (q .slots)) (q .nodes) 0
+procBytes closed i q = procLineText closed i (q .params) (q .vars) (q .nodes) (q .drop) ++ concatFrom (slotBytes (q .slots)) (q .nodes) 0
 
 abbrev pub procsBytes : Bool → List Proc → ℕ → List ℕ
 procsBytes closed procs i = procBytes closed i (getD procs i outside)
@@ -72,9 +72,9 @@ procsBytes closed procs i = procBytes closed i (getD procs i outside)
 unfoldable pub frontBytes : Front → List ℕ
 frontBytes f = headText (f .trap) (f .closed)
     ++ (countsText (f .tasks) (f .procs) (f .sems) (f .queues)
-    ++ (concat (λ i. taskBytes i (getD (f .task) i noTask)) (f .tasks) 0
-    ++ (concat (λ i. semBytes i (getD (f .sem) i noSem)) (f .sems) 0
-    ++ concat (λ i. queueBytes (f .closed) i (getD (f .queue) i noQueue)) (f .queues) 0)))
+    ++ (concatFrom (λ i. taskBytes i (getD (f .task) i noTask)) (f .tasks) 0
+    ++ (concatFrom (λ i. semBytes i (getD (f .sem) i noSem)) (f .sems) 0
+    ++ concatFrom (λ i. queueBytes (f .closed) i (getD (f .queue) i noQueue)) (f .queues) 0)))
 
 -- ---- the answer: the text with every byte behind it as before; or 8, and every byte as before, where the buffer is shorter than the text
 pub record WrittenAs (s before after : List ℕ) (r : Writing) : Type 0 where

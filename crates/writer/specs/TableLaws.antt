@@ -10,7 +10,7 @@ use Rattle.table.specs.Table.{noTask, noSem, noQueue, taskAt, semAt, queueAt, p
 use Rattle.table.specs.declared.Table.{Table}
 use Rattle.text.specs.Line.{write}
 use Rattle.text.specs.Format.{taskLine, semLine, queueLine, describe}
-use Rattle.text.specs.Reader.{concat}
+use Rattle.text.specs.Reader.{concatFrom}
 use Rattle.text.specs.Writer.{text, procText, scope, nodeText, queueVals, fitted}
 use Rattle.text.specs.Fault.{number}
 use Rattle.put.specs.Put.{Put}
@@ -31,7 +31,7 @@ proc-bytes t i =
 regroup : (a b c d e f : List ℕ) → a ++ (b ++ (c ++ (d ++ (e ++ f)))) ≡ (a ++ (b ++ (c ++ (d ++ e)))) ++ f
 regroup a b c d e f = simp append-assoc
 
-table-text : (t : Table) → text t ≡ frontBytes (frontOf t) ++ concat (procsBytes (t .closed) (t .proc)) (t .procs) 0
+table-text : (t : Table) → text t ≡ frontBytes (frontOf t) ++ concatFrom (procsBytes (t .closed) (t .proc)) (t .procs) 0
 unfolding text frontBytes
 table-text t = rw (
   head-text (t .trap) (t .closed),
@@ -41,16 +41,16 @@ table-text t = rw (
   concat-same (λ i. write (queueLine (t .closed) i) (queueVals (t .closed) i (queueAt t i))) (λ i. queueBytes (t .closed) i (queueAt t i)) (λ i. queue-text (t .closed) i (queueAt t i)) (t .queues) 0,
   concat-same (procText t) (procsBytes (t .closed) (t .proc)) (proc-bytes t) (t .procs) 0,
 ) (regroup (headText (t .trap) (t .closed)) (countsText (t .tasks) (t .procs) (t .sems) (t .queues))
-    (concat (λ i. taskBytes i (taskAt t i)) (t .tasks) 0) (concat (λ i. semBytes i (semAt t i)) (t .sems) 0) (concat (λ i. queueBytes (t .closed) i (queueAt t i)) (t .queues) 0)
-    (concat (procsBytes (t .closed) (t .proc)) (t .procs) 0))
+    (concatFrom (λ i. taskBytes i (taskAt t i)) (t .tasks) 0) (concatFrom (λ i. semBytes i (semAt t i)) (t .sems) 0) (concatFrom (λ i. queueBytes (t .closed) i (queueAt t i)) (t .queues) 0)
+    (concatFrom (procsBytes (t .closed) (t .proc)) (t .procs) 0))
 
 -- the parts, one after another, are the text
 module _ {l m n o i j : List ℕ} {p q r s u : ℕ} where
   pub front-put : (f : Front) → FrontIn f → Put 40 l 0 (headText (f .trap) (f .closed)) m p
       → Put 40 m p (countsText (f .tasks) (f .procs) (f .sems) (f .queues)) n q
-      → Put (40 * f .tasks) n q (concat (λ a. taskBytes a (getD (f .task) a noTask)) (f .tasks) 0) o r
-      → Put (40 * f .sems) o r (concat (λ a. semBytes a (getD (f .sem) a noSem)) (f .sems) 0) i s
-      → Put (40 * f .queues) i s (concat (λ a. queueBytes (f .closed) a (getD (f .queue) a noQueue)) (f .queues) 0) j u
+      → Put (40 * f .tasks) n q (concatFrom (λ a. taskBytes a (getD (f .task) a noTask)) (f .tasks) 0) o r
+      → Put (40 * f .sems) o r (concatFrom (λ a. semBytes a (getD (f .sem) a noSem)) (f .sems) 0) i s
+      → Put (40 * f .queues) i s (concatFrom (λ a. queueBytes (f .closed) a (getD (f .queue) a noQueue)) (f .queues) 0) j u
       → Put 880 l 0 (frontBytes f) j u
   unfolding frontBytes
   front-put f h a b c d w = put-more (omega (arith, h .tasks, h .sems, h .queues)) (put-after a (put-after b (put-after c (put-after d w))))

@@ -17,7 +17,7 @@ use text::Writing;
 ghost use Prim.Native.Nat.{_*_, _≤_};
 ghost use lib.ListN.{getD};
 ghost use Rattle.table.specs.Table.{noTask, noSem, noQueue};
-ghost use Rattle.text.specs.Reader.{concat};
+ghost use Rattle.text.specs.Reader.{concatFrom};
 ghost use Rattle.text.specs.Writer.{text};
 ghost use Rattle.put.specs.Put.{Put, LineAt, LinesAt, TableAt};
 ghost use Rattle.writer.specs.Table.{NodesIn, ProcIn, FrontIn, Counts, taskBytes, semBytes, queueBytes, slotBytes, procBytes, frontBytes, WrittenAs};
@@ -25,7 +25,7 @@ ghost use Rattle.writer.specs.Table.{NodesIn, ProcIn, FrontIn, Counts, t
 // The node lines of a procedure.
 fn put_nodes(out: &mut [u8], at: usize, slots: [Slot; 32], n: u8) -> usize
     requires { ⌜ (LinesAt at) × (NodesIn slots n) ⌝ }
-    ensures { λ r. ⌜ Put (240 * n) (now (out .entry)) at (concat (slotBytes slots) n 0) (now (out .exit)) r ⌝ }
+    ensures { λ r. ⌜ Put (240 * n) (now (out .entry)) at (concatFrom (slotBytes slots) n 0) (now (out .exit)) r ⌝ }
 {
     let mut p = at;
     let mut j: u8 = 0;
@@ -58,7 +58,7 @@ fn put_task(out: &mut [u8], at: usize, i: u8, x: Task) -> usize
 
 fn put_tasks(out: &mut [u8], at: usize, tasks: [Task; 4], n: u8) -> usize
     requires { ⌜ (TableAt at) × (n ≤ 4) ⌝ }
-    ensures { λ r. ⌜ Put (40 * n) (now (out .entry)) at (concat (λ i. taskBytes i (getD tasks i noTask)) n 0) (now (out .exit)) r ⌝ }
+    ensures { λ r. ⌜ Put (40 * n) (now (out .entry)) at (concatFrom (λ i. taskBytes i (getD tasks i noTask)) n 0) (now (out .exit)) r ⌝ }
 {
     let mut p = at;
     let mut i: u8 = 0;
@@ -80,7 +80,7 @@ fn put_sem(out: &mut [u8], at: usize, i: u8, x: Sem) -> usize
 
 fn put_sems(out: &mut [u8], at: usize, sems: [Sem; 8], n: u8) -> usize
     requires { ⌜ (TableAt at) × (n ≤ 8) ⌝ }
-    ensures { λ r. ⌜ Put (40 * n) (now (out .entry)) at (concat (λ i. semBytes i (getD sems i noSem)) n 0) (now (out .exit)) r ⌝ }
+    ensures { λ r. ⌜ Put (40 * n) (now (out .entry)) at (concatFrom (λ i. semBytes i (getD sems i noSem)) n 0) (now (out .exit)) r ⌝ }
 {
     let mut p = at;
     let mut i: u8 = 0;
@@ -95,7 +95,7 @@ fn put_sems(out: &mut [u8], at: usize, sems: [Sem; 8], n: u8) -> usize
 
 fn put_queues(out: &mut [u8], at: usize, closed: bool, queues: [Queue; 8], n: u8) -> usize
     requires { ⌜ (TableAt at) × (n ≤ 8) ⌝ }
-    ensures { λ r. ⌜ Put (40 * n) (now (out .entry)) at (concat (λ i. queueBytes closed i (getD queues i noQueue)) n 0) (now (out .exit)) r ⌝ }
+    ensures { λ r. ⌜ Put (40 * n) (now (out .entry)) at (concatFrom (λ i. queueBytes closed i (getD queues i noQueue)) n 0) (now (out .exit)) r ⌝ }
 {
     let mut p = at;
     let mut i: u8 = 0;

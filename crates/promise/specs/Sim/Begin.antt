@@ -13,7 +13,7 @@ use borrow.Author.Tests.{eqb-true, eqb-false, ltb-true, ltb-false, lt-ltb, le-lt
 use Rattle.table.specs.Mask.{pick}
 use Rattle.table.specs.Table.{procAt, taskAt}
 use Rattle.table.specs.declared.Table.{Table}
-use Rattle.text.specs.Reader.{concat}
+use Rattle.text.specs.Reader.{concatFrom}
 use Rattle.closing.specs.ReachLaws.{cases}
 use Rattle.closing.specs.Dirty.{here, from-entry, top}
 use Rattle.closing.specs.Close.{closedWith, closeTable}
@@ -127,7 +127,7 @@ module _ (t : Table) (wf : Wf t) where
   first-depths = concat-length (λ i. pick (ltb i (t .tasks)) 1 0) 4 0
 
   first-places : (u : Table) → length (firstState u .frames) ≡ 32
-  unfolding firstState concat
+  unfolding firstState concatFrom
   first-places u = refl
 
   -- but for the frames the closed table's first state is the open one's

@@ -12,7 +12,7 @@ use lib.Dec.{eqb}
 use lib.IntN.{ℤ, pos}
 use Rattle.table.specs.Mask.{pick, members}
 use Rattle.table.specs.Values.{apply, holds}
-use Rattle.table.specs.Table.{nodeAt, procAt, removed, operandUses, uses, sets, arcTo, arcNo, arcs, isAbsent, ifClean, keeping}
+use Rattle.table.specs.Table.{nodeAt, procAt, removed, operandUses, uses, variableSet, arcTo, arcNo, arcs, isAbsent, ifClean, keeping}
 use Rattle.table.specs.declared.Op.{Op}
 use Rattle.table.specs.declared.Operand.{Operand}
 use Rattle.table.specs.declared.Operand.the-variants.{Var, Const}
@@ -64,7 +64,7 @@ module _ (t : Table) where
   by-no p n a e s = record { to = s .0; one = s .1; into = Memᴰ·append-right (members (arcTo (nodeAt t p n))) {t = members (arcNo (nodeAt t p n))} (rw (e, s .1) (List·Memᴰ·head refl)) }
 
   module _ (wf : Wf t) (p n : ℕ) (la : Last) (h g : Memory) (r : Locals t p n la (h .vars) (g .vars)) (s : Shared t (h .sems) (h .queues) (g .sems) (g .queues)) where
-    sets-16 : (v : ℕ) → sets (nodeAt t p n) ≡ some v → v < 16
+    sets-16 : (v : ℕ) → variableSet (nodeAt t p n) ≡ some v → v < 16
     sets-16 v e = omega (arith, wf .sets< p n v e, wf .vars p)
 
     -- a test's arcs
@@ -85,11 +85,11 @@ module _ (t : Table) where
       pub shared : Shared t (mem .sems) (mem .queues) (mem′ .sems) (mem′ .queues)
 
     -- one that changes nothing
-    unchanged : (x : Node) (a : ℕ) (vs : List ℤ) → nodeAt t p n ≡ x → sets x ≡ none → Leading p n a → exec x h vs ≡ goes a h vs → ((ws : List ℤ) → exec (closing p n x) g ws ≡ goes (arcOf p a) g ws) → Matched x vs
-    unchanged x a vs e i l o c = record { arc = a; mem = h; mem′ = g; opens = o; closes = c; leading = l; locals = move t p n (l .to) la _ _ (ap sets e ∙ i) (l .into) r; shared = s }
+    unchanged : (x : Node) (a : ℕ) (vs : List ℤ) → nodeAt t p n ≡ x → variableSet x ≡ none → Leading p n a → exec x h vs ≡ goes a h vs → ((ws : List ℤ) → exec (closing p n x) g ws ≡ goes (arcOf p a) g ws) → Matched x vs
+    unchanged x a vs e i l o c = record { arc = a; mem = h; mem′ = g; opens = o; closes = c; leading = l; locals = move t p n (l .to) la _ _ (ap variableSet e ∙ i) (l .into) r; shared = s }
 
     -- one that changes a semaphore alike
-    counted : (x : Node) (a i c : ℕ) (vs : List ℤ) → nodeAt t p n ≡ x → sets x ≡ none → Leading p n a → exec x h vs ≡ goes a (withSem i c h) vs → ((ws : List ℤ) → exec (closing p n x) g ws ≡ goes (arcOf p a) (withSem i c g) ws) → Matched x vs
+    counted : (x : Node) (a i c : ℕ) (vs : List ℤ) → nodeAt t p n ≡ x → variableSet x ≡ none → Leading p n a → exec x h vs ≡ goes a (withSem i c h) vs → ((ws : List ℤ) → exec (closing p n x) g ws ≡ goes (arcOf p a) (withSem i c g) ws) → Matched x vs
     counted x a i c vs e j l o k = record {
       arc = a;
       mem = withSem i c h;
@@ -97,7 +97,7 @@ module _ (t : Table) where
       opens = o;
       closes = k;
       leading = l;
-      locals = move t p n (l .to) la _ _ (ap sets e ∙ j) (l .into) r;
+      locals = move t p n (l .to) la _ _ (ap variableSet e ∙ j) (l .into) r;
       shared = record { sems = ap (λ (z : List ℕ). set z i c) (s .sems); sizes = s .sizes; lens = s .lens; keeps = s .keeps };
     }
 
@@ -128,11 +128,11 @@ module _ (t : Table) where
         clean w m = let k = rw (← u, ← e) at m in (wf .uses< p n w k, kept-clean w c (ap keeping e ∙ i) k)
 
     set-sim : (v : ℕ) (o : Op) (a b : Operand) (to : ℕ) → nodeAt t p n ≡ Set v o a b to → keptAt t p n ≡ true → (vs : List ℤ) → Matched (Set v o a b to) vs
-    unfolding exec closedNode sets uses keeping arcTo
+    unfolding exec closedNode variableSet uses keeping arcTo
     set-sim v o a b to e c vs =
         let q = operands-eq (Set v o a b to) a b e refl refl c in
         let z = apply o (operandIn (g .vars) a) (operandIn (g .vars) b) in
-        let v< = sets-16 v (ap sets e) in
+        let v< = sets-16 v (ap variableSet e) in
         let l = by-to p n to (ap arcTo e) (rw e at (wf .one p n)) in
         record {
           arc = to;
@@ -141,14 +141,14 @@ module _ (t : Table) where
           opens = refl;
           closes = λ ws. refl;
           leading = l;
-          locals = move-set t p n (l .to) v _ la _ (g .vars) (set (g .vars) v z) (ap sets e) (l .into) r (length-set (g .vars) v z ∙ r .closed-size)
+          locals = move-set t p n (l .to) v _ la _ (g .vars) (set (g .vars) v z) (ap variableSet e) (l .into) r (length-set (g .vars) v z ∙ r .closed-size)
               (λ w i. getD-set-other (g .vars) v w z (pos 0) i)
               (λ _. rw (getD-set-same (g .vars) v z (pos 0) (omega (arith, r .closed-size))) (ap₂ (apply o) (q .0) (q .1))) v<;
           shared = s;
         }
 
     test-sim : (o : Op) (a b : Operand) (y k : ℕ) → nodeAt t p n ≡ Test o a b y k → keptAt t p n ≡ true → (vs : List ℤ) → Matched (Test o a b y k) vs
-    unfolding exec closedNode sets uses keeping
+    unfolding exec closedNode variableSet uses keeping
     test-sim o a b y k e c vs =
         let q = operands-eq (Test o a b y k) a b e refl refl c in
         let z = holds (apply o (operandIn (h .vars) a) (operandIn (h .vars) b)) in
@@ -164,7 +164,7 @@ module _ (t : Table) where
     sent-eq q v to e c = rw (D-false t (blank q) c) (clean-use t p n v la _ _ r (wf .uses< p n v (rw e (List·Memᴰ·head refl))) (λ d. c (sent p n v to e d)))
 
     send-sim : (q v to : ℕ) → nodeAt t p n ≡ Send q v to → (vs : List ℤ) → Matched (Send q v to) vs
-    unfolding exec closedNode sets arcTo
+    unfolding exec closedNode variableSet arcTo
     send-sim q v to e vs =
         let l = by-to p n to (ap arcTo e) (rw e at (wf .one p n)) in
         record {
@@ -174,18 +174,18 @@ module _ (t : Table) where
           opens = refl;
           closes = λ ws. refl;
           leading = l;
-          locals = move t p n (l .to) la _ _ (ap sets e) (l .into) r;
+          locals = move t p n (l .to) la _ _ (ap variableSet e) (l .into) r;
           shared = queued q _ _ (ap (λ (z : ℕ). z + 1) (s .lens q)) (λ c. ap₂ appended (sent-eq q v to e c) (s .keeps q c));
         }
 
     -- what a `recv` leaves in the variables
     received : (q v to m : ℕ) → nodeAt t p n ≡ Recv q v to → List·Memᴰ m (arcs (nodeAt t p n))
         → Locals t p m (mark t p n la) (set (h .vars) v (oldest (entriesAt (h .queues) q))) (set (g .vars) (queueOr t (dirty t) q v) (oldest (entriesAt (g .queues) q)))
-    unfolding sets
+    unfolding variableSet
     received q v to m e a = cases (D t (blank q))
-        (λ k. rw (k, removed-set (g .vars) (oldest (entriesAt (g .queues) q)) (r .closed-size)) (move-set t p n m v _ la _ (g .vars) (g .vars) (ap sets e) a r (r .closed-size) (λ w i. refl)
+        (λ k. rw (k, removed-set (g .vars) (oldest (entriesAt (g .queues) q)) (r .closed-size)) (move-set t p n m v _ la _ (g .vars) (g .vars) (ap variableSet e) a r (r .closed-size) (λ w i. refl)
         (λ c. absurd (c (by-recv q v to e (is-dirty t (blank q) k)))) v<))
-        (λ k. rw k (move-set t p n m v _ la _ (g .vars) (set (g .vars) v y) (ap sets e) a r (length-set (g .vars) v y ∙ r .closed-size)
+        (λ k. rw k (move-set t p n m v _ la _ (g .vars) (set (g .vars) v y) (ap variableSet e) a r (length-set (g .vars) v y ∙ r .closed-size)
         (λ w i. getD-set-other (g .vars) v w y (pos 0) i)
         (λ c. rw (getD-set-same (g .vars) v y (pos 0) (omega (arith, r .closed-size, v<))) (ap oldest (s .keeps q (not-dirty t (blank q) k)))) v<))
       where
@@ -193,7 +193,7 @@ module _ (t : Table) where
         y = oldest (entriesAt (g .queues) q)
 
         v< : v < 16
-        v< = sets-16 v (ap sets e)
+        v< = sets-16 v (ap variableSet e)
 
     recv-sim : (q v to : ℕ) → nodeAt t p n ≡ Recv q v to → (vs : List ℤ) → Matched (Recv q v to) vs
     unfolding exec closedNode arcTo
@@ -211,7 +211,7 @@ module _ (t : Table) where
         }
 
     pub exec-sim : (x : Node) → nodeAt t p n ≡ x → flow x ≡ stays → keptAt t p n ≡ true → (vs : List ℤ) → Matched x vs
-    unfolding exec closedNode sets arcTo flow kept keeping
+    unfolding exec closedNode variableSet arcTo flow kept keeping
     exec-sim Absent e f c vs = absurd (false≢true (sym (ap (kept (dirty t) p n) e) ∙ c))
     exec-sim (Start to) e f c vs = unchanged (Start to) to vs e refl (by-to p n to (ap arcTo e) (rw e at (wf .one p n))) refl (λ ws. refl)
     exec-sim (Set v o a b to) e f c vs = set-sim v o a b to e c vs
@@ -235,7 +235,7 @@ module _ (t : Table) where
       pub shared : Shared t (m .sems) (m .queues) (g .sems) (g .queues)
 
     -- it sets its variable dirty
-    set-dirty : (v : ℕ) (x : ℤ) (a : ℕ) (vs : List ℤ) → sets (nodeAt t p n) ≡ some v → Leading p n a → Dirty t (settingAt p n) → Passed a (assign v x h) vs
+    set-dirty : (v : ℕ) (x : ℤ) (a : ℕ) (vs : List ℤ) → variableSet (nodeAt t p n) ≡ some v → Leading p n a → Dirty t (settingAt p n) → Passed a (assign v x h) vs
     set-dirty v x a vs e l d = record {
       leading = l;
       locals = move-set t p n (l .to) v x la _ (g .vars) (g .vars) e (l .into) r (r .closed-size) (λ w i. refl) (λ c. absurd (c d)) (sets-16 v e);
@@ -243,9 +243,9 @@ module _ (t : Table) where
     }
 
     read-sim : (v to : ℕ) → nodeAt t p n ≡ Read v to → (vs : List ℤ) → WhenGoes Passed (readOf v to h vs)
-    unfolding sets arcTo
+    unfolding variableSet arcTo
     read-sim v to e [] = tt
-    read-sim v to e (x ∷ vs) = set-dirty v x to vs (ap sets e) (by-to p n to (ap arcTo e) (rw e at (wf .one p n))) (by-read v to e)
+    read-sim v to e (x ∷ vs) = set-dirty v x to vs (ap variableSet e) (by-to p n to (ap arcTo e) (rw e at (wf .one p n))) (by-read v to e)
 
     -- a `set` that is not kept has a dirty use
     unkept-set : (v : ℕ) (o : Op) (a b : Operand) (to : ℕ) → nodeAt t p n ≡ Set v o a b to → Unkept t p n → Dirty t (settingAt p n)
@@ -254,12 +254,12 @@ module _ (t : Table) where
     unkept-set v o a b to e (dirty-use u k m d) = by-set v o a b to u e m d
 
     pub dropped-sim : (x : Node) → nodeAt t p n ≡ x → isAbsent x ≡ false → keptAt t p n ≡ false → (vs : List ℤ) → WhenGoes Passed (exec x h vs)
-    unfolding exec sets arcTo kept keeping isAbsent
+    unfolding exec variableSet arcTo kept keeping isAbsent
     dropped-sim Absent e i c vs = absurd (true≢false i)
     dropped-sim (Start to) e i c vs = absurd (true≢false (sym (ap (kept (dirty t) p n) e) ∙ c))
-    dropped-sim (Set v o a b to) e i c vs = set-dirty v _ to vs (ap sets e) (by-to p n to (ap arcTo e) (rw e at (wf .one p n))) (unkept-set v o a b to e (unkept-is t p n .0 c))
+    dropped-sim (Set v o a b to) e i c vs = set-dirty v _ to vs (ap variableSet e) (by-to p n to (ap arcTo e) (rw e at (wf .one p n))) (unkept-set v o a b to e (unkept-is t p n .0 c))
     dropped-sim (Test o a b y k) e i c vs = let l = by-test o a b y k (holds (apply o (operandIn (h .vars) a) (operandIn (h .vars) b))) e in
-        record { leading = l; locals = move t p n (l .to) la _ _ (ap sets e) (l .into) r; shared = s }
+        record { leading = l; locals = move t p n (l .to) la _ _ (ap variableSet e) (l .into) r; shared = s }
     dropped-sim (Read v to) e i c vs = read-sim v to e vs
     dropped-sim (Call q xs to) e i c vs = absurd (true≢false (sym (ap (kept (dirty t) p n) e) ∙ c))
     dropped-sim (Wait k to) e i c vs = absurd (true≢false (sym (ap (kept (dirty t) p n) e) ∙ c))

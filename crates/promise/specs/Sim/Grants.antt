@@ -8,7 +8,7 @@ use mathlib.Core.List.{List, [], _∷_, _++_, List·Memᴰ, List·Memᴰ·head, 
 use lib.ListN.{length, getD, take}
 use borrow.Author.Tests.{eqb-true}
 use Rattle.table.specs.Mask.{bit, membersFrom}
-use Rattle.table.specs.Table.{nodeAt, procAt, taskAt, argPlaces, operandUses, uses, sets, arcTo, arcNo, arcs, isAbsent}
+use Rattle.table.specs.Table.{nodeAt, procAt, taskAt, argPlaces, operandUses, uses, variableSet, arcTo, arcNo, arcs, isAbsent}
 use Rattle.table.specs.declared.Operand.{Operand}
 use Rattle.table.specs.declared.Operand.the-variants.{Var, Const}
 use Rattle.table.specs.declared.Node.{Node}
@@ -39,7 +39,7 @@ operand-below n (Const x) h = all-nil (λ u. u < n)
 -- what is granted of a node of a procedure with so many variables
 record Granted (t : Table) (vars : ℕ) (x : Node) : Type 0 where
   uses< : All (λ u. u < vars) (uses x)
-  sets< : (w : ℕ) → sets x ≡ some w → w < vars
+  sets< : (w : ℕ) → variableSet x ≡ some w → w < vars
   one : OneTarget x
   declared : Declared t x
 
@@ -54,7 +54,7 @@ module _ (t : Table) (z : fault t ≡ 0) (o : t .closed ≡ false) where
   operands p a b h k = all-append _ (operandUses a) (operandUses b) (operand-below _ a h) (operand-below _ b k)
 
   granted : (p n : ℕ) (x : Node) → NodeValid (scope t (procAt t p)) n x → countRight t x ≡ true → Granted t (procAt t p .vars) x
-  unfolding uses sets countRight
+  unfolding uses variableSet countRight
   granted p n Absent h k = record { uses< = all-nil _; sets< = λ w e. no (cc); one = tt; declared = tt }
   granted p n (Start to) h k = record { uses< = all-nil _; sets< = λ w e. no (cc); one = h .1 .1 o; declared = tt }
   granted p n (Set x i a b to) h k = record { uses< = operands p a b (h .2) (h .3); sets< = λ w e. let q : x ≡ w = cc in rw q at (h .1); one = h .4 .1 o; declared = tt }
@@ -81,7 +81,7 @@ module _ (t : Table) (z : fault t ≡ 0) (o : t .closed ≡ false) where
       (λ e. let i = inside-of t z p n e in f (i .0) (i .1))
 
   every : (p n : ℕ) → Granted t (procAt t p .vars) (nodeAt t p n)
-  unfolding uses sets
+  unfolding uses variableSet
   every p n = at-node (Granted t (procAt t p .vars)) p n
       (record { uses< = all-nil _; sets< = λ w e. no (cc); one = tt; declared = tt })
       (λ l m. granted p n (nodeAt t p n) (v .lines .proc p l .node n m) (v .counts p n l m))

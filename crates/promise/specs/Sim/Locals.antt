@@ -12,7 +12,7 @@ use lib.Dec.{eqb}
 use lib.IntN.{ℤ, pos}
 use borrow.Author.Tests.{eqb-true, eqb-false, eq-eqb}
 use Rattle.table.specs.Mask.{pick}
-use Rattle.table.specs.Table.{nodeAt, procAt, sets, arcs}
+use Rattle.table.specs.Table.{nodeAt, procAt, variableSet, arcs}
 use Rattle.table.specs.declared.Table.{Table}
 use Rattle.closing.specs.ReachLaws.{cases}
 use Rattle.closing.specs.Dirty.{Fact, settingAt, useAt, dropped, blank, Dirty, here, from-node}
@@ -53,7 +53,7 @@ module _ (t : Table) where
 
   -- after node n of p
   abbrev pub mark : ℕ → ℕ → Last → Last
-  mark p n la v = pick (setsVar (sets (nodeAt t p n)) v) (some n) (la v)
+  mark p n la v = pick (setsVar (variableSet (nodeAt t p n)) v) (some n) (la v)
 
   -- after the nodes ns
   abbrev pub marks : ℕ → Last → List ℕ → Last
@@ -64,13 +64,13 @@ module _ (t : Table) where
   marks-append p v o [] ms = refl
   marks-append p v o (n ∷ ns) ms = marks-append p v _ ns ms
 
-  pub mark-other : (p n v : ℕ) (la : Last) → sets (nodeAt t p n) ≢ some v → mark p n la v ≡ la v
-  mark-other p n v la h = rw (setsVar-other (sets (nodeAt t p n)) v h)
+  pub mark-other : (p n v : ℕ) (la : Last) → variableSet (nodeAt t p n) ≢ some v → mark p n la v ≡ la v
+  mark-other p n v la h = rw (setsVar-other (variableSet (nodeAt t p n)) v h)
 
-  pub mark-same : (p n v : ℕ) (la : Last) → sets (nodeAt t p n) ≡ some v → mark p n la v ≡ some n
+  pub mark-same : (p n v : ℕ) (la : Last) → variableSet (nodeAt t p n) ≡ some v → mark p n la v ≡ some n
   mark-same p n v la e = rw (e, eq-eqb v v refl)
 
-  pub sets-nothing : (p n v : ℕ) → sets (nodeAt t p n) ≡ none → sets (nodeAt t p n) ≢ some v
+  pub sets-nothing : (p n v : ℕ) → variableSet (nodeAt t p n) ≡ none → variableSet (nodeAt t p n) ≢ some v
   sets-nothing p n v e e′ = let z : _≡_ {A = ℕ} 0 1 = cc in absurd (omega arith)
 
   pub clean-is : (p v : ℕ) (o : Option ℕ) → CleanSetting t p v o → Dirty t (settingOf p v o) → ⊥
@@ -99,7 +99,7 @@ module _ (t : Table) where
   }
 
   -- along an arc of a node that sets nothing
-  pub move : (p n m : ℕ) (la : Last) (lo lc : List ℤ) → sets (nodeAt t p n) ≡ none → List·Memᴰ m (arcs (nodeAt t p n)) → Locals p n la lo lc → Locals p m (mark p n la) lo lc
+  pub move : (p n m : ℕ) (la : Last) (lo lc : List ℤ) → variableSet (nodeAt t p n) ≡ none → List·Memᴰ m (arcs (nodeAt t p n)) → Locals p n la lo lc → Locals p m (mark p n la) lo lc
   move p n m la lo lc e a r = still p m la (mark p n la) lo lc (λ v. mark-other p n v la (sets-nothing p n v e)) (record {
     open-size = r .open-size;
     closed-size = r .closed-size;
@@ -108,9 +108,9 @@ module _ (t : Table) where
   })
 
   -- along an arc of a node that sets v, in the open run to x and in the closed run as lc′ says
-  module _ (p n m v : ℕ) (x : ℤ) (la : Last) (lo lc lc′ : List ℤ) (e : sets (nodeAt t p n) ≡ some v) (a : List·Memᴰ m (arcs (nodeAt t p n))) (r : Locals p n la lo lc)
+  module _ (p n m v : ℕ) (x : ℤ) (la : Last) (lo lc lc′ : List ℤ) (e : variableSet (nodeAt t p n) ≡ some v) (a : List·Memᴰ m (arcs (nodeAt t p n))) (r : Locals p n la lo lc)
       (size : length lc′ ≡ 16) (other : (w : ℕ) → w ≢ v → varAt lc′ w ≡ varAt lc w) (new : (Dirty t (settingAt p n) → ⊥) → x ≡ varAt lc′ v) (v< : v < 16) where
-    not-set : (w : ℕ) → w ≢ v → sets (nodeAt t p n) ≢ some w
+    not-set : (w : ℕ) → w ≢ v → variableSet (nodeAt t p n) ≢ some w
     not-set w i e′ = i cc
 
     set-agree : (w : ℕ) → w < procAt t p .vars → (Dirty t (settingOf p w (mark p n la w)) → ⊥) → varAt (set lo v x) w ≡ varAt lc′ w

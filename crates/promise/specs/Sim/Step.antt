@@ -9,7 +9,7 @@ use lib.Dec.{eqb}
 use lib.IntN.{ℤ}
 use borrow.Author.Tests.{eqb-true, eqb-false, leb-false}
 use Rattle.table.specs.Mask.{pick}
-use Rattle.table.specs.Table.{nodeAt, sets, arcTo}
+use Rattle.table.specs.Table.{nodeAt, variableSet, arcTo}
 use Rattle.table.specs.declared.Args.{Args}
 use Rattle.table.specs.declared.Node.{Node}
 use Rattle.table.specs.declared.Node.the-variants.{Absent, Start, Set, Test, Read, Call, Wait, Signal, Send, Recv, Assert, Out, Return}
@@ -227,12 +227,12 @@ module _ (t : Table) (wf : Wf t) (most most′ : ℕ) (h : History) (s s′ : St
       call-leading = by-to t (g .proc) (g .node) (arcTo (nodeOf t g)) refl (rw (its-call .3) (rw (its-call .3) at (wf .one (g .proc) (g .node))))
 
       caller-locals : Locals t (g .proc) (call-leading .to) la₁ (g .vars) (g′ .vars)
-      unfolding sets
+      unfolding variableSet
       caller-locals =
           let p = g .proc in
           let n = g .node in
           let l = call-leading in
-          let no-set : sets (nodeAt t p n) ≡ none = ap sets (its-call .3) in
+          let no-set : variableSet (nodeAt t p n) ≡ none = ap variableSet (its-call .3) in
           still t p (l .to) (mark t p n la₁) la₁ (g .vars) (g′ .vars) (λ v. sym (mark-other t p n v la₁ (sets-nothing t p n v no-set))) (move t p n (l .to) la₁ (g .vars) (g′ .vars) no-set (l .into) (caller .locals))
 
       resume : List ℤ → ℕ → ℕ → Frame → ℕ → Step
@@ -267,7 +267,7 @@ module _ (t : Table) (wf : Wf t) (most most′ : ℕ) (h : History) (s s′ : St
         (along-sim t wf p most most′ (g j open-is .node) a (la₁ j open-is) (memory s (g j open-is)) (memory s′ (g′ j open-is)) vs (call-leading j open-is) (caller-locals j open-is) (q .shared))
 
     -- ---- a call
-    call-below : (i : ℕ) → sets x ≡ none → i < d → SameFrame t (entered k d (executed k (d - 1) (f .node ∷ []) h) k i) (frameAt s k i) (frameAt s′ k i)
+    call-below : (i : ℕ) → variableSet x ≡ none → i < d → SameFrame t (entered k d (executed k (d - 1) (f .node ∷ []) h) k i) (frameAt s k i) (frameAt s′ k i)
     unfolding lastSetting
     call-below i none-set l = rw (entered-other k d k i (executed k (d - 1) (f .node ∷ []) h) (λ _ z. absurd (omega arith))) (cases (eqb i (d - 1))
         (λ b. rw (eqb-true i (d - 1) b) (rw (executed-here k (d - 1) (f .node ∷ []) h) (let r = task .frame (d - 1) (omega arith) in record {
@@ -279,7 +279,7 @@ module _ (t : Table) (wf : Wf t) (most most′ : ℕ) (h : History) (s s′ : St
         (λ b. rw (executed-other k (d - 1) k i (f .node ∷ []) h (λ _. eqb-false i (d - 1) b)) (task .frame i l)))
 
     call-sim : (c to : ℕ) (xs : Args) → x ≡ Call c xs to → (vs : List ℤ) → WhenStepped Done (flowed t (keptAt t) most e s k f x vs (calls c xs))
-    unfolding stepOf flow closedNode blockedAt sets
+    unfolding stepOf flow closedNode blockedAt variableSet
     call-sim c to xs i vs =
         let less : d < 8 = leb-false 8 d (sym (ap (blockedAt t s k) i) ∙ free) in
         let xs′ = argsOr t (dirty t) c xs in
@@ -303,7 +303,7 @@ module _ (t : Table) (wf : Wf t) (most most′ : ℕ) (h : History) (s s′ : St
                 locals = rw (entered-here k d (executed k (d - 1) (f .node ∷ []) h)) (call-locals t wf (f .proc) (f .node) c to xs la (f .vars) (f′ .vars) i (top .locals));
               })
               (first-kept t c ((rw i at (wf .declared (f .proc) (f .node))) .1))
-              (λ j l. call-below j (ap sets i) l)
+              (λ j l. call-below j (ap variableSet i) l)
               (λ j l. cases (eqb j (d - 1))
               (λ b. rw (eqb-true j (d - 1) b) (c, xs, to, i))
               (λ b. task .calls j (omega (arith, eqb-false j (d - 1) b))))

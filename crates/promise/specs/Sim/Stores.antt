@@ -10,7 +10,7 @@ use lib.ListN.{length, getD, getElem?, set, take, length-set}
 use lib.Seq.{sets, set-out, getD-set-same, getD-set-other}
 use lib.Dec.{eqb, ltb}
 use borrow.Author.Tests.{eqb-true, eqb-false, ltb-true, ltb-false}
-use Rattle.text.specs.Reader.{concat}
+use Rattle.text.specs.Reader.{concatFrom}
 use Rattle.closing.specs.ReachLaws.{cases}
 use Rattle.machine.specs.State.{place}
 
@@ -39,14 +39,14 @@ frame-other l k j k′ j′ a d lj lj′ h = getD-set-other l (place k j) (place
 
 -- ---- lists made place by place
 
-pub concat-at : {A : Type 0} (f : ℕ → A) (n i j : ℕ) (d : A) → j < n → getD (concat (λ m. f m ∷ []) n i) j d ≡ f (i + j)
-unfolding concat
+pub concat-at : {A : Type 0} (f : ℕ → A) (n i j : ℕ) (d : A) → j < n → getD (concatFrom (λ m. f m ∷ []) n i) j d ≡ f (i + j)
+unfolding concatFrom
 concat-at f zero i j d l = absurd (omega arith)
 concat-at f (suc n) i zero d l = rw add-zero
 concat-at f (suc n) i (suc j) d l = rw (add-suc, ← suc-add i j) (concat-at f n (suc i) j d (omega arith))
 
-pub concat-length : {A : Type 0} (f : ℕ → A) (n i : ℕ) → length (concat (λ m. f m ∷ []) n i) ≡ n
-unfolding concat
+pub concat-length : {A : Type 0} (f : ℕ → A) (n i : ℕ) → length (concatFrom (λ m. f m ∷ []) n i) ≡ n
+unfolding concatFrom
 concat-length f zero i = refl
 concat-length f (suc n) i = ap suc (concat-length f n (suc i))
 

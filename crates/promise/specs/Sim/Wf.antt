@@ -5,7 +5,7 @@ use mathlib.Core.Bool.{false}
 use mathlib.Core.Option.{some}
 use mathlib.Core.List.{[], _∷_, List·Memᴰ}
 use Rattle.table.specs.Mask.{members}
-use Rattle.table.specs.Table.{nodeAt, procAt, taskAt, uses, sets, arcs, isAbsent}
+use Rattle.table.specs.Table.{nodeAt, procAt, taskAt, uses, variableSet, arcs, isAbsent}
 use Rattle.table.specs.declared.Node.{Node}
 use Rattle.table.specs.declared.Node.the-variants.{Absent, Start, Set, Test, Read, Call, Wait, Signal, Send, Recv, Assert, Out, Return}
 use Rattle.table.specs.declared.Table.{Table}
@@ -55,7 +55,7 @@ pub record Wf (t : Table) : Type 0 where
   pub params : (p : ℕ) → procAt t p .params ≤ 4
   pub vars : (p : ℕ) → procAt t p .vars ≤ 16
   pub uses< : (p n u : ℕ) → List·Memᴰ u (uses (nodeAt t p n)) → u < procAt t p .vars
-  pub sets< : (p n v : ℕ) → sets (nodeAt t p n) ≡ some v → v < procAt t p .vars
+  pub sets< : (p n v : ℕ) → variableSet (nodeAt t p n) ≡ some v → v < procAt t p .vars
   pub one : (p n : ℕ) → OneTarget (nodeAt t p n)
   pub declared : (p n : ℕ) → Declared t (nodeAt t p n)
   pub present : (p n m : ℕ) → List·Memᴰ m (arcs (nodeAt t p n)) → isAbsent (nodeAt t p m) ≡ false
