@@ -4,15 +4,19 @@ use native.Mathlib.Omega.{arith}
 use mathlib.Core.Path.{_≡_, refl, ap, _∙_}
 use mathlib.Core.Bool.{Bool, true, false}
 use mathlib.Core.List.{List, [], _∷_, map}
-use lib.ListN.{length, getD, set, length-set}
+use lib.ListN.{length, getD, set, length-set, List·getD-map}
 use lib.Seq.{getD-set-same, getD-set-other}
 use lib.Dec.{eqb}
 use lib.IntN.{ℤ, pos}
 use borrow.Author.Tests.{eqb-true, eqb-false}
+use Rattle.table.specs.Shape.{Shaped}
+use Rattle.table.specs.Table.{noQueue, queueAt}
+use Rattle.table.specs.declared.Queue.{Queue}
+use Rattle.table.specs.declared.Table.{Table}
 use Rattle.machine.specs.declared.Frame.{Frame}
 use Rattle.machine.specs.declared.Entries.{Entries}
 use Rattle.machine.specs.State.{entriesAt}
-use Rattle.columns.specs.Columns.{framesOf, queuesOf, procsOf, nodesOf, varsOf, lensOf, itemsOf}
+use Rattle.columns.specs.Columns.{framesOf, queuesOf, procsOf, nodesOf, varsOf, lensOf, itemsOf, capsOf}
 
 -- ---- frames
 
@@ -129,16 +133,28 @@ rows-set r i l e h q k = either r i q (h q k)
     either (x ∷ r) (suc i) zero z = z
     either (x ∷ r) (suc i) (suc q) z = either r i q z
 
-pub eight : (f : ℕ → ℕ) (q : ℕ) → q < 8 → getD (f 0 ∷ f 1 ∷ f 2 ∷ f 3 ∷ f 4 ∷ f 5 ∷ f 6 ∷ f 7 ∷ []) q 0 ≡ f q
-eight f zero h = refl
-eight f (suc zero) h = refl
-eight f (suc (suc zero)) h = refl
-eight f (suc (suc (suc zero))) h = refl
-eight f (suc (suc (suc (suc zero)))) h = refl
-eight f (suc (suc (suc (suc (suc zero))))) h = refl
-eight f (suc (suc (suc (suc (suc (suc zero)))))) h = refl
-eight f (suc (suc (suc (suc (suc (suc (suc zero))))))) h = refl
-eight f (suc (suc (suc (suc (suc (suc (suc (suc q)))))))) h = absurd (omega arith)
+-- ---- capacities
+
+eight : (l : List Queue) → length l ≡ 8
+    → getD l 0 noQueue .cap ∷ getD l 1 noQueue .cap ∷ getD l 2 noQueue .cap ∷ getD l 3 noQueue .cap ∷ getD l 4 noQueue .cap ∷ getD l 5 noQueue .cap ∷ getD l 6 noQueue .cap ∷ getD l 7 noQueue .cap ∷ []
+    ≡ map (λ (q : Queue). q .cap) l
+eight (a ∷ b ∷ c ∷ d ∷ e ∷ f ∷ g ∷ h ∷ []) z = refl
+eight [] z = absurd (omega arith)
+eight (a ∷ []) z = absurd (omega arith)
+eight (a ∷ b ∷ []) z = absurd (omega arith)
+eight (a ∷ b ∷ c ∷ []) z = absurd (omega arith)
+eight (a ∷ b ∷ c ∷ d ∷ []) z = absurd (omega arith)
+eight (a ∷ b ∷ c ∷ d ∷ e ∷ []) z = absurd (omega arith)
+eight (a ∷ b ∷ c ∷ d ∷ e ∷ f ∷ []) z = absurd (omega arith)
+eight (a ∷ b ∷ c ∷ d ∷ e ∷ f ∷ g ∷ []) z = absurd (omega arith)
+eight (a ∷ b ∷ c ∷ d ∷ e ∷ f ∷ g ∷ h ∷ i ∷ l) z = absurd (omega arith)
+
+pub caps-are : (t : Table) → Shaped t
+    → queueAt t 0 .cap ∷ queueAt t 1 .cap ∷ queueAt t 2 .cap ∷ queueAt t 3 .cap ∷ queueAt t 4 .cap ∷ queueAt t 5 .cap ∷ queueAt t 6 .cap ∷ queueAt t 7 .cap ∷ [] ≡ capsOf t
+caps-are t s = eight (t .queue) (s .queues)
+
+pub caps-at : (t : Table) {l : List ℕ} → l ≡ capsOf t → (q : ℕ) → getD l q 0 ≡ queueAt t q .cap
+caps-at t e q = ap (λ (l : List ℕ). getD l q 0) e ∙ List·getD-map (λ (x : Queue). x .cap) (t .queue) q noQueue
 
 abbrev noRow : List ℤ
 noRow = pos 0 ∷ pos 0 ∷ pos 0 ∷ pos 0 ∷ pos 0 ∷ pos 0 ∷ pos 0 ∷ pos 0 ∷ []

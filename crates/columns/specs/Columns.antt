@@ -5,6 +5,8 @@ use mathlib.Core.Bool.{Bool}
 use mathlib.Core.List.{List, [], _∷_, map}
 use lib.ListN.{length, getD}
 use lib.IntN.{ℤ}
+use Rattle.table.specs.declared.Queue.{Queue}
+use Rattle.table.specs.declared.Table.{Table}
 use Rattle.machine.specs.declared.Frame.{Frame}
 use Rattle.machine.specs.declared.Entries.{Entries}
 use Rattle.machine.specs.declared.State.{State}
@@ -43,6 +45,10 @@ lensOf l = map (λ (e : Entries). e .len) l
 
 abbrev pub itemsOf : List Entries → List (List ℤ)
 itemsOf l = map (λ (e : Entries). e .items) l
+
+-- the queues' capacities
+abbrev pub capsOf : Table → List ℕ
+capsOf t = map (λ (q : Queue). q .cap) (t .queue)
 
 -- ---- how long they are
 pub record Shape (ps ns : List ℕ) (vs : List (List ℤ)) (ls : List ℕ) (is : List (List ℤ)) : Type 0 where

@@ -3,8 +3,7 @@ ghost use mathlib.Core.Path.{_≡_};
 ghost use mathlib.Core.List.{[]};
 ghost use Prim.Native.Nat.{ℕ, _<_};
 ghost use lib.ListN.{length, getD};
-ghost use Rattle.table.specs.Table.{queueAt};
-ghost use Rattle.columns.specs.Columns.{framesOf, queuesOf, procsOf, nodesOf, varsOf, lensOf, itemsOf, stateOf, runningOf, Shape};
+ghost use Rattle.columns.specs.Columns.{framesOf, queuesOf, procsOf, nodesOf, varsOf, lensOf, itemsOf, capsOf, stateOf, runningOf, Shape};
 use machine::Entries;
 use machine::Frame;
 use machine::Running;
@@ -95,7 +94,7 @@ pub fn items(queues: [Entries; 8]) -> [[i32; 8]; 8]
 
 // The queues' capacities.
 pub fn caps(t: Table) -> [u8; 8]
-    ensures { λ r. ⌜ ((q : ℕ) → q < 8 → getD r q 0 ≡ queueAt t q .cap) ⌝ }
+    ensures { λ r. ⌜ r ≡ capsOf t ⌝ }
 {
     let a = t.queue;
     [

@@ -1,6 +1,6 @@
 -- Nodes as opcodes, numbers and constants, and the node that these stand for.
 use Prim.Native.Nat.{ℕ}
-use mathlib.Core.List.{List, [], _∷_}
+use mathlib.Core.List.{List, [], _∷_, map}
 use lib.ListN.{getD}
 use lib.Dec.{leb}
 use lib.IntN.{ℤ, pos}
@@ -9,6 +9,7 @@ use Rattle.table.specs.declared.Operand.{Operand}
 use Rattle.table.specs.declared.Operand.the-variants.{Var, Const}
 use Rattle.table.specs.declared.Node.{Node}
 use Rattle.table.specs.declared.Node.the-variants.{Absent, Start, Set, Test, Read, Call, Wait, Signal, Send, Recv, Assert, Out, Return}
+use Rattle.table.specs.declared.Slot.{Slot}
 use Rattle.decoding.specs.declared.Opcode.{Opcode}
 use Rattle.decoding.specs.declared.OpcodeSlot.{OpcodeSlot}
 use Rattle.decoding.specs.declared.Opcode.the-variants.{Absent as AbsentCode, Start as StartCode, Set as SetCode, Test as TestCode, Read as ReadCode, Call as CallCode, Wait as WaitCode, Signal as SignalCode, Send as SendCode, Recv as RecvCode, Assert as AssertCode, Out as OutCode, Return as ReturnCode}
@@ -76,6 +77,17 @@ constsOf (Recv q v to) = pos 0 ∷ pos 0 ∷ []
 constsOf (Assert v to) = pos 0 ∷ pos 0 ∷ []
 constsOf (Out v to) = pos 0 ∷ pos 0 ∷ []
 constsOf Return = pos 0 ∷ pos 0 ∷ []
+
+-- ---- the nodes of a row
+
+abbrev pub opcodesOf : List Slot → List OpcodeSlot
+opcodesOf row = map (λ (s : Slot). record { opcode = opcodeOf (s .node) }) row
+
+abbrev pub numberRows : List Slot → List (List ℕ)
+numberRows row = map (λ (s : Slot). numbersOf (s .node)) row
+
+abbrev pub constRows : List Slot → List (List ℤ)
+constRows row = map (λ (s : Slot). constsOf (s .node)) row
 
 -- the node that an opcode, numbers and constants stand for, with no arcs
 unfoldable pub bareOf : Opcode → List ℕ → List ℤ → Node

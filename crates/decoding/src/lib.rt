@@ -1,10 +1,6 @@
 // Nodes decoded for a run: opcodes, numbers and constants, which stand in arrays of their own, so that a step loads only what it needs.
 ghost use mathlib.Core.Path.{_≡_};
-ghost use mathlib.Core.List.{[]};
-ghost use Prim.Native.Nat.{ℕ, _<_};
-ghost use lib.ListN.{getD};
-ghost use Rattle.table.specs.Table.{noSlot};
-ghost use Rattle.decoding.specs.Decoding.{noOpcode, opcodeOf, numbersOf, constsOf, varOf, constOf};
+ghost use Rattle.decoding.specs.Decoding.{varOf, constOf, opcodeOf, numbersOf, constsOf, opcodesOf, numberRows, constRows};
 use table::Node;
 use table::Op;
 use table::Operand;
@@ -207,7 +203,7 @@ fn consts_of(x: Node) -> [i32; 2]
 // ---- the nodes of a row
 
 pub fn opcodes(row: [Slot; 256]) -> [OpcodeSlot; 256]
-    ensures { λ r. ⌜ ((a : ℕ) → a < 256 → getD r a noOpcode .opcode ≡ opcodeOf (getD row a noSlot .node)) ⌝ }
+    ensures { λ r. ⌜ r ≡ opcodesOf row ⌝ }
 {
     let none = OpcodeSlot {
         opcode: Opcode::Absent,
@@ -225,7 +221,7 @@ pub fn opcodes(row: [Slot; 256]) -> [OpcodeSlot; 256]
 }
 
 pub fn numbers(row: [Slot; 256]) -> [[u8; 8]; 256]
-    ensures { λ r. ⌜ ((a : ℕ) → a < 256 → getD r a [] ≡ numbersOf (getD row a noSlot .node)) ⌝ }
+    ensures { λ r. ⌜ r ≡ numberRows row ⌝ }
 {
     let none = [0u8; 8];
     let mut r = [none; 256];
@@ -240,7 +236,7 @@ pub fn numbers(row: [Slot; 256]) -> [[u8; 8]; 256]
 }
 
 pub fn consts(row: [Slot; 256]) -> [[i32; 2]; 256]
-    ensures { λ r. ⌜ ((a : ℕ) → a < 256 → getD r a [] ≡ constsOf (getD row a noSlot .node)) ⌝ }
+    ensures { λ r. ⌜ r ≡ constRows row ⌝ }
 {
     let none = [0i32; 2];
     let mut r = [none; 256];

@@ -1,26 +1,39 @@
 -- A decoded node stands for its node: it leads to the same turn.
-use mathlib.Core.Path.{_≡_, refl, sym, ap}
+use mathlib.Core.Path.{_≡_, refl, sym, ap, _∙_}
 use mathlib.Core.Bool.{Bool, true, false}
 use mathlib.Core.List.{List, []}
-use Prim.Native.Nat.{ℕ}
+use Prim.Native.Nat.{ℕ, _<_}
 use lib.ListN.{length, getD, List·getD-eq-default}
 use lib.Dec.{leb}
 use lib.IntN.{ℤ, pos}
 use borrow.Author.Tests.{leb-true}
 use native.Mathlib.Omega.{arith}
 use Rattle.table.specs.Mask.{pick}
+use Rattle.table.specs.Table.{noSlot}
 use Rattle.table.specs.Values.{apply, holds}
 use Rattle.table.specs.declared.Op.{Op}
 use Rattle.table.specs.declared.Operand.{Operand}
 use Rattle.table.specs.declared.Operand.the-variants.{Var, Const}
 use Rattle.table.specs.declared.Node.{Node}
 use Rattle.table.specs.declared.Node.the-variants.{Absent, Start, Set, Test, Read, Call, Wait, Signal, Send, Recv, Assert, Out, Return}
+use Rattle.table.specs.declared.Slot.{Slot}
 use Rattle.machine.specs.State.{varAt}
 use Rattle.machine.specs.Step.{operandIn}
-use Rattle.decoding.specs.Decoding.{varOf, constOf, operandOf, opcodeOf, numbersOf, constsOf, bareOf, bare}
+use Rattle.decoding.specs.Decoding.{noOpcode, varOf, constOf, operandOf, opcodeOf, numbersOf, constsOf, opcodesOf, numberRows, constRows, bareOf, bare}
+use Rattle.decoding.specs.MapLaws.{map-at}
+use Rattle.decoding.specs.declared.OpcodeSlot.{OpcodeSlot}
 use Rattle.steps.specs.Cut.{goesTo}
 use Rattle.starts.specs.Ready.{Placed}
 use Rattle.straight.specs.Turns.{Columns, straight, triedTurn}
+
+-- the node at a place of a row, decoded
+pub decoded-at : (row : List Slot) {os : List OpcodeSlot} {ns : List (List ℕ)} {cs : List (List ℤ)} → os ≡ opcodesOf row → ns ≡ numberRows row → cs ≡ constRows row
+    → (a : ℕ) → a < length row → bareOf (getD os a noOpcode .opcode) (getD ns a []) (getD cs a []) ≡ bare (getD row a noSlot .node)
+decoded-at row d e f a h =
+    let o = ap (λ (l : List OpcodeSlot). getD l a noOpcode .opcode) d ∙ ap (λ (x : OpcodeSlot). x .opcode) (map-at (λ (s : Slot). record { opcode = opcodeOf (s .node) }) row noSlot noOpcode a h) in
+    let n = ap (λ (l : List (List ℕ)). getD l a []) e ∙ map-at (λ (s : Slot). numbersOf (s .node)) row noSlot [] a h in
+    let c = ap (λ (l : List (List ℤ)). getD l a []) f ∙ map-at (λ (s : Slot). constsOf (s .node)) row noSlot [] a h in
+    λ i. bareOf (o i) (n i) (c i)
 
 operand-same : (l : List ℤ) (o : Operand) → length l ≡ 16 → operandIn l (operandOf (varOf o) (constOf o)) ≡ operandIn l o
 operand-same l (Const c) h = refl

@@ -34,7 +34,8 @@ use Rattle.starts.specs.GoodLaws.{good-frame}
 use Rattle.columns.specs.Columns.{framesOf, queuesOf, stateOf, Shape}
 use Rattle.columns.specs.ColumnLaws.{frame-set}
 use Rattle.straight.specs.declared.Tried.{Tried}
-use Rattle.straight.specs.Turns.{Columns, Turn, turn, left, doneAs, movedTo, free, straight, openedBy, calls, closedTo, placeBelow, returns, triedTurn, Arcs, Targets}
+use Rattle.straight.specs.Turns.{Columns, Turn, turn, left, doneAs, movedTo, free, straight, openedBy, calls, closedTo, placeBelow, returns, triedTurn, arcsOf, targetsOf}
+use Rattle.straight.specs.TurnLaws.{arcs-at, targets-at}
 use Rattle.runner.proofs.Walks.{met, metOf, heading, withVars}
 use Rattle.runner.proofs.Runs.{opens, logged-is, storedAs}
 use Rattle.runner.proofs.Turns.{ends-over, Standing, stays-here, placed, turn-walks, at-below}
@@ -64,8 +65,8 @@ goes-as {t} {most} {vs} {ks} {n} {s} {used} {log} {lost} {log′ = log′} e h =
 abbrev pub LeadsStraight : (Node → ℕ) → List Slot → List ℕ → List ℕ → Type 0
 LeadsStraight f row keep l = (a : ℕ) → a < 256 → getD l a 0 ≡ directOf (f (getD row a noSlot .node)) (getD keep (a / 32) 0)
 
-pub leads-straight : (f : Node → ℕ) (row : List Slot) (arcs keep l : List ℕ) → Arcs f row arcs → Targets arcs keep l → LeadsStraight f row keep l
-leads-straight f row arcs keep l c t a h = t .targets a h ∙ ap (λ (x : ℕ). directOf x (getD keep (a / 32) 0)) (c .arcs a h)
+pub leads-straight : (f : Node → ℕ) → f Absent ≡ 0 → (row : List Slot) (arcs keep l : List ℕ) → arcs ≡ arcsOf f row → l ≡ targetsOf arcs keep → LeadsStraight f row keep l
+leads-straight f z row arcs keep l c t a h = targets-at arcs keep t a h ∙ ap (λ (x : ℕ). directOf x (getD keep (a / 32) 0)) (arcs-at f z row c a)
 
 pub record OneKept (arc keep j : ℕ) : Type 0 where
   pub one : members arc ≡ j ∷ []

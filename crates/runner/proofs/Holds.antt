@@ -10,7 +10,7 @@ use lib.Dec.{leb}
 use lib.IntN.{ℤ}
 use borrow.Author.Tests.{leb-true, leb-false}
 use Rattle.table.specs.Mask.{pick}
-use Rattle.table.specs.Table.{noSlot, queueAt, nodeAt, arcTo, arcNo}
+use Rattle.table.specs.Table.{noSlot, nodeAt, arcTo, arcNo}
 use Rattle.table.specs.declared.Node.{Node}
 use Rattle.table.specs.declared.Slot.{Slot}
 use Rattle.table.specs.declared.Table.{Table}
@@ -26,11 +26,14 @@ use Rattle.steps.specs.Cut.{stopBefore, stuckOf, triedOf, passOf, backOf, actOf
 use Rattle.steps.specs.declared.Acted.{Acted}
 use Rattle.tosses.specs.declared.Chosen.{Chosen}
 use Rattle.decoding.specs.Decoding.{bare}
-use Rattle.columns.specs.Columns.{framesOf, queuesOf, runningOf}
+use Rattle.columns.specs.Columns.{framesOf, queuesOf, runningOf, capsOf}
+use Rattle.columns.specs.ColumnLaws.{caps-at}
 use Rattle.starts.specs.Ready.{Placed, Ready}
-use Rattle.starts.specs.Begins.{Row, frameIn, Good}
+use Rattle.starts.specs.Begins.{frameIn, Good}
+use Rattle.starts.specs.RowLaws.{Row}
 use Rattle.straight.specs.declared.Tried.{Tried}
-use Rattle.straight.specs.Turns.{Columns, columns, turn, triedTurn, Stood, Lands, landed, emptied, Arcs}
+use Rattle.straight.specs.Turns.{Columns, columns, turn, triedTurn, Stood, Lands, landed, emptied, arcsOf}
+use Rattle.straight.specs.TurnLaws.{no-to, arcs-at}
 use Rattle.runner.proofs.Walks.{met, metOf, heading, withVars, tried-within, pass-within}
 use Rattle.runner.proofs.Runs.{opens, stopsAt, answered, at-end}
 use Rattle.runner.proofs.Turns.{within, at-below, Ends, ends-over, ends-spent, ends-halts, goes-on, stop-none, stop-full, stop-lost, Standing, node-is, placed, under-le, freed, acted, logs, stop-tried, stop-acting, stop-walking, whole, turn-walks, stored-good, under-less, back-below}
@@ -55,10 +58,10 @@ pub record Setting : Type 0 where
 pub record Known (S : Setting) : Type 0 where
   pub ready : Ready (S .t) (S .keep)
   pub rowed : Row (S .t) (S .row)
-  pub arced : Arcs arcTo (S .row) (S .arcs)
+  pub arced : S .arcs ≡ arcsOf arcTo (S .row)
   pub targeted : LeadsStraight arcTo (S .row) (S .keep) (S .ts)
   pub targeted-no : LeadsStraight arcNo (S .row) (S .keep) (S .ns)
-  pub caps : (q : ℕ) → q < 8 → getD (S .cs) q 0 ≡ queueAt (S .t) q .cap
+  pub caps : S .cs ≡ capsOf (S .t)
 
 -- the rest of the schedule, the state, the values used, the log with the place of its next entry
 pub record Here : Type 0 where
@@ -228,7 +231,7 @@ module _ (S : Setting) (whole-run : Ran) (size : ℕ) where
         node = st .node ∙ node-is (S .t) (S .keep) (K .ready) (S .most) (S .vs) (v .ks) (h .n) (state v) (v .used) (v .log) (S .row) f _ (K .rowed) (h .good) (st .at) (λ j. 32 * proc-in (h .shape) f j + node-in (h .shape) f j);
         queued = refl;
         even = h .shape .lens ∙ sym (h .shape .items);
-        caps = K .caps;
+        caps = λ q h. caps-at (S .t) (K .caps) q;
       }
 
       pub x-placed : Placed x
@@ -342,7 +345,7 @@ module _ (S : Setting) (whole-run : Ran) (size : ℕ) where
 
       on-call : getD (S .arcs) q 0 ≡ arcTo (nodeAt (S .t) (fr .proc) (fr .node))
       on-call =
-          K .arced .arcs q q-low ∙ ap arcTo (K .rowed .nodes p (getD (cols .nodes) g 0) p-low (node-lt v f x st g)) ∙
+          arcs-at arcTo no-to (S .row) (K .arced) q ∙ ap arcTo (K .rowed .nodes p (getD (cols .nodes) g 0) p-low (node-lt v f x st g)) ∙
           (λ j. arcTo (nodeAt (S .t) (proc-in (hd .shape) g j) (node-in (hd .shape) g j)))
 
       module _ (o : Acted) (tries : o ≡ triedOf x (getD (S .arcs) q 0) (getD (cols .vars) g []) dep (cols .sems) (cols .lens) (S .cs) (cols .items) (S .vs) (v .used)) where

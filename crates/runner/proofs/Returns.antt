@@ -23,7 +23,8 @@ use Rattle.machine.specs.Run.{word, flagged, runFrom}
 use Rattle.tosses.specs.Tosses.{meeting, directOf}
 use Rattle.steps.specs.Cut.{goesTo, stuckOf, actOf, backOf, underOf}
 use Rattle.starts.specs.Ready.{Ready}
-use Rattle.starts.specs.Begins.{Row, frameIn, Good}
+use Rattle.starts.specs.Begins.{frameIn, Good}
+use Rattle.starts.specs.RowLaws.{Row}
 use Rattle.columns.specs.Columns.{framesOf, queuesOf}
 use Rattle.columns.specs.ColumnLaws.{frame-set}
 use Rattle.straight.specs.declared.Tried.{Tried}

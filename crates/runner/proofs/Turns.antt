@@ -31,7 +31,8 @@ use Rattle.steps.specs.declared.Acted.{Acted}
 use Rattle.tosses.specs.declared.Chosen.{Chosen}
 use Rattle.columns.specs.Columns.{queuesOf}
 use Rattle.starts.specs.Ready.{Placed, Ready}
-use Rattle.starts.specs.Begins.{Row, frameIn, Good}
+use Rattle.starts.specs.Begins.{frameIn, Good}
+use Rattle.starts.specs.RowLaws.{Row}
 use Rattle.starts.specs.GoodLaws.{FrameGood, good-frame, good-depth}
 use Rattle.runner.proofs.Walks.{Met, halted, met, metOf, withVars, walking, heading, walk-over, walk-spent, walk-halts, walk-goes, act-named, named-stop}
 use Rattle.runner.proofs.Runs.{stuck-is, doing, storedIn, didIn, doing-is, back-free, logged-is, unshown, closes, opens, step-calls, goesOn, step-goes, storedAs, landed-is, runs, stopsAt, after, runs-turn, turn-none, turn-full, turn-lost, turn-blocked, turn-goes, after-halted, after-arrived}

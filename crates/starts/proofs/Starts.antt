@@ -11,7 +11,7 @@ use lib.Dec.{eqb, ltb}
 use lib.IntN.{ℤ, pos}
 use borrow.Author.Tests.{lt-ltb, le-ltb, eqb-true, eqb-false}
 use Rattle.table.specs.Mask.{pick}
-use Rattle.table.specs.Table.{noSlot, taskAt, procAt, nodeAt}
+use Rattle.table.specs.Table.{noSlot, taskAt, procAt}
 use Rattle.table.specs.declared.Slot.{Slot}
 use Rattle.table.specs.declared.Sem.{Sem}
 use Rattle.table.specs.declared.Table.{Table}
@@ -20,7 +20,7 @@ use Rattle.machine.specs.declared.Frame.{Frame}
 use Rattle.machine.specs.declared.State.{State}
 use Rattle.machine.specs.State.{noFrame, noEntries, firstFrame, firstState, withFrames, firstInputs, spent, begun, takeInputs, begin}
 use Rattle.starts.specs.declared.Started.{Started}
-use Rattle.starts.specs.Begins.{Row, startedOf, inputFrame}
+use Rattle.starts.specs.Begins.{startedOf, inputFrame}
 
 -- ---- the row of nodes: place j holds node j mod 32 of procedure j / 32
 
@@ -40,15 +40,6 @@ laid-more t l p n u i h j k = go (eqb j (32 * p + n)) refl
     go : (b : Bool) → eqb j (32 * p + n) ≡ b → getD (set l (32 * p + n) (getD (procAt t p .slots) n noSlot)) j noSlot ≡ slotAt t j
     go true e = rw (eqb-true j (32 * p + n) e) (getD-set-same l (32 * p + n) _ noSlot i ∙ sym here)
     go false e = let z = eqb-false j (32 * p + n) e in getD-set-other l (32 * p + n) j _ noSlot z ∙ h j (omega (arith, z))
-
-pub row-is : (t : Table) (l : List Slot) (m : ℕ) → Laid t l m → 256 ≤ m → Row t l
-row-is t l m h u = record { nodes = at }
-  where
-    at : (p n : ℕ) → p < 8 → n < 32 → getD l (32 * p + n) noSlot .node ≡ nodeAt t p n
-    at p n a b =
-        let x : (32 * p + n) / 32 ≡ p = omega arith in
-        let y : (32 * p + n) % 32 ≡ n = omega arith in
-        ap (λ (s : Slot). s .node) (h (32 * p + n) (omega arith)) ∙ rw (x, y) refl
 
 -- ---- inputs
 

@@ -1,21 +1,22 @@
 -- What the runner starts from: the nodes in one row, a state whose frames stand in the table, the first state with its inputs.
-use Prim.Native.Nat.{ℕ, _+_, _-_, _*_, _<_, _≤_}
+use Prim.Native.Nat.{ℕ, _-_, _<_, _≤_}
 use mathlib.Core.Path.{_≡_}
 use mathlib.Core.Bool.{true, false}
 use mathlib.Core.List.{List, [], _++_}
 use lib.ListN.{length, getD, replicate}
 use lib.IntN.{ℤ, pos}
-use Rattle.table.specs.Table.{noSlot, nodeAt}
+use Rattle.table.specs.Table.{procAt}
 use Rattle.table.specs.declared.Slot.{Slot}
 use Rattle.table.specs.declared.Table.{Table}
+use Rattle.text.specs.Reader.{concat}
 use Rattle.machine.specs.declared.Frame.{Frame}
 use Rattle.machine.specs.declared.State.{State}
 use Rattle.machine.specs.State.{Begun, spent, begun, firstState}
 use Rattle.starts.specs.declared.Started.{Started}
 
--- node n of procedure p stands at place 32 p + n
-pub record Row (t : Table) (l : List Slot) : Type 0 where
-  pub nodes : (p n : ℕ) → p < 8 → n < 32 → getD l (32 * p + n) noSlot .node ≡ nodeAt t p n
+-- the nodes of the procedures, one after another
+abbrev pub rowOf : Table → List Slot
+rowOf t = concat (λ p. procAt t p .slots) 8 0
 
 abbrev pub frameIn : List Frame → ℕ → Frame
 frameIn l j = getD l j (record { proc = 0; node = 0; vars = [] })

@@ -3,3 +3,4 @@ pub mod Begins
 pub mod GoodLaws
 pub mod ReadyLaws
 pub mod StartLaws
+pub mod RowLaws

@@ -7,7 +7,7 @@ ghost use mathlib.Core.Bool.{true};
 ghost use Rattle.table.specs.Mask.{pick};
 ghost use Rattle.machine.specs.State.{noFrame, noVars, firstState, begin};
 ghost use Rattle.starts.specs.Ready.{Ready};
-ghost use Rattle.starts.specs.Begins.{Row, startedOf, inputFrame};
+ghost use Rattle.starts.specs.Begins.{rowOf, startedOf, inputFrame};
 use machine::Entries;
 use machine::Frame;
 use machine::Running;
@@ -25,7 +25,7 @@ pub struct Started {
 
 // The nodes of a table in one row, 32 for each procedure.
 pub fn row(t: Table) -> [Slot; 256]
-    ensures { λ r. ⌜ Row t r ⌝ }
+    ensures { λ r. ⌜ r ≡ rowOf t ⌝ }
 {
     let none = Slot { node: Node::Absent };
     let mut r = [none; 256];

@@ -2,17 +2,17 @@
 use Prim.Native.Nat.{ℕ, _+_, _-_, _*_, _/_, _<_, _≤_}
 use mathlib.Core.Path.{_≡_}
 use mathlib.Core.Bool.{Bool, true, false}
-use mathlib.Core.List.{List, []}
+use mathlib.Core.List.{List, [], _∷_, map}
 use lib.ListN.{length, getD, set}
 use lib.Dec.{eqb, leb}
 use lib.IntN.{ℤ, pos}
 use Rattle.table.specs.Mask.{pick}
-use Rattle.table.specs.Table.{noSlot}
 use Rattle.table.specs.Values.{apply, holds}
 use Rattle.table.specs.declared.Args.{Args}
 use Rattle.table.specs.declared.Node.{Node}
 use Rattle.table.specs.declared.Node.the-variants.{Absent, Start, Set, Test, Read, Call, Wait, Signal, Send, Recv, Assert, Out, Return}
 use Rattle.table.specs.declared.Slot.{Slot}
+use Rattle.text.specs.Reader.{concat}
 use Rattle.machine.specs.State.{varAt, noVars}
 use Rattle.machine.specs.Step.{operandIn, valueOf, entering}
 use Rattle.tosses.specs.Tosses.{directOf}
@@ -174,12 +174,12 @@ Queued q is = (q < 8) × (length (getD is q []) ≡ 8)
 -- ---- the nodes' arcs
 
 -- the arc f of each node of a row
-pub record Arcs (f : Node → ℕ) (row : List Slot) (l : List ℕ) : Type 0 where
-  pub arcs : (a : ℕ) → a < 256 → getD l a 0 ≡ f (getD row a noSlot .node)
+abbrev pub arcsOf : (Node → ℕ) → List Slot → List ℕ
+arcsOf f row = map (λ (s : Slot). f (s .node)) row
 
--- the kept node that each arc leads straight to, 32 if it does not
-pub record Targets (arcs keep l : List ℕ) : Type 0 where
-  pub targets : (a : ℕ) → a < 256 → getD l a 0 ≡ directOf (getD arcs a 0) (getD keep (a / 32) 0)
+-- the kept node that each of 256 arcs leads straight to, 32 if it does not; each procedure has 32 of them and one mask of kept nodes
+abbrev pub targetsOf : List ℕ → List ℕ → List ℕ
+targetsOf arcs keep = concat (λ a. directOf (getD arcs a 0) (getD keep (a / 32) 0) ∷ []) 256 0
 
 -- ---- a step completed behind the dropped nodes. The topmost frame's place is emptied if it is closed; then the frame that goes on is stored
 

@@ -5,7 +5,7 @@ ghost use Prim.Native.Nat.{_<_};
 ghost use lib.ListN.{getD};
 ghost use Rattle.table.specs.Table.{arcTo, arcNo};
 ghost use Rattle.decoding.specs.Decoding.{bareOf};
-ghost use Rattle.straight.specs.Turns.{Stood, columns, turn, triedTurn, Arcs, Targets};
+ghost use Rattle.straight.specs.Turns.{Stood, columns, turn, triedTurn, arcsOf, targetsOf};
 use decoding::Opcode;
 use straight::Tried;
 use table::Slot;
@@ -14,7 +14,7 @@ use table::Slot;
 
 // The arc of each node of a row.
 pub fn arcs(row: [Slot; 256]) -> [u32; 256]
-    ensures { λ r. ⌜ Arcs arcTo row r ⌝ }
+    ensures { λ r. ⌜ r ≡ arcsOf arcTo row ⌝ }
 {
     let mut r = [0u32; 256];
     let mut a: usize = 0;
@@ -29,7 +29,7 @@ pub fn arcs(row: [Slot; 256]) -> [u32; 256]
 
 // Each test's arc at `no`; 0 for every other node of a row.
 pub fn no_arcs(row: [Slot; 256]) -> [u32; 256]
-    ensures { λ r. ⌜ Arcs arcNo row r ⌝ }
+    ensures { λ r. ⌜ r ≡ arcsOf arcNo row ⌝ }
 {
     let mut r = [0u32; 256];
     let mut a: usize = 0;
@@ -44,7 +44,7 @@ pub fn no_arcs(row: [Slot; 256]) -> [u32; 256]
 
 // The kept node that each arc leads straight to, 32 if it does not.
 pub fn targets(arcs: &[u32; 256], keep: &[u32; 8]) -> [u8; 256]
-    ensures { λ r. ⌜ Targets (now (arcs .entry)) (now (keep .entry)) r ⌝ }
+    ensures { λ r. ⌜ r ≡ targetsOf (now (arcs .entry)) (now (keep .entry)) ⌝ }
 {
     let mut r = [0u8; 256];
     let mut a: usize = 0;

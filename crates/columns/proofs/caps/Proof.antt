@@ -1,6 +1,6 @@
 use borrow.Author.Needs.{needs}
-use Rattle.table.specs.Table.{queueAt}
-use Rattle.columns.specs.ColumnLaws.{eight}
+use Rattle.text.specs.ShapeLaws.{shaped}
+use Rattle.columns.specs.ColumnLaws.{caps-are}
 use Rattle.columns.proofs.caps.Statement.{statement}
 use Rattle.columns.proofs.caps.Tie as tie
 
@@ -29,7 +29,7 @@ element-copy-out-t26 : tie.Need-element-copy-out-t26
 element-copy-out-t26 c = search needs
 
 returns : tie.Need-returns
-returns c = eight (λ q. queueAt ((c .before .args) .t) q .cap)
+returns c = caps-are (c .before .args .t) (shaped (c .before .args .t) (_, c .before .good .0))
 
 pub caps-spec : {M : Type 1} → statement M
 caps-spec =

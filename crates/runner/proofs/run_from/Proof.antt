@@ -17,12 +17,15 @@ use Rattle.steps.specs.Cut.{triedOf, flagOf, bitsOf, underOf}
 use Rattle.values.proofs.Again.{again}
 use Rattle.decoding.specs.Decoding.{noOpcode, bareOf, bare}
 use Rattle.columns.specs.Columns.{stateOf}
+use Rattle.text.specs.ShapeLaws.{shaped}
 use Rattle.starts.specs.Begins.{Good}
+use Rattle.starts.specs.RowLaws.{row-of}
 use Rattle.tosses.specs.TossLaws.{arrived}
 use Rattle.straight.specs.Turns.{Columns, columns, turn, triedTurn, Lands}
+use Rattle.straight.specs.TurnLaws.{no-to, no-no}
 use Rattle.runner.proofs.Turns.{Ends, within, rest-less}
 use Rattle.runner.proofs.Stores.{state-of, shape-of, proc-in, node-in}
-use Rattle.runner.proofs.Decoded.{bare-turn}
+use Rattle.runner.proofs.Decoded.{decoded-at, bare-turn}
 use Rattle.runner.proofs.Directs.{leads-straight}
 use Rattle.runner.proofs.Holds.{Setting, Known, Here, task, depthIn, withCols, Walking, Held, Stopped, behind, answers, at-last, Clear, stop-before, clear-before, Stands, Waits, stood, a-low, x-placed, vars-long, node-lt, cols-left, waits-left, done-next, g-low, p-low, q-low, stop-act, walk-starts, walk-next, ends-met, ends-out, ends-stopped, stop-walk, lands, land-next}
 use Rattle.runner.proofs.run_from.Statement.{statement}
@@ -56,7 +59,7 @@ abbrev size : (c : tie.At-loop Inv-loop2 μ-loop2 Inv-loop μ-loop) → ℕ
 size c = length ((c .before .before .before .before .before .before .before .before .before .before .before .before .before .before .before .before .before .before .before .before .before .before .before .before .before .args) .log .now)
 
 K : (c : tie.At-loop Inv-loop2 μ-loop2 Inv-loop μ-loop) → Known (S c)
-K c = record { ready = (c .before .before .before .before .before .before .before .before .before .before .before .before .before .before .before .before .before .before .before .before .before .before .before .before .before .pre) .0; rowed = (c .before .before .before .before .before .before .before .before .before .before .before .before .before .before .before .before .before .before .before .before .before .before .row) .ensures; arced = (c .before .before .before .before .before .before .before .before .before .before .before .before .before .before .before .before .before .before .before .before .before .arcs) .ensures; targeted = leads-straight arcTo _ _ _ _ ((c .before .before .before .before .before .before .before .before .before .before .before .before .before .before .before .before .before .before .before .before .before .arcs) .ensures) ((c .before .before .before .before .before .before .before .before .before .before .before .before .before .before .before .before .before .before .targets) .ensures); targeted-no = leads-straight arcNo _ _ _ _ ((c .before .before .before .before .before .before .before .before .before .before .before .before .before .before .before .before .before .no-arcs) .ensures) ((c .before .before .before .before .before .before .before .before .before .before .before .before .before .before .targets2) .ensures); caps = (c .before .before .before .before .before .before .before .before .before .before .caps) .ensures }
+K c = record { ready = (c .before .before .before .before .before .before .before .before .before .before .before .before .before .before .before .before .before .before .before .before .before .before .before .before .before .pre) .0; rowed = row-of (c .before .before .before .before .before .before .before .before .before .before .before .before .before .before .before .before .before .before .before .before .before .before .before .before .before .args .t) (shaped (c .before .before .before .before .before .before .before .before .before .before .before .before .before .before .before .before .before .before .before .before .before .before .before .before .before .args .t) (_, c .before .before .before .before .before .before .before .before .before .before .before .before .before .before .before .before .before .before .before .before .before .before .before .before .before .good .0)) (c .before .before .before .before .before .before .before .before .before .before .before .before .before .before .before .before .before .before .before .before .before .before .row .ensures); arced = (c .before .before .before .before .before .before .before .before .before .before .before .before .before .before .before .before .before .before .before .before .before .arcs) .ensures; targeted = leads-straight arcTo no-to (S c .row) (S c .arcs) (S c .keep) (S c .ts) ((c .before .before .before .before .before .before .before .before .before .before .before .before .before .before .before .before .before .before .before .before .before .arcs) .ensures) ((c .before .before .before .before .before .before .before .before .before .before .before .before .before .before .before .before .before .before .targets) .ensures); targeted-no = leads-straight arcNo no-no (S c .row) _ (S c .keep) (S c .ns) ((c .before .before .before .before .before .before .before .before .before .before .before .before .before .before .before .before .before .no-arcs) .ensures) ((c .before .before .before .before .before .before .before .before .before .before .before .before .before .before .targets2) .ensures); caps = (c .before .before .before .before .before .before .before .before .before .before .caps) .ensures }
 
 abbrev Now : (c : tie.At-loop Inv-loop2 μ-loop2 Inv-loop μ-loop) → Here
 Now c = record { ks = (c .loop) .rest .now; lost = (c .loop) .lost; cols = columns ((c .loop) .depth) ((c .loop) .proc) ((c .loop) .node) ((c .loop) .vars) ((c .loop) .sems) ((c .loop) .lens) ((c .loop) .rows); used = (c .loop) .used; at = (c .loop) .at; log = (c .loop) .log }
@@ -89,7 +92,7 @@ a-below : (c : tie.After-place Inv-loop2 μ-loop2 Inv-loop μ-loop) → (c .plac
 a-below c = omega (arith, (c .place) .ensures, a-low (S (c .before .before .before .before .before .before .before)) (whole (c .before .before .before .before .before .before .before)) (size (c .before .before .before .before .before .before .before)) (K (c .before .before .before .before .before .before .before)) (Now (c .before .before .before .before .before .before .before)) ((c .before .top-of) .result) (X c) (st c))
 
 decoded : (c : tie.After-place Inv-loop2 μ-loop2 Inv-loop μ-loop) → bareOf (getD ((c .before .before .before .before .before .before .before .before .before .before .before .before .before .before .before .before .before .before .before .before .opcodes) .result) ((c .place) .result) noOpcode .opcode) (getD ((c .before .before .before .before .before .before .before .before .before .before .before .before .before .before .before .before .before .before .before .numbers) .result) ((c .place) .result) []) (getD ((c .before .before .before .before .before .before .before .before .before .before .before .before .before .before .before .before .before .before .consts) .result) ((c .place) .result) []) ≡ bare (X c)
-decoded c = λ i. bareOf ((c .before .before .before .before .before .before .before .before .before .before .before .before .before .before .before .before .before .before .before .before .opcodes) .ensures ((c .place) .result) (a-below c) i) ((c .before .before .before .before .before .before .before .before .before .before .before .before .before .before .before .before .before .before .before .numbers) .ensures ((c .place) .result) (a-below c) i) ((c .before .before .before .before .before .before .before .before .before .before .before .before .before .before .before .before .before .before .consts) .ensures ((c .place) .result) (a-below c) i)
+decoded c = decoded-at (S (c .before .before .before .before .before .before .before) .row) (c .before .before .before .before .before .before .before .before .before .before .before .before .before .before .before .before .before .before .before .before .opcodes .ensures) (c .before .before .before .before .before .before .before .before .before .before .before .before .before .before .before .before .before .before .before .numbers .ensures) (c .before .before .before .before .before .before .before .before .before .before .before .before .before .before .before .before .before .before .consts .ensures) (c .place .result) (omega (arith, a-below c, K (c .before .before .before .before .before .before .before) .rowed .long))
 
 abbrev M : (c : tie.After-direct Inv-loop2 μ-loop2 Inv-loop μ-loop) → Columns
 M c = columns ((c .direct) .last .1 .1 .1 .1 .1 .1 .1 .1 .1 .1 .0) ((c .direct) .last .1 .1 .1 .1 .1 .1 .1 .1 .1 .1 .1 .0) ((c .direct) .last .1 .1 .1 .1 .1 .1 .1 .1 .1 .1 .1 .1 .0) ((c .direct) .last .1 .1 .1 .1 .1 .1 .1 .1 .1 .1 .1 .1 .1 .0) ((c .direct) .last .1 .1 .1 .1 .1 .1 .1 .1 .1 .1 .1 .1 .1 .1 .0) ((c .direct) .last .1 .1 .1 .1 .1 .1 .1 .1 .1 .1 .1 .1 .1 .1 .1 .0) ((c .direct) .last .1 .1 .1 .1 .1 .1 .1 .1 .1 .1 .1 .1 .1 .1 .1 .1 .1 .0)

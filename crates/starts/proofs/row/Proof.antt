@@ -1,9 +1,12 @@
+-- `starts::row` puts the nodes of a table into one row. The invariants: the places so far have the slots due there.
 use borrow.Author.Needs.{needs}
 use native.Mathlib.Omega.{arith}
 use mathlib.Core.Path.{_≡_, refl}
 use Prim.Native.Nat.{_+_, _-_, _*_, _≤_}
 use lib.ListN.{length, length-set}
-use Rattle.starts.proofs.Starts.{Laid, laid-more, row-is}
+use Rattle.text.specs.ShapeLaws.{shaped}
+use Rattle.starts.specs.RowLaws.{row-is}
+use Rattle.starts.proofs.Starts.{Laid, laid-more}
 use Rattle.starts.proofs.row.Statement.{statement}
 use Rattle.starts.proofs.row.Tie as tie
 
@@ -68,7 +71,7 @@ loop-again : tie.Need-loop-again Inv-loop2 μ-loop2 Inv-loop μ-loop
 loop-again c = (omega arith, ((c .before .loop2) .inv .1 .0, λ j h. (c .before .loop2) .inv .1 .1 j (omega arith)))
 
 returns : tie.Need-returns Inv-loop2 μ-loop2 Inv-loop μ-loop
-returns c = row-is ((c .before .before .args) .t1) ((c .before .loop) .r) (32 * (c .before .loop) .p) ((c .before .loop) .inv .1 .1) (omega arith)
+returns c = row-is (c .before .before .args .t1) (shaped (c .before .before .args .t1) (_, c .before .before .good .0)) (c .before .loop .r) (c .before .loop .inv .1 .0) (λ j h. c .before .loop .inv .1 .1 j (omega arith))
 
 pub row-spec : {M : Type 1} → statement M
 row-spec =

@@ -1,10 +1,12 @@
 use borrow.Author.Needs.{needs}
 use native.Mathlib.Omega.{arith}
-use mathlib.Core.Path.{_≡_, refl}
+use mathlib.Core.Path.{_≡_, refl, sym, _∙_}
 use Prim.Native.Nat.{_-_, _≤_}
 use lib.ListN.{length, getD, length-set}
 use Rattle.table.specs.Table.{noSlot, arcTo}
+use Rattle.table.specs.declared.Slot.{Slot}
 use Rattle.masks.specs.Cells.{Filled, set-more}
+use Rattle.decoding.specs.MapLaws.{mapped}
 use Rattle.turns.proofs.arcs.Statement.{statement}
 use Rattle.turns.proofs.arcs.Tie as tie
 
@@ -13,6 +15,9 @@ Inv-loop row r₀ a₀ r a = (a ≤ 256) × ((length r ≡ 256) × Filled (λ k.
 
 abbrev μ-loop : tie.MeasureT-loop
 μ-loop row r₀ a₀ r a = 256 - a
+
+row-256 : (c : tie.Start Inv-loop μ-loop) → length ((c .args) .t1) ≡ 256
+row-256 c = search needs
 
 loop-holds : tie.Need-loop-holds Inv-loop μ-loop
 loop-holds c = (omega arith, (refl, λ k h. absurd (omega arith)))
@@ -42,7 +47,7 @@ loop-again : tie.Need-loop-again Inv-loop μ-loop
 loop-again c = (omega arith, (simp length-set ((c .before .before .before .loop) .inv .1 .0), set-more 0 (λ k. arcTo (getD ((c .before .before .before .before .args) .t1) k noSlot .node)) ((c .before .before .before .loop) .a) _ ((c .before .before .before .loop) .r) (omega (arith, (c .before .before .before .loop) .inv .1 .0)) ((c .arc-to) .ensures) ((c .before .before .before .loop) .inv .1 .1)))
 
 returns : tie.Need-returns Inv-loop μ-loop
-returns c = record { arcs = λ k h. (c .before .loop) .inv .1 .1 k (omega arith) }
+returns c = mapped (λ (s : Slot). arcTo (s .node)) (c .before .before .args .t1) (c .before .loop .r) noSlot 0 (c .before .loop .inv .1 .0 ∙ sym (row-256 (c .before .before))) (λ k h. c .before .loop .inv .1 .1 k (omega (arith, row-256 (c .before .before))))
 
 pub arcs-spec : {M : Type 1} → statement M
 arcs-spec =

@@ -5,6 +5,7 @@ use Prim.Native.Nat.{_-_, _/_, _≤_}
 use lib.ListN.{length, getD, length-set}
 use Rattle.masks.specs.Cells.{Filled, set-more}
 use Rattle.tosses.specs.Tosses.{directOf}
+use Rattle.straight.specs.TurnLaws.{targets-are}
 use Rattle.turns.proofs.targets.Statement.{statement}
 use Rattle.turns.proofs.targets.Tie as tie
 
@@ -45,7 +46,7 @@ loop-again : tie.Need-loop-again Inv-loop μ-loop
 loop-again c = (omega arith, (simp length-set ((c .before .before .before .before .loop) .inv .1 .0), set-more 0 (λ k. directOf (getD ((c .before .before .before .before .before .args) .arcs .now) k 0) (getD ((c .before .before .before .before .before .args) .keep .now) (k / 32) 0)) ((c .before .before .before .before .loop) .a) _ ((c .before .before .before .before .loop) .r) (omega (arith, (c .before .before .before .before .loop) .inv .1 .0)) ((c .direct-target) .ensures) ((c .before .before .before .before .loop) .inv .1 .1)))
 
 returns : tie.Need-returns Inv-loop μ-loop
-returns c = record { targets = λ k h. (c .before .loop) .inv .1 .1 k (omega arith) }
+returns c = targets-are (c .before .before .args .arcs .now) (c .before .before .args .keep .now) (c .before .loop .r) (c .before .loop .inv .1 .0) (λ k h. c .before .loop .inv .1 .1 k (omega arith))
 
 pub targets-spec : {M : Type 1} → statement M
 targets-spec =
