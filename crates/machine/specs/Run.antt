@@ -68,3 +68,7 @@ runChecked t ks vs most log (suc n) = ended (suc n) [] 0 noState [] log
 -- table, schedule, value list, most dropped nodes per step, log buffer
 unfoldable pub run : Table → List ℕ → List ℤ → ℕ → List ℕ → Ran
 run t ks vs most log = runChecked t ks vs most log (fault t)
+
+-- "A run completes if its stop number is 0": what a run has come to, as that of a run that completes
+abbrev pub completed : Ran → Ran
+completed r = record { answer = record { steps = r .answer .steps; used = r .answer .used; stop = 0; state = r .answer .state }; log = r .log }

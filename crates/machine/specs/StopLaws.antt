@@ -12,11 +12,7 @@ use Rattle.text.specs.Writer.{fault}
 use Rattle.machine.specs.declared.State.{State}
 use Rattle.machine.specs.State.{Begun, spent, begun, begin}
 use Rattle.machine.specs.Step.{stopNumber, Kept, keptIn, Step, stopped, stepped}
-use Rattle.machine.specs.Run.{entryBytes, Ran, turn, afterStep, runFrom, runBegun, runChecked, run}
-
--- the same answer and log, with no stop
-abbrev pub completed : Ran → Ran
-completed r = record { answer = record { steps = r .answer .steps; used = r .answer .used; stop = 0; state = r .answer .state }; log = r .log }
+use Rattle.machine.specs.Run.{entryBytes, Ran, turn, afterStep, runFrom, runBegun, runChecked, run, completed}
 
 module _ (t : Table) (keep : Kept) (most : ℕ) (vs : List ℤ) where
   abbrev from : List ℕ → ℕ → State → List ℤ → List ℕ → Ran

@@ -15,8 +15,7 @@ use Rattle.closing.specs.Close.{close}
 use Rattle.machine.specs.declared.State.{State}
 use Rattle.machine.specs.State.{openFrames, isLost, frameAt, topmost, semCount, entriesAt, varAt, standsBefore, standstill}
 use Rattle.machine.specs.Step.{failing}
-use Rattle.machine.specs.Run.{Ran, run}
-use Rattle.machine.specs.StopLaws.{completed}
+use Rattle.machine.specs.Run.{Ran, run, completed}
 use Rattle.promise.specs.History.{History, history, lastSetting}
 
 -- ---- what agrees
