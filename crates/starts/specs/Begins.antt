@@ -8,7 +8,7 @@ use lib.IntN.{ℤ, pos}
 use Rattle.table.specs.Table.{procAt}
 use Rattle.table.specs.declared.Slot.{Slot}
 use Rattle.table.specs.declared.Table.{Table}
-use Rattle.text.specs.Reader.{concat}
+use Rattle.text.specs.Reader.{concatFrom}
 use Rattle.machine.specs.declared.Frame.{Frame}
 use Rattle.machine.specs.declared.State.{State}
 use Rattle.machine.specs.State.{Begun, spent, begun, firstState}
@@ -16,7 +16,7 @@ use Rattle.starts.specs.declared.Started.{Started}
 
 -- the nodes of the procedures, one after another
 abbrev pub rowOf : Table → List Slot
-rowOf t = concat (λ p. procAt t p .slots) 8 0
+rowOf t = concatFrom (λ p. procAt t p .slots) 8 0
 
 abbrev pub frameIn : List Frame → ℕ → Frame
 frameIn l j = getD l j (record { proc = 0; node = 0; vars = [] })

@@ -10,29 +10,29 @@ use Rattle.table.specs.Shape.{Shaped}
 use Rattle.table.specs.Table.{noSlot, procAt, nodeAt}
 use Rattle.table.specs.declared.Slot.{Slot}
 use Rattle.table.specs.declared.Table.{Table}
-use Rattle.text.specs.Reader.{concat}
+use Rattle.text.specs.Reader.{concatFrom}
 use Rattle.starts.specs.Begins.{rowOf}
 
 -- n lists of k elements each
 module _ {A : Type 0} (f : ℕ → List A) (k : ℕ) where
-  pub block-length : (n i : ℕ) → ((p : ℕ) → p < i + n → length (f p) ≡ k) → length (concat f n i) ≡ k * n
-  unfolding concat
+  pub block-length : (n i : ℕ) → ((p : ℕ) → p < i + n → length (f p) ≡ k) → length (concatFrom f n i) ≡ k * n
+  unfolding concatFrom
   block-length zero i h = omega arith
   block-length (suc n) i h =
-      length-append (f i) (concat f n (suc i)) ∙ (λ ι. h i (omega arith) ι + block-length n (suc i) (λ p l. h p (omega arith)) ι) ∙ omega (arith, mul-suc k n)
+      length-append (f i) (concatFrom f n (suc i)) ∙ (λ ι. h i (omega arith) ι + block-length n (suc i) (λ p l. h p (omega arith)) ι) ∙ omega (arith, mul-suc k n)
 
-  pub block-at : (n i p j : ℕ) (d : A) → ((p : ℕ) → p < i + n → length (f p) ≡ k) → p < n → j < k → getD (concat f n i) (k * p + j) d ≡ getD (f (i + p)) j d
-  unfolding concat
+  pub block-at : (n i p j : ℕ) (d : A) → ((p : ℕ) → p < i + n → length (f p) ≡ k) → p < n → j < k → getD (concatFrom f n i) (k * p + j) d ≡ getD (f (i + p)) j d
+  unfolding concatFrom
   block-at zero i p j d h u v = absurd (omega arith)
   block-at (suc n) i zero j d h u v =
       let a : k * 0 + j ≡ j = omega arith in
       let b : i + 0 ≡ i = omega arith in
       let l : j < length (f i) = omega (arith, h i (omega arith)) in
-      rw (a, b) (List·getD-append (f i) (concat f n (suc i)) d j l)
+      rw (a, b) (List·getD-append (f i) (concatFrom f n (suc i)) d j l)
   block-at (suc n) i (suc p) j d h u v =
       let e : k * suc p + j ≡ length (f i) + (k * p + j) = omega (arith, mul-suc k p, h i (omega arith)) in
       let b : i + suc p ≡ suc i + p = omega arith in
-      rw (e, b) (getD-append-add (f i) (concat f n (suc i)) (k * p + j) d ∙ block-at n (suc i) p j d (λ q l. h q (omega arith)) (omega arith) v)
+      rw (e, b) (getD-append-add (f i) (concatFrom f n (suc i)) (k * p + j) d ∙ block-at n (suc i) p j d (λ q l. h q (omega arith)) (omega arith) v)
 
 -- ---- the row of a table's nodes
 

@@ -12,7 +12,7 @@ use Rattle.table.specs.declared.Args.{Args}
 use Rattle.table.specs.declared.Node.{Node}
 use Rattle.table.specs.declared.Node.the-variants.{Absent, Start, Set, Test, Read, Call, Wait, Signal, Send, Recv, Assert, Out, Return}
 use Rattle.table.specs.declared.Slot.{Slot}
-use Rattle.text.specs.Reader.{concat}
+use Rattle.text.specs.Reader.{concatFrom}
 use Rattle.machine.specs.State.{varAt, noVars}
 use Rattle.machine.specs.Step.{operandIn, valueOf, entering}
 use Rattle.tosses.specs.Tosses.{directOf}
@@ -179,7 +179,7 @@ arcsOf f row = map (λ (s : Slot). f (s .node)) row
 
 -- the kept node that each of 256 arcs leads straight to, 32 if it does not; each procedure has 32 of them and one mask of kept nodes
 abbrev pub targetsOf : List ℕ → List ℕ → List ℕ
-targetsOf arcs keep = concat (λ a. directOf (getD arcs a 0) (getD keep (a / 32) 0) ∷ []) 256 0
+targetsOf arcs keep = concatFrom (λ a. directOf (getD arcs a 0) (getD keep (a / 32) 0) ∷ []) 256 0
 
 -- ---- a step completed behind the dropped nodes. The topmost frame's place is emptied if it is closed; then the frame that goes on is stored
 
