@@ -33,7 +33,7 @@ array-share-prefix-text c = search needs
 
 -- src/main.rt:77:17
 slice-aggregate-answers : tie.Need-slice-aggregate-answers Inv-loop μ-loop
-slice-aggregate-answers c = sym (length-take-le _ _ (c .before .before .before .before .next .ensures))
+slice-aggregate-answers c = sym (length-take-le _ _ (c .before .before .before .before .next .ensures .part .within))
 
 -- src/main.rt:77:9
 answers-requires : tie.Need-answers-requires Inv-loop μ-loop
