@@ -2,8 +2,8 @@
 use Prim.Native.Nat.{ℕ}
 use Rattle.table.specs.Mask.{bit, membersFrom, maskOf}
 use Rattle.table.specs.Values.{shr, apply}
-use Rattle.table.specs.Table.{uses, variableSet, arcTo, arcNo, keeping, isAbsent}
+use Rattle.table.specs.Table.{parts, mapNode}
 
 unfoldable pub computing : ℕ
-unfolding bit membersFrom maskOf shr apply uses variableSet arcTo arcNo keeping isAbsent
+unfolding bit membersFrom maskOf shr apply parts mapNode
 computing = 0

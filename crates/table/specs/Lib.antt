@@ -1,6 +1,11 @@
+pub mod Cases
 pub mod Mask
 pub mod MaskLaws
 pub mod Values
 pub mod Table
+pub mod ByKind
+pub mod NodeLaws
+pub mod Reach
+pub mod ReachLaws
 pub mod Shape
 pub mod Computing

@@ -97,106 +97,116 @@ abbrev pub operandUses : Operand → List ℕ
 operandUses (Var v) = v ∷ []
 operandUses (Const c) = []
 
--- ---- views of a node
+-- ---- a node by its parts: through them closing, stepping and the text see it
 
--- the variables that it uses
-unfoldable pub uses : Node → List ℕ
-uses Absent = []
-uses (Start to) = []
-uses (Set v o a b to) = operandUses a ++ operandUses b
-uses (Test o a b y n) = operandUses a ++ operandUses b
-uses (Read v to) = []
-uses (Call q xs to) = argList xs
-uses (Wait s to) = []
-uses (Signal s to) = []
-uses (Send q v to) = v ∷ []
-uses (Recv q v to) = []
-uses (Assert v to) = v ∷ []
-uses (Out v to) = v ∷ []
-uses Return = []
+-- "Kept: all nodes but `read`, and `set` or `test` with a dirty use": a `read` is never kept, and alone is; a place without a node is absent
+pub data Keeping : Type 0 where
+  always ifClean never absent : Keeping
 
--- the variable that it sets
-unfoldable pub variableSet : Node → Option ℕ
-variableSet Absent = none
-variableSet (Start to) = none
-variableSet (Set v o a b to) = some v
-variableSet (Test o a b y n) = none
-variableSet (Read v to) = some v
-variableSet (Call q xs to) = none
-variableSet (Wait s to) = none
-variableSet (Signal s to) = none
-variableSet (Send q v to) = none
-variableSet (Recv q v to) = some v
-variableSet (Assert v to) = none
-variableSet (Out v to) = none
-variableSet Return = none
+-- where it goes on: nowhere, by its arc, or by one of a test's two, at `yes` and at `no`; an arc is a mask of targets
+pub data Exit : Type 0 where
+  ends : Exit
+  by : ℕ → Exit
+  either : ℕ → ℕ → Exit
+
+-- what it does beyond its frame's variables: to a semaphore, to a queue with a variable, or a frame opened or closed
+pub data Act : Type 0 where
+  alone : Act
+  waits signals : ℕ → Act
+  sends receives : ℕ → ℕ → Act
+  calls : ℕ → Args → Act
+  returns : Act
+
+pub record Parts : Type 0 where
+  pub uses : List ℕ  -- the variables that it uses
+  pub sets : Option ℕ  -- the variable that it sets
+  pub keeping : Keeping
+  pub act : Act
+  pub asserted : Option ℕ  -- the variable that it asserts
+  pub exit : Exit
+
+abbrev pub made : List ℕ → Option ℕ → Keeping → Act → Option ℕ → Exit → Parts
+made us v k a w e = record { uses = us; sets = v; keeping = k; act = a; asserted = w; exit = e }
+
+-- by kind: uses, sets, keeping, act, asserted, exit
+unfoldable pub parts : Node → Parts
+parts Absent = made [] none absent alone none ends
+parts (Start to) = made [] none always alone none (by to)
+parts (Set v o a b to) = made (operandUses a ++ operandUses b) (some v) ifClean alone none (by to)
+parts (Test o a b y n) = made (operandUses a ++ operandUses b) none ifClean alone none (either y n)
+parts (Read v to) = made [] (some v) never alone none (by to)
+parts (Call q xs to) = made (argList xs) none always (calls q xs) none (by to)
+parts (Wait s to) = made [] none always (waits s) none (by to)
+parts (Signal s to) = made [] none always (signals s) none (by to)
+parts (Send q v to) = made (v ∷ []) none always (sends q v) none (by to)
+parts (Recv q v to) = made [] (some v) always (receives q v) none (by to)
+parts (Assert v to) = made (v ∷ []) none always alone (some v) (by to)
+parts (Out v to) = made (v ∷ []) none always alone none (by to)
+parts Return = made [] none always returns none ends
+
+abbrev pub uses : Node → List ℕ
+uses x = parts x .uses
+
+abbrev pub variableSet : Node → Option ℕ
+variableSet x = parts x .sets
+
+abbrev pub keeping : Node → Keeping
+keeping x = parts x .keeping
+
+abbrev pub act : Node → Act
+act x = parts x .act
+
+abbrev pub asserted : Node → Option ℕ
+asserted x = parts x .asserted
+
+abbrev pub noNode : Keeping → Bool
+noNode always = false
+noNode ifClean = false
+noNode never = false
+noNode absent = true
+
+abbrev pub isAbsent : Node → Bool
+isAbsent x = noNode (keeping x)
 
 -- its arc, as a mask; of a test the one taken at `yes`
-unfoldable pub arcTo : Node → ℕ
-arcTo Absent = 0
-arcTo (Start to) = to
-arcTo (Set v o a b to) = to
-arcTo (Test o a b y n) = y
-arcTo (Read v to) = to
-arcTo (Call q xs to) = to
-arcTo (Wait s to) = to
-arcTo (Signal s to) = to
-arcTo (Send q v to) = to
-arcTo (Recv q v to) = to
-arcTo (Assert v to) = to
-arcTo (Out v to) = to
-arcTo Return = 0
+abbrev pub firstArc : Exit → ℕ
+firstArc ends = 0
+firstArc (by m) = m
+firstArc (either y n) = y
 
 -- a test's arc at `no`
-unfoldable pub arcNo : Node → ℕ
-arcNo Absent = 0
-arcNo (Start to) = 0
-arcNo (Set v o a b to) = 0
-arcNo (Test o a b y n) = n
-arcNo (Read v to) = 0
-arcNo (Call q xs to) = 0
-arcNo (Wait s to) = 0
-arcNo (Signal s to) = 0
-arcNo (Send q v to) = 0
-arcNo (Recv q v to) = 0
-arcNo (Assert v to) = 0
-arcNo (Out v to) = 0
-arcNo Return = 0
+abbrev pub secondArc : Exit → ℕ
+secondArc ends = 0
+secondArc (by m) = 0
+secondArc (either y n) = n
+
+abbrev pub arcTo : Node → ℕ
+arcTo x = firstArc (parts x .exit)
+
+abbrev pub arcNo : Node → ℕ
+arcNo x = secondArc (parts x .exit)
 
 -- the targets of all its arcs
 abbrev pub arcs : Node → List ℕ
 arcs x = members (arcTo x) ++ members (arcNo x)
 
--- "Kept: all nodes but `read`, and `set` or `test` with a dirty use"
-pub data Keeping : Type 0 where
-  always never ifClean : Keeping
+-- ---- a node with other arcs and variables
 
-unfoldable pub keeping : Node → Keeping
-keeping Absent = never
-keeping (Start to) = always
-keeping (Set v o a b to) = ifClean
-keeping (Test o a b y n) = ifClean
-keeping (Read v to) = never
-keeping (Call q xs to) = always
-keeping (Wait s to) = always
-keeping (Signal s to) = always
-keeping (Send q v to) = always
-keeping (Recv q v to) = always
-keeping (Assert v to) = always
-keeping (Out v to) = always
-keeping Return = always
+abbrev pub mapArgs : (ℕ → ℕ → ℕ) → Args → Args
+mapArgs f x = record { len = x .len; a0 = f 0 (x .a0); a1 = f 1 (x .a1); a2 = f 2 (x .a2); a3 = f 3 (x .a3) }
 
-unfoldable pub isAbsent : Node → Bool
-isAbsent Absent = true
-isAbsent (Start to) = false
-isAbsent (Set v o a b to) = false
-isAbsent (Test o a b y n) = false
-isAbsent (Read v to) = false
-isAbsent (Call q xs to) = false
-isAbsent (Wait s to) = false
-isAbsent (Signal s to) = false
-isAbsent (Send q v to) = false
-isAbsent (Recv q v to) = false
-isAbsent (Assert v to) = false
-isAbsent (Out v to) = false
-isAbsent Return = false
+-- each arc m is `arc m`; variable v, where `-` may stand, is `var i v`, i being the place of an argument, else 0
+unfoldable pub mapNode : (ℕ → ℕ) → (ℕ → ℕ → ℕ) → Node → Node
+mapNode arc var Absent = Absent
+mapNode arc var (Start to) = Start (arc to)
+mapNode arc var (Set v o a b to) = Set v o a b (arc to)
+mapNode arc var (Test o a b y n) = Test o a b (arc y) (arc n)
+mapNode arc var (Read v to) = Read v (arc to)
+mapNode arc var (Call q xs to) = Call q (mapArgs var xs) (arc to)
+mapNode arc var (Wait s to) = Wait s (arc to)
+mapNode arc var (Signal s to) = Signal s (arc to)
+mapNode arc var (Send q v to) = Send q (var 0 v) (arc to)
+mapNode arc var (Recv q v to) = Recv q (var 0 v) (arc to)
+mapNode arc var (Assert v to) = Assert (var 0 v) (arc to)
+mapNode arc var (Out v to) = Out (var 0 v) (arc to)
+mapNode arc var Return = Return
