@@ -8,12 +8,12 @@ use lib.Dec.{leb}
 use lib.ListN.{drop}
 use lib.IntN.{ℤ}
 use borrow.Author.Tests.{leb-true}
+use Rattle.table.specs.Cases.{cases}
 use Rattle.table.specs.declared.Operand.{Operand}
 use Rattle.table.specs.declared.Operand.the-variants.{Var, Const}
 use Rattle.text.specs.declared.Fault.{Fault}
 use Rattle.text.specs.Value.{operand, numeral, saidOperand, operandFault, check}
 use Rattle.text.specs.Line.{took, refused, verdict, judged}
-use Rattle.text.specs.NumberLaws.{cases}
 use Rattle.operands.specs.declared.Operand.{Operand as Answer}
 use Rattle.operands.specs.declared.Operand.the-variants.{Is as IsOperand, Not as NotOperand}
 use Rattle.operands.specs.Answer.{OperandJudged}

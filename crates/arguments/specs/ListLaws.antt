@@ -11,7 +11,7 @@ use lib.Dec.{leb}
 use lib.ListN.{length, set, take, drop, length-append}
 use lib.Seq.{sets, length-sets, set-out, sets-eq, take-append-seam}
 use borrow.Author.Tests.{le-leb, lt-leb, lt-ltb, le-ltb, leb-true}
-use Rattle.text.specs.NumberLaws.{cases}
+use Rattle.table.specs.Cases.{cases}
 use Rattle.table.specs.Mask.{pick}
 use Rattle.text.specs.Number.{bytes}
 use Rattle.text.specs.Value.{same, split, each, followed}

@@ -8,10 +8,11 @@ use native.Mathlib.Omega.{arith}
 use lib.Dec.{ltb, eqb}
 use lib.ListN.{take, replicate}
 use borrow.Author.Tests.{lt-ltb, le-ltb, eq-eqb, ne-eqb}
+use Rattle.table.specs.Cases.{cases}
 use Rattle.table.specs.Table.{removed}
 use Rattle.table.specs.declared.Args.{Args}
-use Rattle.text.specs.NumberLaws.{cases}
-use Rattle.text.specs.Value.{noneRemoved, allDeclared}
+use Rattle.text.specs.Number.{every}
+use Rattle.text.specs.Value.{isNamed, noneRemoved, isDeclared, allDeclared}
 use Rattle.text.specs.Format.{nameOf, argNames}
 
 abbrev pub removedAt : ℕ → ℕ → ℕ → Bool
@@ -23,12 +24,16 @@ declaredAt n len k v = not (ltb k len) || (eqb v removed || ltb v n)
 -- ---- one argument and those behind it
 
 removed-first : (v : ℕ) (xs : List (Option ℕ)) → noneRemoved (nameOf v ∷ xs) ≡ not (eqb v removed) && noneRemoved xs
-unfolding noneRemoved
+unfolding every
 removed-first v xs = cases (eqb v removed) (λ e. rw e) (λ e. rw e)
 
 declared-first : (n v : ℕ) (xs : List (Option ℕ)) → allDeclared n (nameOf v ∷ xs) ≡ (eqb v removed || ltb v n) && allDeclared n xs
-unfolding allDeclared
+unfolding every
 declared-first n v xs = cases (eqb v removed) (λ e. rw e) (λ e. rw e)
+
+none-in : {A : Type 0} (f : A → Bool) → every f [] ≡ true
+unfolding every
+none-in f = refl
 
 and-true : (a : Bool) → a && true ≡ a
 and-true true = refl
@@ -43,12 +48,12 @@ same-twice true b e = e
 same-twice false b e = refl
 
 rest-removed : (d l : ℕ) → noneRemoved (rest d l) ≡ not (eqb d removed)
-unfolding noneRemoved
+unfolding every
 rest-removed d zero = removed-first d [] ∙ and-true (not (eqb d removed))
 rest-removed d (suc l) = removed-first d (rest d l) ∙ same-twice (not (eqb d removed)) (noneRemoved (rest d l)) (rest-removed d l)
 
 rest-declared : (n d l : ℕ) → allDeclared n (rest d l) ≡ eqb d removed || ltb d n
-unfolding allDeclared
+unfolding every
 rest-declared n d zero = declared-first n d [] ∙ and-true (eqb d removed || ltb d n)
 rest-declared n d (suc l) = declared-first n d (rest d l) ∙ same-twice (eqb d removed || ltb d n) (allDeclared n (rest d l)) (rest-declared n d l)
 
@@ -76,11 +81,10 @@ or-false true = refl
 or-false false = refl
 
 some-removed : (l a b c d : ℕ) → noneRemoved (names l a b c d) ≡ not (removedAt l 0 a || (removedAt l 1 b || (removedAt l 2 c || removedAt l 3 d)))
-unfolding noneRemoved
-some-removed zero a b c d = refl
-some-removed (suc zero) a b c d = simp (removed-first, and-true, or-false)
-some-removed (suc (suc zero)) a b c d = simp (removed-first, and-true, or-false, not-or)
-some-removed (suc (suc (suc zero))) a b c d = simp (removed-first, and-true, or-false, not-or)
+some-removed zero a b c d = none-in isNamed
+some-removed (suc zero) a b c d = simp (removed-first, none-in, and-true, or-false)
+some-removed (suc (suc zero)) a b c d = simp (removed-first, none-in, and-true, or-false, not-or)
+some-removed (suc (suc (suc zero))) a b c d = simp (removed-first, none-in, and-true, or-false, not-or)
 some-removed (suc (suc (suc (suc l)))) a b c d =
     let n = suc (suc (suc (suc l))) in
     rw (names-many l a b c d, lt-ltb 0 n (omega arith), lt-ltb 1 n (omega arith), lt-ltb 2 n (omega arith), lt-ltb 3 n (omega arith))
@@ -94,11 +98,10 @@ removed-is xs = ap not (some-removed (xs .len) (xs .a0) (xs .a1) (xs .a2) (xs .a
     twice false = refl
 
 declared-in : (n l a b c d : ℕ) → allDeclared n (names l a b c d) ≡ declaredAt n l 0 a && (declaredAt n l 1 b && (declaredAt n l 2 c && declaredAt n l 3 d))
-unfolding allDeclared
-declared-in n zero a b c d = refl
-declared-in n (suc zero) a b c d = simp (declared-first)
-declared-in n (suc (suc zero)) a b c d = simp (declared-first)
-declared-in n (suc (suc (suc zero))) a b c d = simp (declared-first)
+declared-in n zero a b c d = none-in (isDeclared n)
+declared-in n (suc zero) a b c d = simp (declared-first, none-in)
+declared-in n (suc (suc zero)) a b c d = simp (declared-first, none-in)
+declared-in n (suc (suc (suc zero))) a b c d = simp (declared-first, none-in)
 declared-in n (suc (suc (suc (suc l)))) a b c d =
     let m = suc (suc (suc (suc l))) in
     rw (names-many l a b c d, lt-ltb 0 m (omega arith), lt-ltb 1 m (omega arith), lt-ltb 2 m (omega arith), lt-ltb 3 m (omega arith))

@@ -2,7 +2,7 @@
 use Prim.Native.Nat.{ℕ, zero, suc}
 use mathlib.Core.Path.{_≡_, refl, sym, _∙_, ap}
 use mathlib.Core.Option.{none}
-use mathlib.Core.Bool.{Bool, true, false, _&&_}
+use mathlib.Core.Bool.{Bool, true, false, _&&_, not}
 use native.Mathlib.Omega.{arith}
 use lib.Dec.{ltb}
 use borrow.Author.Tests.{lt-ltb, le-leb}
@@ -12,9 +12,11 @@ use Rattle.table.specs.declared.Operand.{Operand}
 use Rattle.table.specs.declared.Args.{Args}
 use Rattle.table.specs.declared.Node.{Node}
 use Rattle.table.specs.declared.Node.the-variants.{Absent, Start, Set, Test, Read, Call, Wait, Signal, Send, Recv, Assert, Out, Return}
-use Rattle.text.specs.declared.Fault.the-variants.{Index}
+use Rattle.text.specs.declared.Fault.the-variants.{Form, Index}
 use Rattle.text.specs.Fault.{number}
-use Rattle.text.specs.Value.{NodeKind, start, setKind, test, read, call, wait, signal, send, recv, assert, out, return, ValueKind, kind, operation, operand, variable, arguments, oneOf, check}
+use Rattle.text.specs.declared.NodeKind.{NodeKind}
+use Rattle.text.specs.declared.NodeKind.the-variants.{Start as start, Set as setKind, Test as test, Read as read, Call as call, Wait as wait, Signal as signal, Send as send, Recv as recv, Assert as assert, Out as out, Return as return}
+use Rattle.text.specs.Value.{ValueKind, kind, operation, operand, variable, arguments, oneOf, same, unless, orElse, isKind, dueAt, check}
 use Rattle.text.specs.Line.{Vals, lineFault}
 use Rattle.text.specs.Format.{Scope, targets, nodeLine, fields, nameOf, argNames, Described, noLine, described, describe}
 use Rattle.text.specs.Structure.{numbered}
@@ -35,42 +37,21 @@ afterNumber zero = 4
 afterNumber (suc j) = 0
 
 abbrev pub readNumber : Bool → ℕ → ℕ
-readNumber true j = 2
-readNumber false j = afterNumber j
+readNumber c j = pick c 2 (afterNumber j)
 
 abbrev kindNumber : Bool → ℕ → NodeKind → ℕ
-kindNumber c j start = startNumber j
-kindNumber c j setKind = afterNumber j
-kindNumber c j test = afterNumber j
-kindNumber c j read = readNumber c j
-kindNumber c j call = afterNumber j
-kindNumber c j wait = afterNumber j
-kindNumber c j signal = afterNumber j
-kindNumber c j send = afterNumber j
-kindNumber c j recv = afterNumber j
-kindNumber c j assert = afterNumber j
-kindNumber c j out = afterNumber j
-kindNumber c j return = afterNumber j
-
-kind-zero : (c : Bool) (k : NodeKind) → numbered (check (kind c 0) k) ≡ kindNumber c 0 k
-unfolding check number
-kind-zero c k = elim k [ start ↦ refl | setKind ↦ refl | test ↦ refl | read ↦ go c | call ↦ refl | wait ↦ refl | signal ↦ refl | send ↦ refl | recv ↦ refl | assert ↦ refl | out ↦ refl | return ↦ refl ]
-  where
-    go : (c : Bool) → numbered (check (kind c 0) read) ≡ readNumber c 0
-    go true = refl
-    go false = refl
-
-kind-suc : (c : Bool) (j : ℕ) (k : NodeKind) → numbered (check (kind c (suc j)) k) ≡ kindNumber c (suc j) k
-unfolding check number
-kind-suc c j k = elim k [ start ↦ refl | setKind ↦ refl | test ↦ refl | read ↦ go c | call ↦ refl | wait ↦ refl | signal ↦ refl | send ↦ refl | recv ↦ refl | assert ↦ refl | out ↦ refl | return ↦ refl ]
-  where
-    go : (c : Bool) → numbered (check (kind c (suc j)) read) ≡ readNumber c (suc j)
-    go true = refl
-    go false = refl
+kindNumber c j k = pick (isKind read k && c) 2 (pick (isKind start k) (startNumber j) (afterNumber j))
 
 kind-is : (c : Bool) (j : ℕ) (k : NodeKind) → numbered (check (kind c j) k) ≡ kindNumber c j k
-kind-is c zero k = kind-zero c k
-kind-is c (suc j) k = kind-suc c j k
+unfolding check number
+kind-is c j k = go (isKind read k && c) (isKind start k) j
+  where
+    go : (r s : Bool) (j : ℕ) → numbered (orElse (unless (not r) Form) (unless (dueAt j s) Index)) ≡ pick r 2 (pick s (startNumber j) (afterNumber j))
+    go true s j = refl
+    go false true zero = refl
+    go false true (suc j) = refl
+    go false false zero = refl
+    go false false (suc j) = refl
 
 -- ---- lines
 
@@ -126,7 +107,7 @@ pub absent-is : (c : Scope) (j : ℕ) {x : Node} {r : ℕ} → x ≡ Absent → 
 absent-is c j e h = rw e h
 
 pub start-is : (c : Scope) (j to s : ℕ) {x : Node} {r : ℕ} → x ≡ Start to → s ≡ startNumber j → r ≡ toNumber c s to → r ≡ nodeNumber c j x
-unfolding nodeNumber describe lineFault
+unfolding nodeNumber describe lineFault same
 start-is c j to s e p h = (rw p at h) ∙ sym (line-is c j start _ ∙ simp (numbered-else, first-zero)) ∙ ap (nodeNumber c j) (sym e)
 
 any-op : (o : Op) → check (operation false) o ≡ none
@@ -134,47 +115,47 @@ unfolding check
 any-op o = refl
 
 pub set-is : (c : Scope) (j v : ℕ) (o : Op) (a b : Operand) (to : ℕ) {x : Node} {r : ℕ} → x ≡ Set v o a b to → r ≡ setNumber c j v a b to → r ≡ nodeNumber c j x
-unfolding nodeNumber describe lineFault
+unfolding nodeNumber describe lineFault same
 set-is c j v o a b to e h = h ∙ sym (line-is c j setKind _ ∙ simp (any-op, numbered-else, first-zero)) ∙ ap (nodeNumber c j) (sym e)
 
 pub test-is : (c : Scope) (j : ℕ) (o : Op) (a b : Operand) (y n : ℕ) {x : Node} {r : ℕ} → x ≡ Test o a b y n → r ≡ testNumber c j o a b y n → r ≡ nodeNumber c j x
-unfolding nodeNumber describe lineFault
+unfolding nodeNumber describe lineFault same
 test-is c j o a b y n e h = h ∙ sym (line-is c j test _ ∙ simp (numbered-else, first-zero)) ∙ ap (nodeNumber c j) (sym e)
 
 pub read-is : (c : Scope) (j v to : ℕ) {x : Node} {r : ℕ} → x ≡ Read v to → r ≡ firstNumber (readNumber (c .closed) j) (toNumber c (oneNumber (c .vars) v) to) → r ≡ nodeNumber c j x
-unfolding nodeNumber describe lineFault
+unfolding nodeNumber describe lineFault same
 read-is c j v to e h = h ∙ sym (line-is c j read _ ∙ simp (numbered-else, first-zero)) ∙ ap (nodeNumber c j) (sym e)
 
 pub call-is : (c : Scope) (j q : ℕ) (xs : Args) (to : ℕ) {x : Node} {r : ℕ} → x ≡ Call q xs to → r ≡ callNumber c j q xs to → r ≡ nodeNumber c j x
-unfolding nodeNumber describe lineFault
+unfolding nodeNumber describe lineFault same
 call-is c j q xs to e h = h ∙ sym (line-is c j call _ ∙ simp (numbered-else, first-zero)) ∙ ap (nodeNumber c j) (sym e)
 
 pub wait-is : (c : Scope) (j s to : ℕ) {x : Node} {r : ℕ} → x ≡ Wait s to → r ≡ firstNumber (afterNumber j) (toNumber c (oneNumber (c .sems) s) to) → r ≡ nodeNumber c j x
-unfolding nodeNumber describe lineFault
+unfolding nodeNumber describe lineFault same
 wait-is c j s to e h = h ∙ sym (line-is c j wait _ ∙ simp (numbered-else, first-zero)) ∙ ap (nodeNumber c j) (sym e)
 
 pub signal-is : (c : Scope) (j s to : ℕ) {x : Node} {r : ℕ} → x ≡ Signal s to → r ≡ firstNumber (afterNumber j) (toNumber c (oneNumber (c .sems) s) to) → r ≡ nodeNumber c j x
-unfolding nodeNumber describe lineFault
+unfolding nodeNumber describe lineFault same
 signal-is c j s to e h = h ∙ sym (line-is c j signal _ ∙ simp (numbered-else, first-zero)) ∙ ap (nodeNumber c j) (sym e)
 
 pub send-is : (c : Scope) (j q v to : ℕ) {x : Node} {r : ℕ} → x ≡ Send q v to → r ≡ queueNumber c j q v to → r ≡ nodeNumber c j x
-unfolding nodeNumber describe lineFault
+unfolding nodeNumber describe lineFault same
 send-is c j q v to e h = h ∙ sym (line-is c j send _ ∙ simp (numbered-else, first-zero)) ∙ ap (nodeNumber c j) (sym e)
 
 pub recv-is : (c : Scope) (j q v to : ℕ) {x : Node} {r : ℕ} → x ≡ Recv q v to → r ≡ queueNumber c j q v to → r ≡ nodeNumber c j x
-unfolding nodeNumber describe lineFault
+unfolding nodeNumber describe lineFault same
 recv-is c j q v to e h = h ∙ sym (line-is c j recv _ ∙ simp (numbered-else, first-zero)) ∙ ap (nodeNumber c j) (sym e)
 
 pub assert-is : (c : Scope) (j v to : ℕ) {x : Node} {r : ℕ} → x ≡ Assert v to → r ≡ firstNumber (afterNumber j) (toNumber c (variableNumber c v) to) → r ≡ nodeNumber c j x
-unfolding nodeNumber describe lineFault
+unfolding nodeNumber describe lineFault same
 assert-is c j v to e h = h ∙ sym (line-is c j assert _ ∙ simp (numbered-else, first-zero)) ∙ ap (nodeNumber c j) (sym e)
 
 pub out-is : (c : Scope) (j v to : ℕ) {x : Node} {r : ℕ} → x ≡ Out v to → r ≡ firstNumber (afterNumber j) (toNumber c (variableNumber c v) to) → r ≡ nodeNumber c j x
-unfolding nodeNumber describe lineFault
+unfolding nodeNumber describe lineFault same
 out-is c j v to e h = h ∙ sym (line-is c j out _ ∙ simp (numbered-else, first-zero)) ∙ ap (nodeNumber c j) (sym e)
 
 pub return-is : (c : Scope) (j : ℕ) {x : Node} {r : ℕ} → x ≡ Return → r ≡ afterNumber j → r ≡ nodeNumber c j x
-unfolding nodeNumber describe lineFault
+unfolding nodeNumber describe lineFault same
 return-is c j e h = h ∙ sym (line-is c j return tt ∙ first-zero (afterNumber j)) ∙ ap (nodeNumber c j) (sym e)
 
 -- ---- as code finds them

@@ -16,16 +16,6 @@ ghost use Rattle.checks.specs.Numbers.{firstNumber};
 ghost use Rattle.checks.specs.ArgumentChecks.{removedAt, declaredAt};
 ghost use Rattle.checks.specs.NodeChecks.{scopeIn, startNumber, afterNumber, readNumber, oneNumber, variableNumber, toNumber, setNumber, testNumber, callNumber, queueNumber, nodeNumber};
 
-const FORM: u8 = 2;
-
-const MISSPELT: u8 = 2;
-
-const RANGE: u8 = 3;
-
-const INDEX: u8 = 4;
-
-const REFERENCE: u8 = 5;
-
 // Of `node`, where a node is due and absent: which fault that is depends on the places behind it.
 pub const GAP: u8 = 255;
 
@@ -51,16 +41,16 @@ pub fn between(lo: u8, v: u8, hi: u8) -> u8
     ensures { λ r. ⌜ r ≡ numbered (check (from lo hi) v) ⌝ }
 {
     if v < lo {
-        return RANGE;
+        return text::RANGE;
     }
-    if v <= hi { 0 } else { RANGE }
+    if v <= hi { 0 } else { text::RANGE }
 }
 
 // A reference to one of n.
 pub fn reference(v: u8, n: u8) -> u8
     ensures { λ r. ⌜ r ≡ numbered (check (oneOf n) v) ⌝ }
 {
-    if v < n { 0 } else { REFERENCE }
+    if v < n { 0 } else { text::REFERENCE }
 }
 
 // A test has lt or eq.
@@ -68,12 +58,12 @@ pub fn compares(o: Op) -> u8
     ensures { λ r. ⌜ r ≡ numbered (check (operation true) o) ⌝ }
 {
     match o {
-        Op::Add => FORM,
-        Op::Sub => FORM,
-        Op::And => FORM,
-        Op::Or => FORM,
-        Op::Xor => FORM,
-        Op::Shr => FORM,
+        Op::Add => text::FORM,
+        Op::Sub => text::FORM,
+        Op::And => text::FORM,
+        Op::Or => text::FORM,
+        Op::Xor => text::FORM,
+        Op::Shr => text::FORM,
         Op::Lt => 0,
         Op::Eq => 0,
     }
@@ -104,7 +94,7 @@ pub fn variable(closed: bool, vars: u8, v: u8) -> u8
         if closed {
             return 0;
         }
-        return MISSPELT;
+        return text::MISSPELT;
     }
     reference(v, vars)
 }
@@ -176,9 +166,13 @@ pub fn arguments(closed: bool, vars: u8, xs: Args) -> u8
     ensures { λ r. ⌜ r ≡ numbered (check (argumentsOf closed vars) (argNames xs)) ⌝ }
 {
     if misspelt(closed, xs) {
-        return MISSPELT;
+        return text::MISSPELT;
     }
-    if all_declared(vars, xs) { 0 } else { REFERENCE }
+    if all_declared(vars, xs) {
+        0
+    } else {
+        text::REFERENCE
+    }
 }
 
 // Only a closed table removes arguments.
@@ -195,13 +189,13 @@ fn misspelt(closed: bool, xs: Args) -> bool
 fn starts(j: usize) -> u8
     ensures { λ r. ⌜ r ≡ startNumber j ⌝ }
 {
-    if j == 0 { 0 } else { INDEX }
+    if j == 0 { 0 } else { text::INDEX }
 }
 
 fn behind(j: usize) -> u8
     ensures { λ r. ⌜ r ≡ afterNumber j ⌝ }
 {
-    if j == 0 { INDEX } else { 0 }
+    if j == 0 { text::INDEX } else { 0 }
 }
 
 // A closed table has no read.
@@ -209,7 +203,7 @@ fn reads(closed: bool, j: usize) -> u8
     ensures { λ r. ⌜ r ≡ readNumber closed j ⌝ }
 {
     if closed {
-        return FORM;
+        return text::FORM;
     }
     behind(j)
 }
@@ -332,43 +326,5 @@ pub fn node(x: Node, j: usize, c: Limits) -> u8
 pub fn absent(x: Node) -> bool
     ensures { λ r. ⌜ r ≡ isAbsent x ⌝ }
 {
-    match x {
-        Node::Absent => true,
-        Node::Start { to: _ } => false,
-        Node::Set {
-            var: _,
-            op: _,
-            a: _,
-            b: _,
-            to: _,
-        } => false,
-        Node::Test {
-            op: _,
-            a: _,
-            b: _,
-            yes: _,
-            no: _,
-        } => false,
-        Node::Read { var: _, to: _ } => false,
-        Node::Call {
-            callee: _,
-            args: _,
-            to: _,
-        } => false,
-        Node::Wait { sem: _, to: _ } => false,
-        Node::Signal { sem: _, to: _ } => false,
-        Node::Send {
-            queue: _,
-            var: _,
-            to: _,
-        } => false,
-        Node::Recv {
-            queue: _,
-            var: _,
-            to: _,
-        } => false,
-        Node::Assert { var: _, to: _ } => false,
-        Node::Out { var: _, to: _ } => false,
-        Node::Return => false,
-    }
+    if let Node::Absent = x { true } else { false }
 }

@@ -10,10 +10,11 @@ use lib.ListN.{length, take, drop, getD, drop-of-length-le, length-drop, length-
 use lib.Seq.{drop-cons, drop-drop, length-take-le}
 use borrow.Author.Tests.{le-leb, lt-leb, leb-true}
 use Rattle.text.specs.Number.{allDigits, isDigit, value, valueFrom}
-use Rattle.text.specs.NumberLaws.{cases, byOrder, and-left, and-right, all-head, all-tail}
+use Rattle.text.specs.NumberLaws.{byOrder, and-left, and-right, all-head, all-tail}
 use Rattle.digits.specs.declared.Num.the-variants.{Good}
 use Rattle.digits.specs.declared.Lead.{Lead}
 use Rattle.digits.specs.Read.{digitOf, capped, digitsOf, leadingDigits, leadFrom, leadOf, fourFrom, firstOf}
+use Rattle.table.specs.Cases.{cases}
 
 -- ---- one digit
 pub digit-wraps : {b r : ℕ} → b < 256 → r < 256 → (r + 48) % 256 ≡ b → r ≡ digitOf b

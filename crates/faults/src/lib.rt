@@ -8,13 +8,11 @@ ghost use Rattle.text.specs.Reader.{good};
 ghost use Rattle.text.specs.Writer.{faultIn, fault as tableFault};
 ghost use Rattle.unused.specs.Unused.{Ranged};
 
-const UNUSED: u8 = 2;
-
 fn unused(t: Table) -> u8
     requires { ⌜ Ranged t ⌝ }
     ensures { λ r. ⌜ r ≡ faultIn t (good t) ⌝ }
 {
-    if unused::all_tidy(t) { 0 } else { UNUSED }
+    if unused::all_tidy(t) { 0 } else { text::UNUSED }
 }
 
 // Document 01's number for a fault.
@@ -22,17 +20,17 @@ pub fn number(f: Fault) -> u8
     ensures { λ r. ⌜ r ≡ numberOf f ⌝ }
 {
     match f {
-        Fault::Long => 1,
-        Fault::Form => 2,
-        Fault::Misspelt => 2,
-        Fault::Ended => 2,
-        Fault::Range => 3,
-        Fault::Index => 4,
-        Fault::Reference => 5,
-        Fault::Arguments => 6,
-        Fault::Unclosed => 7,
-        Fault::Unused => 2,
-        Fault::Short => 8,
+        Fault::Long => text::LONG,
+        Fault::Form => text::FORM,
+        Fault::Misspelt => text::MISSPELT,
+        Fault::Ended => text::ENDED,
+        Fault::Range => text::RANGE,
+        Fault::Index => text::INDEX,
+        Fault::Reference => text::REFERENCE,
+        Fault::Arguments => text::ARGUMENTS,
+        Fault::Unclosed => text::UNCLOSED,
+        Fault::Unused => text::UNUSED,
+        Fault::Short => text::SHORT,
     }
 }
 

@@ -10,6 +10,7 @@ use Rattle.table.specs.declared.Operand.{Operand}
 use Rattle.table.specs.declared.Args.{Args}
 use Rattle.text.specs.declared.Fault.{Fault}
 use Rattle.text.specs.Number.{bytes}
+use Rattle.text.specs.declared.NodeKind.{NodeKind}
 use Rattle.text.specs.Value.{ValueKind, Of, number, choice, kind, operation, operand, variable, ascending, arguments}
 use Rattle.text.specs.ValueLaws.{no}
 use Rattle.text.specs.Line.{Line, end, field, Vals, Outcome, took, refused, onto, fieldOf, line}
@@ -21,7 +22,6 @@ use Rattle.words.specs.declared.Choice.the-variants.{Is as IsChoice, Not as Not
 use Rattle.scan.specs.declared.Ended.{Ended}
 use Rattle.scan.specs.declared.Ended.the-variants.{Is as Fed, Not as Unfed}
 use Rattle.scan.specs.Place.{FeedAt}
-use Rattle.words.specs.declared.NodeKind.{NodeKind as Word}
 use Rattle.words.specs.declared.Kind.{Kind as KindAnswer}
 use Rattle.words.specs.declared.Kind.the-variants.{Is as IsKind, Not as NotKind}
 use Rattle.words.specs.declared.Operation.{Operation}
@@ -35,7 +35,7 @@ use Rattle.lists.specs.declared.Passed.the-variants.{Is as IsArgs, Not as NotAr
 use Rattle.numbers.specs.Answer.{NumberAt, mapped}
 use Rattle.operands.specs.Answer.{OperandAt, VariableAt}
 use Rattle.numbers.specs.ValueLaws.{mapped-took, mapped-refused}
-use Rattle.words.specs.Answer.{ChoiceAt, kindOf, KindAt, OpAt}
+use Rattle.words.specs.Answer.{ChoiceAt, KindAt, OpAt}
 use Rattle.lists.specs.Sets.{SetAt}
 use Rattle.lists.specs.Passing.{PassedAt}
 use Rattle.fields.specs.Answer.{Answer, got, failed, LineAt, numberFault, choiceFault, endFault, kindFault, opFault, operandFault, setFault, argsFault}
@@ -122,12 +122,12 @@ module _ {A : Type 0} {a b key s : List ℕ} {at : ℕ} {r : Choice} {next : Boo
 
 -- ---- kind
 module _ {c : Bool} {j : ℕ} {s : List ℕ} {at : ℕ} {r : KindAnswer} (m : KindAt c j s at r) where
-  pub kind-within : {v : Word} {e : ℕ} → r ≡ IsKind v e → e ≤ length s
+  pub kind-within : {v : NodeKind} {e : ℕ} → r ≡ IsKind v e → e ≤ length s
   kind-within {v} {e} q = let h : e < length s = rw q at (m .within) in omega arith
 
 module _ {A : Type 0} {c : Bool} {j : ℕ} {s : List ℕ} {at : ℕ} {r : KindAnswer} {next : Of (kind c j) → Line}
     {g : Vals (field (bytes " kind=") (kind c j) next) → A} (m : KindAt c j s at r) where
-  pub kind-next : {v : Word} {e : ℕ} → r ≡ IsKind v e → {o : Answer A} → LineAt (next (kindOf v)) (λ w. g (kindOf v, w)) s e o
+  pub kind-next : {v : NodeKind} {e : ℕ} → r ≡ IsKind v e → {o : Answer A} → LineAt (next v) (λ w. g (v, w)) s e o
       → LineAt (field (bytes " kind=") (kind c j) next) g s at o
   kind-next q u = goes-on {g = g} (λ l. sym (m .same l) ∙ rw q) u
 

@@ -7,10 +7,10 @@ use lib.Dec.{eqb}
 use lib.ListN.{length, getD, set, replicate, length-map, length-set, length-replicate}
 use lib.Seq.{getD-set-same, getD-set-other, ext-getD}
 use borrow.Author.Tests.{eqb-true, eqb-false, eq-eqb, ne-eqb}
+use Rattle.table.specs.Cases.{cases}
 use Rattle.table.specs.Table.{procAt}
 use Rattle.table.specs.declared.Table.{Table}
 use Rattle.text.specs.declared.Fault.the-variants.{Arguments, Unclosed}
-use Rattle.text.specs.NumberLaws.{cases}
 use Rattle.late_nodes.specs.declared.Callee.{Callee}
 use Rattle.late_lines.specs.declared.At.{At}
 use Rattle.late.specs.declared.Late.the-variants.{Good, Bad}

@@ -8,8 +8,6 @@ ghost use Rattle.text.specs.Reader.{firstLate, late as lateList};
 ghost use Rattle.late.specs.Late.{Counted, lateIn, lateOf};
 ghost use Rattle.late_nodes.specs.Terms.{termsOf};
 
-const ARGUMENTS: u8 = 6;
-
 // What is found after all lines.
 pub enum Late {
     Good,
@@ -45,7 +43,7 @@ fn answer(a: At) -> Late
     if a.number == 0 {
         return Late::Good;
     }
-    if a.number == ARGUMENTS {
+    if a.number == text::ARGUMENTS {
         return Late::Bad(text::Fault::Arguments, a.line);
     }
     Late::Bad(text::Fault::Unclosed, a.line)

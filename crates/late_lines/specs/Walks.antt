@@ -7,15 +7,15 @@ use mathlib.Core.Option.{Option, none, some}
 use mathlib.Core.Bool.{Bool, true, false}
 use native.Mathlib.Omega.{arith}
 use lib.ListN.{replicate}
+use Rattle.table.specs.Cases.{cases}
 use Rattle.table.specs.Mask.{pick}
-use Rattle.table.specs.Table.{nodeIn, isAbsent}
+use Rattle.table.specs.Table.{nodeIn, isAbsent, parts}
 use Rattle.table.specs.declared.Node.{Node}
 use Rattle.table.specs.declared.Proc.{Proc}
 use Rattle.table.specs.declared.Task.{Task}
 use Rattle.text.specs.declared.Fault.{Fault}
 use Rattle.text.specs.declared.Fault.the-variants.{Long, Form, Misspelt, Ended, Range, Index, Reference, Arguments, Unclosed, Unused, Short}
 use Rattle.text.specs.Fault.{number}
-use Rattle.text.specs.NumberLaws.{cases}
 use Rattle.text.specs.Reader.{concatFrom}
 use Rattle.text.specs.Structure.{numbered}
 use Rattle.text.specs.ValidLaws.{absent-is}
@@ -78,7 +78,7 @@ step-bad (suc r) k l e = refl
 
 -- a node
 absent-none : (c : Terms) (m : ℕ) (x : Node) → numbered (nodeFaultBy c m x) ≡ pick (isAbsent x) 0 (numbered (nodeFaultBy c m x))
-unfolding isAbsent nodeFaultBy
+unfolding parts nodeFaultBy
 absent-none c m x = cases (isAbsent x) (λ e. rw (absent-is x e)) (λ e. rw e)
 
 pub node-step : (c : Terms) (m : ℕ) (x : Node) (l : ℕ) {r k : ℕ} {a : At} → r ≡ numbered (nodeFaultBy c m x) → k ≡ pick (isAbsent x) 0 1 → a ≡ stepAt r k l → a ≡ firstAt l (nodeLateBy c m x)

@@ -15,8 +15,6 @@ ghost use Rattle.text.specs.Structure.{numbered};
 ghost use Rattle.late_nodes.specs.Terms.{presentIn};
 ghost use Rattle.late_lines.specs.Places.{dropFault, taskFaultBy, tasksLateBy, nodeLateBy, nodesLateBy, procLateBy, firstAt, stepAt};
 
-const CLOSING: u8 = 7;
-
 // A fault's number and its line; or 0 and the line behind those that were judged.
 pub struct At {
     pub number: u8,
@@ -120,7 +118,7 @@ fn drops(closed: bool, params: u8, drop: u8) -> u8
         if all_dropped(params, drop) {
             return 0;
         }
-        return CLOSING;
+        return text::UNCLOSED;
     }
     0
 }

@@ -2,19 +2,20 @@
 use Prim.Native.Nat.{ℕ, zero, suc, _+_, _-_, _%_, _^_, _≤_, _<_}
 use mathlib.Core.Path.{_≡_, refl, sym, _∙_, ap}
 use mathlib.Core.Bool.{Bool, true, false, not, _&&_}
-use mathlib.Core.List.{List, [], _∷_, List·Memᴰ, List·Memᴰ·head, List·Memᴰ·tail, List·Memᴰ·not-nil}
 use native.Mathlib.Omega.{arith}
 use native.Mathlib.Nat.{add-zero, mod-eq-of-lt, lt-of-lt-of-le, lt-of-le-of-lt}
 use lib.Bits.{bitAnd, and-le-l}
 use lib.Dec.{eqb}
 use lib.Pow.{pow-pos, pow-mono}
 use borrow.Author.Tests.{eqb-true, eqb-false, eq-eqb, ne-eqb, lt-ltb, le-ltb}
+use Rattle.table.specs.Cases.{cases}
 use Rattle.table.specs.Mask.{pick, bit, also, membersFrom, members, maskOf}
 use Rattle.table.specs.MaskLaws.{bit-above, bit-maskOf, maskOf-lt, members-is, bit-ext}
 use Rattle.table.specs.Table.{argAt, nodeIn, isAbsent}
 use Rattle.table.specs.declared.Args.{Args}
 use Rattle.table.specs.declared.Proc.{Proc}
-use Rattle.text.specs.NumberLaws.{cases, byOrder, and-left, and-right}
+use Rattle.text.specs.Number.{every}
+use Rattle.text.specs.NumberLaws.{byOrder, every-all, all-every}
 use Rattle.text.specs.ValueLaws.{no}
 use Rattle.text.specs.MaskLists.{mask-bits, mask-same}
 use Rattle.text.specs.Reader.{allBelow, allPresent, isRemoved, iff}
@@ -101,34 +102,23 @@ low-all d n l u = sym (mod-eq-of-lt (lt-of-lt-of-le l (pow-mono u)))
 
 -- ---- targets
 
-in-all : (m : ℕ) (ks : List ℕ) → allIn m ks ≡ true → (k : ℕ) → List·Memᴰ k ks → bit k m ≡ true
-unfolding allIn
-in-all m [] e k d = absurd (List·Memᴰ·not-nil d)
-in-all m (x ∷ xs) e k (List·Memᴰ·head p) = rw p (and-left (bit x m) (allIn m xs) e)
-in-all m (x ∷ xs) e k (List·Memᴰ·tail d) = in-all m xs (and-right (bit x m) (allIn m xs) e) k d
-
-all-in : (m : ℕ) (ks : List ℕ) → ((k : ℕ) → List·Memᴰ k ks → bit k m ≡ true) → allIn m ks ≡ true
-unfolding allIn
-all-in m [] f = refl
-all-in m (x ∷ xs) f = rw (f x (List·Memᴰ·head refl)) (all-in m xs (λ k d. f k (List·Memᴰ·tail d)))
-
 pub in-is : (m to : ℕ) → to < 4294967296 → allIn m (members to) ≡ eqb (bitAnd to m) to
 in-is m to l = same-truth (allIn m (members to)) (eqb (bitAnd to m) to) there back
   where
     there : allIn m (members to) ≡ true → eqb (bitAnd to m) to ≡ true
     there e = eq-eqb _ _ (bit-ext 32 _ _ (lt-of-le-of-lt (and-le-l to m) l) l (λ k u. bit-and k to m ∙ cases (bit k to)
-        (λ b. rw (b, in-all m (members to) e k (members-is k to .1 (b, u))))
+        (λ b. rw (b, every-all (λ i. bit i m) (members to) e k (members-is k to .1 (b, u))))
         (λ b. rw b)))
 
     back : eqb (bitAnd to m) to ≡ true → allIn m (members to) ≡ true
-    back e = all-in m (members to) (λ k d.
+    back e = all-every (λ i. bit i m) (members to) (λ k d.
         let b = members-is k to .0 d in
         let i : bit k (bitAnd to m) ≡ true = rw (eqb-true (bitAnd to m) to e) (b .0) in
         bit-and-out k to m i .1)
 
 -- those in the set of a procedure's nodes are its nodes
 pub present-in : (q : Proc) (n k m : ℕ) → k + n ≤ 32 → allIn (presentIn q) (membersFrom n k m) ≡ allPresent q (membersFrom n k m)
-unfolding membersFrom allIn allPresent
+unfolding membersFrom every
 present-in q zero k m l = refl
 present-in q (suc n) k m l = go (bit k m) (present-in q n (suc k) m (omega arith))
   where

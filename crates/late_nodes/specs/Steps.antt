@@ -11,7 +11,7 @@ use lib.ListN.{length, getD, List·getD-eq-default}
 use lib.Pow.{pow-pos, pow-mono}
 use borrow.Author.Tests.{eq-eqb, ne-eqb}
 use Rattle.table.specs.Mask.{pick, bit, maskOf}
-use Rattle.table.specs.Table.{argAt, noQueue}
+use Rattle.table.specs.Table.{argAt, noQueue, parts}
 use Rattle.table.specs.declared.Args.{Args}
 use Rattle.table.specs.declared.Node.{Node}
 use Rattle.table.specs.declared.Node.the-variants.{Test}
@@ -118,5 +118,5 @@ node-is c m e h = rw e h
 
 pub test-is : (c : Terms) (m : ℕ) {x : Node} {o : Op} {a b : Operand} (y n : ℕ) {u v r : ℕ} → x ≡ Test o a b y n → u ≡ numbered (arcFault (c .closed) m y) → v ≡ numbered (arcFault (c .closed) m n) → r ≡ firstNumber u v
     → r ≡ numbered (nodeFaultBy c m x)
-unfolding nodeFaultBy
+unfolding nodeFaultBy parts
 test-is c m y n e p q h = rw e (first-fault (arcFault (c .closed) m y) (arcFault (c .closed) m n) p q h)

@@ -6,14 +6,14 @@ use mathlib.Core.Option.{Option, none}
 use lib.Dec.{eqb}
 use lib.ListN.{getD}
 use Rattle.table.specs.Mask.{bit, members, maskOf}
-use Rattle.table.specs.Table.{noQueue, nodeIn, argAt, isAbsent}
+use Rattle.table.specs.Table.{noQueue, nodeIn, argAt, Act, alone, waits, signals, sends, receives, calls, returns, Exit, ends, by, either, parts, act, isAbsent}
 use Rattle.table.specs.declared.Args.{Args}
 use Rattle.table.specs.declared.Node.{Node}
-use Rattle.table.specs.declared.Node.the-variants.{Absent, Start, Set, Test, Read, Call, Wait, Signal, Send, Recv, Assert, Out, Return}
 use Rattle.table.specs.declared.Proc.{Proc}
 use Rattle.table.specs.declared.Table.{Table}
 use Rattle.text.specs.declared.Fault.{Fault}
 use Rattle.text.specs.declared.Fault.the-variants.{Arguments, Unclosed}
+use Rattle.text.specs.Number.{every}
 use Rattle.text.specs.Value.{unless, orElse}
 use Rattle.text.specs.Reader.{allBelow, isRemoved, iff}
 use Rattle.late_nodes.specs.declared.Callee.{Callee}
@@ -39,9 +39,8 @@ abbrev pub presentIn : Proc → ℕ
 presentIn q = maskOf 32 (λ i. not (isAbsent (nodeIn q i)))
 
 -- all of some nodes are in the set m
-unfoldable pub allIn : ℕ → List ℕ → Bool
-allIn m [] = true
-allIn m (k ∷ ks) = bit k m && allIn m ks
+abbrev pub allIn : ℕ → List ℕ → Bool
+allIn m ks = every (λ k. bit k m) ks
 
 -- ---- the late fault of a node of the procedure whose nodes are the set m
 
@@ -65,24 +64,27 @@ removalFault b d xs = ifClosed b (allBelow (xs .len) (λ i. iff (isRemoved (argA
 abbrev pub blankFault : Bool → ℕ → Bool → Option Fault
 blankFault b v blank = ifClosed b (iff (isRemoved v) blank)
 
+abbrev pub exitFault : Bool → ℕ → Exit → Option Fault
+exitFault b m ends = none
+exitFault b m (by to) = arcFault b m to
+exitFault b m (either y n) = orElse (arcFault b m y) (arcFault b m n)
+
+-- with the fault f of its arcs
+abbrev pub actFault : Terms → Option Fault → Act → Option Fault
+actFault c f alone = f
+actFault c f (waits i) = f
+actFault c f (signals i) = f
+actFault c f (sends k v) = orElse f (blankFault (c .closed) v (getD (c .queue) k noQueue .blank))
+actFault c f (receives k v) = orElse f (blankFault (c .closed) v (getD (c .queue) k noQueue .blank))
+actFault c f (calls k xs) = orElse (countFault (xs .len) (calleeAt c k .params)) (orElse f (removalFault (c .closed) (calleeAt c k .drop) xs))
+actFault c f returns = f
+
 abbrev pub callFault : Terms → ℕ → ℕ → Args → ℕ → Option Fault
-callFault c m k xs to = orElse (countFault (xs .len) (calleeAt c k .params)) (orElse (arcFault (c .closed) m to) (removalFault (c .closed) (calleeAt c k .drop) xs))
+callFault c m k xs to = actFault c (arcFault (c .closed) m to) (calls k xs)
 
 -- a send or a recv
 abbrev pub transferFault : Terms → ℕ → ℕ → ℕ → ℕ → Option Fault
-transferFault c m k v to = orElse (arcFault (c .closed) m to) (blankFault (c .closed) v (getD (c .queue) k noQueue .blank))
+transferFault c m k v to = actFault c (arcFault (c .closed) m to) (sends k v)
 
 unfoldable pub nodeFaultBy : Terms → ℕ → Node → Option Fault
-nodeFaultBy c m Absent = none
-nodeFaultBy c m (Start to) = arcFault (c .closed) m to
-nodeFaultBy c m (Set v o a b to) = arcFault (c .closed) m to
-nodeFaultBy c m (Test o a b y n) = orElse (arcFault (c .closed) m y) (arcFault (c .closed) m n)
-nodeFaultBy c m (Read v to) = arcFault (c .closed) m to
-nodeFaultBy c m (Call k xs to) = callFault c m k xs to
-nodeFaultBy c m (Wait s to) = arcFault (c .closed) m to
-nodeFaultBy c m (Signal s to) = arcFault (c .closed) m to
-nodeFaultBy c m (Send k v to) = transferFault c m k v to
-nodeFaultBy c m (Recv k v to) = transferFault c m k v to
-nodeFaultBy c m (Assert v to) = arcFault (c .closed) m to
-nodeFaultBy c m (Out v to) = arcFault (c .closed) m to
-nodeFaultBy c m Return = none
+nodeFaultBy c m x = actFault c (exitFault (c .closed) m (parts x .exit)) (act x)

@@ -14,10 +14,6 @@ ghost use Rattle.text.specs.Structure.{numbered};
 ghost use Rattle.checks.specs.ArgumentChecks.{removedAt};
 ghost use Rattle.late_nodes.specs.Terms.{noCallee, arcFault, countFault, removalFault, blankFault, callFault, transferFault, nodeFaultBy};
 
-const ARGUMENTS: u8 = 6;
-
-const CLOSING: u8 = 7;
-
 // What a call is judged by.
 pub struct Callee {
     pub params: u8,
@@ -35,7 +31,7 @@ pub struct Terms {
 fn count(len: u8, params: u8) -> u8
     ensures { λ r. ⌜ r ≡ numbered (countFault len params) ⌝ }
 {
-    if len == params { 0 } else { ARGUMENTS }
+    if len == params { 0 } else { text::ARGUMENTS }
 }
 
 // In closed form every target is one of the nodes present.
@@ -46,7 +42,7 @@ fn arc(closed: bool, present: u32, to: u32) -> u8
         if to & present == to {
             return 0;
         }
-        return CLOSING;
+        return text::UNCLOSED;
     }
     0
 }
@@ -99,7 +95,7 @@ fn removals(closed: bool, drop: u8, xs: Args) -> u8
         if removed(xs) == low(drop, xs.len) {
             return 0;
         }
-        return CLOSING;
+        return text::UNCLOSED;
     }
     0
 }
@@ -112,7 +108,7 @@ fn blanks(closed: bool, var: u8, blank: bool) -> u8
         if agree(var == REMOVED, blank) {
             return 0;
         }
-        return CLOSING;
+        return text::UNCLOSED;
     }
     0
 }

@@ -5,13 +5,13 @@ use mathlib.Core.Bool.{Bool, true, false}
 use native.Mathlib.Omega.{arith}
 use lib.Dec.{eqb}
 use borrow.Author.Tests.{eq-eqb, ne-eqb}
+use Rattle.table.specs.Cases.{cases}
 use Rattle.table.specs.Table.{nodeIn, isAbsent}
 use Rattle.table.specs.declared.Proc.{Proc}
 use Rattle.table.specs.declared.Table.{Table}
 use Rattle.text.specs.declared.Fault.{Fault}
 use Rattle.text.specs.declared.Fault.the-variants.{Long, Form, Misspelt, Ended, Range, Index, Reference, Arguments, Unclosed, Unused, Short}
 use Rattle.text.specs.Fault.{number}
-use Rattle.text.specs.NumberLaws.{cases}
 use Rattle.text.specs.Format.{Scope}
 use Rattle.text.specs.Structure.{gap}
 use Rattle.checks.specs.Numbers.{firstNumber, first-some}

@@ -14,10 +14,6 @@ ghost use Rattle.text.specs.Structure.{gap as gapFault};
 ghost use Rattle.checks.specs.NodeChecks.{scopeIn};
 ghost use Rattle.line_faults.specs.Lines.{headNumber, tasksNumber, semsNumber, queuesNumber, dropNumber, procLineNumber, settled as settledNumber, nodesNumber, procNumber, procsNumber, linesNumber};
 
-const ENDED: u8 = 2;
-
-const INDEX: u8 = 4;
-
 // The first two lines.
 fn head(trap: u8, tasks: u8, procs: u8, sems: u8, queues: u8) -> u8
     ensures { λ r. ⌜ r ≡ headNumber trap tasks procs sems queues ⌝ }
@@ -113,10 +109,10 @@ fn gap(q: Proc, j: usize) -> u8
         if checks::absent(x) {
             i += 1;
         } else {
-            return INDEX;
+            return text::INDEX;
         }
     }
-    ENDED
+    text::ENDED
 }
 
 // The fault r of place j, which may be a gap.

@@ -3,9 +3,9 @@
 ghost use Prim.Native.Nat.{_≤_, _<_};
 ghost use mathlib.Core.Path.{_≡_};
 ghost use lib.ListN.{length};
-ghost use Rattle.text.specs.Format.{headLine, countsLine, taskLine, semLine};
+ghost use Rattle.text.specs.Format.{headLine, countsLine, taskLine, semLine, taskOf, semOf};
 ghost use Rattle.fields.specs.Answer.{LineAt};
-ghost use Rattle.records.specs.Answer.{headIn, CountsAt, taskOf, taskIn, semOf, semIn, QueueAt, ProcAt};
+ghost use Rattle.records.specs.Answer.{headIn, CountsAt, taskIn, semIn, QueueAt, ProcAt};
 ghost use Rattle.nodes.specs.Answer.{scopeIn, Fits, NodeAt};
 
 // The lent text and the position reached in it.

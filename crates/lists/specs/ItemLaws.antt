@@ -12,9 +12,10 @@ use lib.Pow.{shl-exact}
 use lib.ListN.{length, take, drop, getD, drop-of-length-le, length-drop}
 use lib.Seq.{drop-cons, drop-drop}
 use borrow.Author.Tests.{lt-ltb, le-ltb, le-leb, lt-leb, ne-eqb}
+use Rattle.table.specs.Cases.{cases}
 use Rattle.table.specs.Mask.{pick}
 use Rattle.text.specs.Number.{spelt, value}
-use Rattle.text.specs.NumberLaws.{byOrder, cases}
+use Rattle.text.specs.NumberLaws.{byOrder}
 use Rattle.text.specs.Value.{numeral, split, each}
 use Rattle.digits.specs.declared.Num.{Num}
 use Rattle.digits.specs.declared.Num.the-variants.{Good, Bad}

@@ -13,8 +13,8 @@ use lib.Seq.{take-all, take-length}
 use borrow.Author.Tests.{le-ltb, ltb-false, ne-eqb}
 use Rattle.text.specs.declared.Fault.{Fault}
 use Rattle.text.specs.declared.Fault.the-variants.{Form, Misspelt, Ended, Reference}
-use Rattle.text.specs.Number.{bytes, allDigits, spelt, value}
-use Rattle.text.specs.NumberLaws.{cases, all-head, all-tail, spelt-all}
+use Rattle.text.specs.Number.{bytes, allDigits, spelt, value, every}
+use Rattle.text.specs.NumberLaws.{all-head, all-tail, spelt-all}
 use Rattle.text.specs.Value.{ascending, same, numeral, split, followed, each, saidList, ascends, within, said, unsaid, check}
 use Rattle.text.specs.Line.{refused, judged, fieldOf}
 use Rattle.text.specs.Format.{elem, setOf}
@@ -35,6 +35,7 @@ use Rattle.lists.specs.ItemLaws.{split-first, bit-capped}
 use Rattle.lists.specs.Sets.{setEnds, setWithin, SetJudged, SetSaid, singleOf, SetIn, SetAt}
 use Rattle.lists.specs.TotalLaws.{total, total-is, mask-none}
 use Rattle.lists.specs.SetLaws.{bit-inside}
+use Rattle.table.specs.Cases.{cases}
 
 -- ---- one number is one item, and no `none`
 digits-up : (t : List ℕ) → allDigits t ≡ true → upTo t ≡ length t
@@ -90,13 +91,13 @@ module _ (t : List ℕ) (e lo n : ℕ) {w : Num} (d : w ≡ numberOf t) where
     bit-said = k ∙ bit-capped lo n (value t) v (spelt-good t d h .1) u
 
     single-outside : b ≡ 0 → SetSaid true lo n t e (Not Reference)
-    unfolding said check ascends within
+    unfolding said check ascends every
     single-outside z =
         let i : inside lo n (value t) ≡ false = sym (bit-inside lo n (value t) b bit-said) ∙ rw z in
         record { judged = record { same = λ l s. rw (one-said t (spelt-good t d h .0), i); ends = tt } }
 
     single-is : (b ≡ 0 → ⊥) → SetSaid true lo n t e (Is b e)
-    unfolding said check ascends within total
+    unfolding said check ascends every total
     single-is z =
         let i : inside lo n (value t) ≡ true = sym (bit-inside lo n (value t) b bit-said) ∙ rw (ne-eqb b 0 z) in
         let m : b ≡ 2 ^ value t = bit-said ∙ rw i in
@@ -131,7 +132,7 @@ pub list-single : {one : Bool} {lo n : ℕ} {t : List ℕ} {e : ℕ} {r : Set} �
 list-single h a = rw h a
 
 pub list-none : {one : Bool} (lo n : ℕ) (t : List ℕ) (e : ℕ) {x : Bool} → one ≡ false → x ≡ same (bytes "none") t → x ≡ true → SetSaid one lo n t e (Is 0 e)
-unfolding said check ascends within elem
+unfolding said check ascends every elem
 list-none lo n t e h p k =
     let f : setOf [] ≡ 0 = mask-none 32 in
     rw h (record { judged = record { same = λ l s. rw (← p, k, f); ends = refl } })

@@ -10,13 +10,14 @@ use lib.Dec.{ltb, eqb}
 use lib.ListN.{length, take, drop, length-append, List·getD-append, List·getD-eq-default}
 use lib.Seq.{getD-append-seam}
 use borrow.Author.Tests.{lt-ltb, le-ltb, ne-eqb, eq-eqb}
+use Rattle.table.specs.Cases.{cases}
 use Rattle.table.specs.Mask.{pick}
 use Rattle.table.specs.Table.{removed}
 use Rattle.table.specs.declared.Args.{Args}
 use Rattle.text.specs.declared.Fault.{Fault}
 use Rattle.text.specs.declared.Fault.the-variants.{Misspelt, Reference}
-use Rattle.text.specs.Number.{bytes, value}
-use Rattle.text.specs.NumberLaws.{cases, byOrder}
+use Rattle.text.specs.Number.{bytes, value, every}
+use Rattle.text.specs.NumberLaws.{byOrder}
 use Rattle.text.specs.Value.{arguments, same, saidVariable, split, followed, each, noneRemoved, allDeclared, said, unsaid, check}
 use Rattle.text.specs.Line.{judged}
 use Rattle.text.specs.Format.{variableOf, argOf, argsOf}
@@ -100,7 +101,7 @@ pub record ArgumentAt (c : Bool) (n : ℕ) (t : List ℕ) (from : ℕ) (r : Argu
   pub is : FirstIs c n t from r
 
 removed-open : (o : Option (List (Option ℕ))) → spells false (followed (some none) o) ≡ false
-unfolding noneRemoved
+unfolding every
 removed-open none = refl
 removed-open (some xs) = refl
 
@@ -109,7 +110,7 @@ or-true true = refl
 or-true false = refl
 
 pub argument-read : (c : Bool) (n : ℕ) (t : List ℕ) (from : ℕ) {r : Argument} → r ≡ argumentFrom c n t from → from ≤ length t → ArgumentAt c n t from r
-unfolding argumentFrom argumentOf each noneRemoved
+unfolding argumentFrom argumentOf each every
 argument-read c n t from q h = rw q (go c (nextComma t from) (comma-here t from h) (saidVariable (part t from (nextComma t from))) refl)
   where
     is : (c : Bool) {to : ℕ} → CommaAt t from to → (v : ℕ) (ok : Bool) → Argued c n (part t from to) v ok → ArgumentAt c n t from (IsArgument to v ok)
@@ -202,7 +203,7 @@ module _ (c : Bool) (n e : ℕ) (a : Args) (v : ℕ) where
 
   name-next : (ok : Bool) (o : Option (List (Option ℕ))) (x : Option ℕ) → c || noneRemoved (x ∷ []) ≡ true → (isDeclared n x ≡ true → v ≡ variableOf x)
       → finish c n e a ok (followed (some x) o) ≡ finish c n e (pushedOf a v) (ok && isDeclared n x) o
-  unfolding noneRemoved allDeclared pushAll
+  unfolding every pushAll
   name-next ok none x h u = refl
   name-next ok (some ys) none h u = rw (or-false c h) (known-next ok true (allDeclared n ys) removed ys u)
   name-next ok (some ys) (some y) h u = ap (λ (r : Passed). pick (c || noneRemoved ys) r (Not Misspelt)) (known-next ok (ltb y n) (allDeclared n ys) y ys u)
@@ -249,7 +250,7 @@ going-start {c} {n} {t} {to} {v} {k} {z} {a} e m q x y =
 
 module _ {c : Bool} {n e : ℕ} {t : List ℕ} {to : ℕ} {a : Args} {ok : Bool} (g : Going c n e t to a ok) where
   last : length t ≤ to → finish c n e a ok (each saidVariable (more t to)) ≡ pick ok (Is a e) (Not Reference)
-  unfolding each noneRemoved allDeclared pushAll
+  unfolding each every pushAll
   last h = rw (le-ltb to (length t) h) (go c ok)
     where
       go : (c ok : Bool) → pick (c || true) (pick (ok && true) (Is a e) (Not Reference)) (Not Misspelt) ≡ pick ok (Is a e) (Not Reference)
@@ -294,7 +295,7 @@ module _ {c : Bool} {n e : ℕ} {t : List ℕ} {to : ℕ} {a : Args} {ok : Bool}
 
 -- ---- a list
 empty-said : (c : Bool) (n e : ℕ) → finish c n e (argsOf []) true (some []) ≡ Is (argsOf []) e
-unfolding noneRemoved allDeclared pushAll
+unfolding every pushAll
 empty-said true n e = refl
 empty-said false n e = refl
 

@@ -13,10 +13,11 @@ use lib.Dec.{ltb, leb, eqb}
 use lib.Pow.{pow-pos, pow-lt, pow-mono}
 use lib.ListN.{length, drop}
 use borrow.Author.Tests.{lt-ltb, le-ltb, ltb-true, ne-eqb, not-true, not-false}
+use Rattle.table.specs.Cases.{cases}
 use Rattle.table.specs.Mask.{pick}
 use Rattle.text.specs.declared.Fault.the-variants.{Misspelt, Reference}
-use Rattle.text.specs.Number.{spelt, value}
-use Rattle.text.specs.NumberLaws.{and-left, and-right, cases}
+use Rattle.text.specs.Number.{spelt, value, every}
+use Rattle.text.specs.NumberLaws.{and-left, and-right}
 use Rattle.text.specs.Value.{ascending, numeral, split, followed, each, ascends, within, unsaid, check}
 use Rattle.text.specs.Line.{judged}
 use Rattle.text.specs.Format.{setOf}
@@ -56,7 +57,7 @@ first-said lo n e x (some ys) u l s =
 -- one item more
 next-said : (lo n e x y m : ℕ) (ok : Bool) (o : Option (List ℕ)) → ltb x y ≡ true
     → finish lo n e x m ok (followed (some y) o) ≡ finish lo n e y (m + bitOf lo n y) (ok && inside lo n y) o
-unfolding ascends within total
+unfolding ascends every total
 next-said lo n e x y m ok none k = refl
 next-said lo n e x y m ok (some ys) k = rw k (ap (λ (r : Set). pick (ascends (y ∷ ys)) r (Not Misspelt)) (go ok (inside lo n y)))
   where
@@ -176,7 +177,7 @@ rising-start {lo} {n} {t} {to} {m} {ok} e a q u k =
 
 module _ {lo n e : ℕ} {t : List ℕ} {from to m : ℕ} {ok : Bool} (g : Rising lo n e t from to m ok) where
   pub rising-end : length t ≤ to → ok ≡ true → SetJudged false lo n (each numeral (split t)) e (Is m e)
-  unfolding each ascends within total
+  unfolding each ascends every total
   rising-end h k = record { same = λ l s. rw (k, le-ltb to (length t) h, add-zero m) at (g .rest l s); ends = refl }
 
   pub rising-outside : length t ≤ to → ok ≡ false → SetJudged false lo n (each numeral (split t)) e (Not Reference)

@@ -13,9 +13,10 @@ use lib.Pow.{pow-mono}
 use lib.ListN.{length, take, drop, getD, drop-of-length-le, length-drop}
 use lib.Seq.{take-all, drop-cons, drop-drop, take-nil, take-take, getD-take, length-take-le}
 use borrow.Author.Tests.{lt-ltb, ltb-true, le-leb, lt-leb, leb-false, eq-eqb, ne-eqb, eqb-true}
+use Rattle.table.specs.Cases.{cases}
 use Rattle.table.specs.Mask.{pick}
 use Rattle.text.specs.Number.{bytes, value, allDigits}
-use Rattle.text.specs.NumberLaws.{byOrder, and-right, cases, all-head, all-tail, spelt-all}
+use Rattle.text.specs.NumberLaws.{byOrder, and-right, all-head, all-tail, spelt-all}
 use Rattle.text.specs.Value.{same}
 use Rattle.text.specs.Line.{run, stops}
 use Rattle.scan.specs.PlaceLaws.{count-more, count-none, Running, running-start, running-digits, run-turn, value-ends}

@@ -6,8 +6,10 @@ use mathlib.Core.List.{List, [], _∷_}
 use native.Mathlib.Omega.{arith}
 use lib.Dec.{ltb, leb, eqb}
 use borrow.Author.Tests.{ltb-true, eqb-true, eqb-false, ne-eqb}
+use Rattle.table.specs.Cases.{cases}
 use Rattle.table.specs.Mask.{pick, maskOf}
-use Rattle.text.specs.NumberLaws.{and-left, and-right, cases}
+use Rattle.text.specs.Number.{every}
+use Rattle.text.specs.NumberLaws.{and-left, and-right}
 use Rattle.text.specs.Value.{ascends, within}
 use Rattle.text.specs.Format.{elem, setOf}
 
@@ -68,7 +70,7 @@ ascends-rest x [] a = refl
 ascends-rest x (y ∷ ys) a = and-right (ltb x y) (ascends (y ∷ ys)) a
 
 pub within-first : (lo n x : ℕ) (xs : List ℕ) → within lo n (x ∷ xs) ≡ (leb lo x && ltb x n) && within lo n xs
-unfolding within
+unfolding every
 within-first lo n x xs = refl
 
 pub total-is : (lo n : ℕ) (xs : List ℕ) → n ≤ 32 → ascends xs ≡ true → within lo n xs ≡ true → setOf xs ≡ total xs

@@ -1,7 +1,8 @@
 -- The bytes of a node's line, by kind, and piece by piece.
-use Prim.Native.Nat.{ℕ, _+_}
+use Prim.Native.Nat.{ℕ, _+_, _≤_}
 use mathlib.Core.Path.{_≡_, refl, _∙_, ap}
 use mathlib.Core.List.{List, [], _++_, append-nil, append-assoc}
+use Rattle.table.specs.Table.{parts}
 use Rattle.table.specs.declared.Operand.{Operand}
 use Rattle.table.specs.declared.Op.{Op}
 use Rattle.table.specs.declared.Args.{Args}
@@ -12,10 +13,11 @@ use Rattle.text.specs.Value.{spell, spellOperand, opWord}
 use Rattle.text.specs.Line.{write}
 use Rattle.text.specs.Format.{Scope, describe}
 use Rattle.text.specs.Writer.{nodeText}
+use Rattle.table.specs.ByKind.{by-kind}
 use native.Mathlib.Omega.{arith}
 use Rattle.put.specs.Put.{Put}
 use Rattle.put.specs.PutLaws.{put-after}
-use Rattle.node_lines.specs.NodeLines.{node, operandsText, numberText, variableText, passText, startText, callText, setText, testText, returnText, nodeBytes}
+use Rattle.node_lines.specs.NodeLines.{node, operandsText, numberText, variableText, passText, startText, callText, setText, testText, returnText, nodeBytes, FewArgs}
 
 pub node-absent : (j : ℕ) → nodeBytes j Absent ≡ []
 unfolding describe nodeBytes
@@ -72,19 +74,11 @@ node-return j = refl
 -- whatever the references are judged by
 pub node-scope : (c : Scope) (j : ℕ) (x : Node) → nodeText c j (describe c x) ≡ nodeBytes j x
 unfolding describe nodeBytes write spell
-node-scope c j Absent = refl
-node-scope c j (Start to) = refl
-node-scope c j (Set v o a b to) = refl
-node-scope c j (Test o a b y n) = refl
-node-scope c j (Read v to) = refl
-node-scope c j (Call q x to) = refl
-node-scope c j (Wait s to) = refl
-node-scope c j (Signal s to) = refl
-node-scope c j (Send q v to) = refl
-node-scope c j (Recv q v to) = refl
-node-scope c j (Assert v to) = refl
-node-scope c j (Out v to) = refl
-node-scope c j Return = refl
+node-scope c j = by-kind (search)
+
+pub few-call : {x : Node} {q : ℕ} {xs : Args} {to : ℕ} → x ≡ Call q xs to → FewArgs x → xs .len ≤ 4
+unfolding parts
+few-call {q = q} {xs = xs} e h = h q xs (rw e)
 
 -- where there is no node nothing is written
 pub node-none : {l : List ℕ} {at : ℕ} (j : ℕ) → Put 240 l at (nodeBytes j Absent) l at

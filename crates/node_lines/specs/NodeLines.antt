@@ -1,12 +1,13 @@
 -- A node line's bytes, by shape. What a node's line reads does not depend on what its references are judged by.
 use Prim.Native.Nat.{ℕ, _≤_}
-use mathlib.Core.List.{List, [], _∷_, _++_}
+use mathlib.Core.Path.{_≡_}
 use mathlib.Core.Bool.{false}
+use mathlib.Core.List.{List, [], _∷_, _++_}
+use Rattle.table.specs.Table.{calls, act}
 use Rattle.table.specs.declared.Operand.{Operand}
 use Rattle.table.specs.declared.Op.{Op}
 use Rattle.table.specs.declared.Args.{Args}
 use Rattle.table.specs.declared.Node.{Node}
-use Rattle.table.specs.declared.Node.the-variants.{Absent, Start, Set, Test, Read, Call, Wait, Signal, Send, Recv, Assert, Out, Return}
 use Rattle.text.specs.Number.{bytes, digits}
 use Rattle.text.specs.Value.{spellVariable, spellOperand, opWord}
 use Rattle.text.specs.Format.{Scope, nameOf, describe}
@@ -67,16 +68,4 @@ nodeBytes j x = nodeText anyScope j (describe anyScope x)
 
 -- a call has at most four arguments
 abbrev pub FewArgs : Node → Type 0
-FewArgs Absent = Unit {0}
-FewArgs (Start to) = Unit {0}
-FewArgs (Set v o a b to) = Unit {0}
-FewArgs (Test o a b y n) = Unit {0}
-FewArgs (Read v to) = Unit {0}
-FewArgs (Call q x to) = x .len ≤ 4
-FewArgs (Wait s to) = Unit {0}
-FewArgs (Signal s to) = Unit {0}
-FewArgs (Send q v to) = Unit {0}
-FewArgs (Recv q v to) = Unit {0}
-FewArgs (Assert v to) = Unit {0}
-FewArgs (Out v to) = Unit {0}
-FewArgs Return = Unit {0}
+FewArgs x = (q : ℕ) (xs : Args) → act x ≡ calls q xs → xs .len ≤ 4

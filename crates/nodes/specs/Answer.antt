@@ -7,7 +7,8 @@ use Rattle.table.specs.declared.Op.{Op}
 use Rattle.table.specs.declared.Node.{Node}
 use Rattle.text.specs.declared.Fault.{Fault}
 use Rattle.text.specs.Number.{bytes}
-use Rattle.text.specs.Value.{NodeKind, ascending, operand}
+use Rattle.text.specs.declared.NodeKind.{NodeKind}
+use Rattle.text.specs.Value.{ascending, operand}
 use Rattle.text.specs.Line.{Line, end, field, Vals, line}
 use Rattle.text.specs.Format.{Scope as Judged, targets, toField, fields, nodeLine, setOf, nodeOf}
 use Rattle.text.specs.Reader.{Numbered}

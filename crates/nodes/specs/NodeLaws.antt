@@ -8,7 +8,7 @@ use Rattle.table.specs.declared.Op.{Op}
 use Rattle.table.specs.declared.Operand.{Operand}
 use Rattle.table.specs.declared.Args.{Args}
 use Rattle.text.specs.declared.Fault.{Fault}
-use Rattle.text.specs.Value.{NodeKind}
+use Rattle.text.specs.declared.NodeKind.{NodeKind}
 use Rattle.text.specs.ValueLaws.{no}
 use Rattle.text.specs.Line.{end, Vals, line}
 use Rattle.text.specs.Format.{setOf, Scope as Judged, fields, nodeOf}
@@ -17,10 +17,8 @@ use Rattle.scan.specs.declared.Ended.{Ended}
 use Rattle.scan.specs.declared.Ended.the-variants.{Is as Fed, Not as Unfed}
 use Rattle.scan.specs.Place.{FeedAt}
 use Rattle.operands.specs.declared.Operand.the-variants.{Is as IsOperand, Not as NotOperand}
-use Rattle.words.specs.declared.NodeKind.{NodeKind as Word}
 use Rattle.lists.specs.declared.Set.{Set as Mask}
 use Rattle.lists.specs.declared.Set.the-variants.{Is as IsSet, Not as NotSet}
-use Rattle.words.specs.Answer.{kindOf}
 use Rattle.lists.specs.Sets.{SetAt}
 use Rattle.nodes.specs.declared.To.{To}
 use Rattle.nodes.specs.declared.To.the-variants.{Is as IsTo, Not as NotTo}
@@ -59,7 +57,7 @@ module _ {A : Type 0} {key : List ℕ} {one : Bool} {n : ℕ} {s : List ℕ} {at
 
 -- ---- what stands behind a kind
 module _ {c : Judged} {s : List ℕ} {at : ℕ} {r : Body} where
-  pub body-of : {k w : Word} → k ≡ w → BodyAt c (kindOf w) s at r → BodyAt c (kindOf k) s at r
+  pub body-of : {k w : NodeKind} → k ≡ w → BodyAt c w s at r → BodyAt c k s at r
   body-of q u = rw q u
 
 module _ {A : Type 0} {c : Judged} {k : NodeKind} {s : List ℕ} {at : ℕ} {r : Body} {g : Vals (fields c k) → A} (m : BodyAt c k s at r) where

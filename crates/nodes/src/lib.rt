@@ -3,11 +3,10 @@ ghost use Prim.Native.Nat.{_≤_};
 ghost use mathlib.Core.Path.{_≡_};
 ghost use mathlib.Core.List.{[], _∷_};
 ghost use lib.ListN.{length};
-ghost use Rattle.text.specs.Value.{start, setKind, test, read, call, wait, signal, send, recv, assert, out, return};
+ghost use Rattle.text.specs.declared.NodeKind.the-variants.{Start as start, Set as setKind, Test as test, Read as read, Call as call, Wait as wait, Signal as signal, Send as send, Recv as recv, Assert as assert, Out as out, Return as return};
 ghost use Rattle.numbers.specs.Answer.{NumberAt};
 ghost use Rattle.fields.specs.Answer.{LineAt};
 ghost use Rattle.nodes.specs.Answer.{toFault, bodyFault, lastLine, lastSet, toIn, scopeIn, Fits, bodyIn, setLine, setNode, testLine, testNode, BodyAt, NodeAt};
-ghost use Rattle.words.specs.Answer.{kindOf};
 
 // The form of a table and the counts of declared items, by which a node line's references are judged.
 pub struct Scope {
@@ -329,23 +328,23 @@ fn return_node(s: &[u8], at: usize, c: Scope) -> Body
 }
 
 // What stands behind the kind.
-fn node_body(s: &[u8], at: usize, c: Scope, k: words::NodeKind) -> Body
+fn node_body(s: &[u8], at: usize, c: Scope, k: text::NodeKind) -> Body
     requires { ⌜ (at ≤ length (now s)) × Fits c ⌝ }
-    ensures { λ r. ⌜ BodyAt (scopeIn c) (kindOf k) (now (s .entry)) at r ⌝ }
+    ensures { λ r. ⌜ BodyAt (scopeIn c) k (now (s .entry)) at r ⌝ }
 {
     match k {
-        words::NodeKind::Start => start_node(s, at, c),
-        words::NodeKind::Set => set_node(s, at, c),
-        words::NodeKind::Test => test_node(s, at, c),
-        words::NodeKind::Read => read_node(s, at, c),
-        words::NodeKind::Call => call_node(s, at, c),
-        words::NodeKind::Wait => wait_node(s, at, c),
-        words::NodeKind::Signal => signal_node(s, at, c),
-        words::NodeKind::Send => send_node(s, at, c),
-        words::NodeKind::Recv => recv_node(s, at, c),
-        words::NodeKind::Assert => assert_node(s, at, c),
-        words::NodeKind::Out => out_node(s, at, c),
-        words::NodeKind::Return => return_node(s, at, c),
+        text::NodeKind::Start => start_node(s, at, c),
+        text::NodeKind::Set => set_node(s, at, c),
+        text::NodeKind::Test => test_node(s, at, c),
+        text::NodeKind::Read => read_node(s, at, c),
+        text::NodeKind::Call => call_node(s, at, c),
+        text::NodeKind::Wait => wait_node(s, at, c),
+        text::NodeKind::Signal => signal_node(s, at, c),
+        text::NodeKind::Send => send_node(s, at, c),
+        text::NodeKind::Recv => recv_node(s, at, c),
+        text::NodeKind::Assert => assert_node(s, at, c),
+        text::NodeKind::Out => out_node(s, at, c),
+        text::NodeKind::Return => return_node(s, at, c),
     }
 }
 

@@ -12,7 +12,7 @@ use mir.Syntax.{w64}
 use mir.Val.{Fits}
 use lib.Dec.{leb, eqb}
 use borrow.Author.Tests.{le-leb, lt-leb, leb-true, eq-eqb, ne-eqb, eqb-true}
-use Rattle.text.specs.NumberLaws.{cases, digit-fact, spelt-all}
+use Rattle.text.specs.NumberLaws.{digit-fact, spelt-all}
 use Rattle.text.specs.Number.{isDigit, allDigits, spelt, value, valueFrom}
 use Rattle.text.specs.Line.{stops}
 use Rattle.digits.specs.declared.Num.{Num}
@@ -28,6 +28,7 @@ use Rattle.numbers.specs.declared.Short.the-variants.{Is as IsShort, Not
 use Rattle.scan.specs.Place.{RunEnd}
 use Rattle.numbers.specs.Numerals.{DigitsTo, NumeralTo, NumeralAt, shortOf, beforeSpace, shortValueOf}
 use Rattle.scan.specs.PlaceLaws.{running-start, running-digits, run-stops}
+use Rattle.table.specs.Cases.{cases}
 
 -- digits up to the end of a value
 pub digits-to : (s : List ℕ) (at : ℕ) {r : Lead} {z : Bool} → r ≡ leadOf s at → at ≤ length s → r .end < length s → z ≡ stops (getD s (r .end) 0) → z ≡ true

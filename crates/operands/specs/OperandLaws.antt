@@ -15,12 +15,13 @@ use borrow.Author.Tests.{lt-ltb, le-ltb, le-leb, lt-leb, ne-eqb, eqb-true, eqb-f
 use mir.Syntax.{w32}
 use mir.Val.{toZ, ofZ, SFits}
 use mir.ValLaws.{toZ-pos, toZ-ofZ}
+use Rattle.table.specs.Cases.{cases}
 use Rattle.table.specs.declared.Operand.{Operand}
 use Rattle.table.specs.declared.Operand.the-variants.{Var, Const}
 use Rattle.text.specs.declared.Fault.{Fault}
 use Rattle.text.specs.declared.Fault.the-variants.{Form, Misspelt, Ended, Range, Reference}
 use Rattle.text.specs.Number.{bytes, spelt, value}
-use Rattle.text.specs.NumberLaws.{byOrder, cases}
+use Rattle.text.specs.NumberLaws.{byOrder}
 use Rattle.text.specs.Line.{run, stops, judged, valueOf, fieldOf}
 use Rattle.text.specs.Value.{operand, variable, numeral, asVar, asConst, asNegative, saidOperand, same, said, unsaid, check}
 use Rattle.text.specs.Format.{variableOf}

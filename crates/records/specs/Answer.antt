@@ -63,15 +63,9 @@ lastCounts =
 abbrev pub counted : ℕ → ℕ → Vals lastCounts → Vals countsLine
 counted k p w = (k, (p, w))
 
-abbrev pub taskOf : (procs i : ℕ) → Vals (taskLine procs i) → Task
-taskOf procs i w = record { top = w .1 .0 }
-
 abbrev pub taskIn : TaskLine → Answer Task
 taskIn (IsTask t e) = got t e
 taskIn (NotTask f) = failed f
-
-abbrev pub semOf : (i : ℕ) → Vals (semLine i) → Sem
-semOf i w = record { count = w .1 .0 }
 
 abbrev pub semIn : SemLine → Answer Sem
 semIn (IsSem t e) = got t e

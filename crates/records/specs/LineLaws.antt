@@ -9,12 +9,12 @@ use native.Mathlib.Nat.{add-zero}
 use lib.Dec.{ltb, eqb}
 use lib.ListN.{length, take, drop}
 use borrow.Author.Tests.{ne-eqb, ltb-true, le-leb}
+use Rattle.table.specs.Cases.{cases}
 use Rattle.table.specs.Mask.{maskOf}
 use Rattle.table.specs.MaskLaws.{maskOf-lt}
 use Rattle.text.specs.declared.Fault.{Fault}
 use Rattle.text.specs.declared.Fault.the-variants.{Index, Range}
-use Rattle.text.specs.Number.{bytes}
-use Rattle.text.specs.NumberLaws.{cases}
+use Rattle.text.specs.Number.{bytes, every}
 use Rattle.text.specs.Value.{ValueKind, Of, said, check, ascending, within}
 use Rattle.text.specs.ValueLaws.{no}
 use Rattle.text.specs.Line.{took, After, at as stands, differs, broken, after, run, verdict, judged, valueOf, afterKey, fieldOf}
@@ -57,7 +57,7 @@ field-check key k l s e = key-check k (after key s) l e
 -- ---- a set of parameters fits its eight places
 
 absent : (n i : ℕ) → n ≤ i → (xs : List ℕ) → within 0 n xs ≡ true → elem i xs ≡ false
-unfolding within elem
+unfolding every elem
 absent n i h [] e = refl
 absent n i h (x ∷ xs) e = cases (ltb x n)
     (λ q.

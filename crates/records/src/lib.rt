@@ -2,9 +2,9 @@
 ghost use Prim.Native.Nat.{_≤_, _<_};
 ghost use lib.ListN.{length};
 ghost use mathlib.Core.Bool.{true, false};
-ghost use Rattle.text.specs.Format.{headLine, countsLine, taskLine, semLine, blankField};
+ghost use Rattle.text.specs.Format.{headLine, countsLine, taskLine, semLine, blankField, taskOf, semOf};
 ghost use Rattle.fields.specs.Answer.{LineAt};
-ghost use Rattle.records.specs.Answer.{headIn, lastCounts, counted, CountsAt, taskOf, taskIn, semOf, semIn, queueIn, QueueAt, capped, Sized, DropAt, SizesAt, ProcAt};
+ghost use Rattle.records.specs.Answer.{headIn, lastCounts, counted, CountsAt, taskIn, semIn, queueIn, QueueAt, capped, Sized, DropAt, SizesAt, ProcAt};
 
 // The counts of a table's tasks, procedures, semaphores and queues.
 pub struct Counts {

@@ -11,7 +11,7 @@ use Rattle.table.specs.declared.Sem.{Sem}
 use Rattle.table.specs.declared.Queue.{Queue}
 use Rattle.text.specs.declared.Fault.{Fault}
 use Rattle.text.specs.Line.{took, refused, Parser, onto}
-use Rattle.text.specs.Format.{taskLine, semLine}
+use Rattle.text.specs.Format.{taskLine, semLine, taskOf, semOf}
 use Rattle.text.specs.Reader.{rows, taskRow, semRow, queueRow}
 use Rattle.fields.specs.Answer.{LineAt}
 use Rattle.records.specs.declared.TaskLine.{TaskLine}
@@ -20,7 +20,7 @@ use Rattle.records.specs.declared.SemLine.{SemLine}
 use Rattle.records.specs.declared.SemLine.the-variants.{Is as IsSem, Refused as NotSem}
 use Rattle.records.specs.declared.QueueLine.{QueueLine}
 use Rattle.records.specs.declared.QueueLine.the-variants.{Is as IsQueue, Refused as NotQueue}
-use Rattle.records.specs.Answer.{taskOf, taskIn, semOf, semIn, QueueAt}
+use Rattle.records.specs.Answer.{taskIn, semIn, QueueAt}
 use Rattle.rows.specs.declared.End.{End}
 use Rattle.rows.specs.declared.End.the-variants.{At, Refused}
 use Rattle.rows.specs.Rows.{endIn, RowsAt, taskFault, semFault, queueFault}

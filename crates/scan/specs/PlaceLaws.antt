@@ -10,10 +10,11 @@ use lib.Dec.{eqb}
 use lib.ListN.{length, take, drop, getD, drop-of-length-le, length-drop}
 use lib.Seq.{drop-cons, drop-drop}
 use borrow.Author.Tests.{lt-ltb, le-ltb, eq-eqb, ne-eqb, eqb-true, eqb-false}
+use Rattle.table.specs.Cases.{cases}
 use Rattle.table.specs.Mask.{pick}
 use Rattle.text.specs.declared.Fault.the-variants.{Form, Ended}
 use Rattle.text.specs.Number.{allDigits}
-use Rattle.text.specs.NumberLaws.{byOrder, cases, all-head, all-tail}
+use Rattle.text.specs.NumberLaws.{byOrder, all-head, all-tail}
 use Rattle.text.specs.Line.{at as stands, differs, broken, after, run as count, stops, fieldOf}
 use Rattle.scan.specs.declared.Found.{Found}
 use Rattle.scan.specs.declared.Found.the-variants.{At, Differs, Broken}

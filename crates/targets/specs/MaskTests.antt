@@ -10,9 +10,10 @@ use lib.Count.{ones, onesIn, ones-step}
 use lib.ListN.{length}
 use lib.Pow.{pow-pos, pow-mono, shr-shr}
 use borrow.Author.Tests.{eqb-true, eq-eqb, ne-eqb, ltb-true, lt-ltb}
+use Rattle.table.specs.Cases.{cases}
 use Rattle.table.specs.Mask.{bit, also, membersFrom, members, maskOf}
 use Rattle.table.specs.MaskLaws.{bit-above, bit-maskOf, maskOf-lt, members-is}
-use Rattle.text.specs.NumberLaws.{cases, byOrder, and-left, and-right}
+use Rattle.text.specs.NumberLaws.{byOrder, and-left, and-right}
 use Rattle.text.specs.ValueLaws.{no}
 use Rattle.text.specs.Value.{within, isOne}
 use Rattle.text.specs.MaskLists.{mask-bits}

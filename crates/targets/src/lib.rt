@@ -6,10 +6,6 @@ ghost use Rattle.table.specs.Mask.{members};
 ghost use Rattle.text.specs.Value.{check, ascending, within, isOne};
 ghost use Rattle.text.specs.Structure.{numbered};
 
-const MISSPELT: u8 = 2;
-
-const REFERENCE: u8 = 5;
-
 // In open form a list of targets has one.
 fn listed(closed: bool, m: u32) -> bool
     ensures { λ r. ⌜ r ≡ (not (not closed) || isOne (members m)) ⌝ }
@@ -40,9 +36,9 @@ pub fn targets(closed: bool, nodes: u8, m: u32) -> u8
         if inside(m, nodes) {
             return 0;
         }
-        return REFERENCE;
+        return text::REFERENCE;
     }
-    MISSPELT
+    text::MISSPELT
 }
 
 // The parameters that are dropped, of so many.
@@ -55,6 +51,6 @@ pub fn dropped(params: u8, m: u8) -> u8
     if (m as u32) < (1u32 << (params as u32)) {
         0
     } else {
-        REFERENCE
+        text::REFERENCE
     }
 }

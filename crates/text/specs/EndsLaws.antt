@@ -9,10 +9,9 @@ use lib.Dec.{eqb}
 use lib.ListN.{length, getD, set, replicate, length-set}
 use lib.Seq.{getD-set-same, getD-set-other}
 use borrow.Author.Tests.{eqb-true, eqb-false, lt-ltb, le-ltb, le-leb}
+use Rattle.table.specs.Cases.{cases}
 use Rattle.table.specs.Mask.{members}
-use Rattle.table.specs.Table.{noSlot, noTask, noSem, noQueue, noProc, noSlots, outside, taskAt, semAt, queueAt, procAt, nodeIn, isAbsent}
-use Rattle.table.specs.declared.Node.{Node}
-use Rattle.table.specs.declared.Node.the-variants.{Absent, Start, Set, Test, Read, Call, Wait, Signal, Send, Recv, Assert, Out, Return}
+use Rattle.table.specs.Table.{noSlot, noTask, noSem, noQueue, noProc, noSlots, outside, taskAt, semAt, queueAt, procAt, nodeIn, isAbsent, parts}
 use Rattle.table.specs.declared.Slot.{Slot}
 use Rattle.table.specs.declared.Queue.{Queue}
 use Rattle.table.specs.declared.Proc.{Proc}
@@ -21,15 +20,15 @@ use Rattle.text.specs.Number.{bytes}
 use Rattle.text.specs.declared.Fault.{Fault}
 use Rattle.text.specs.declared.Fault.the-variants.{Form, Ended, Index}
 use Rattle.text.specs.Fault.{number}
-use Rattle.text.specs.NumberLaws.{cases}
-use Rattle.text.specs.Value.{NodeKind, start, setKind, test, read, call, wait, signal, send, recv, assert, out, return, ValueKind, spell, check, orElse}
+use Rattle.text.specs.Value.{NodeKind, ValueKind, spell, check, orElse}
 use Rattle.text.specs.Line.{Line, Vals, write, Outcome, took, refused, Parser, onto, _>>=_, give, After, at, differs, broken, after, fieldOf, line, lineFault}
 use Rattle.text.specs.LineLaws.{Sound, judgement, line-write, head-sound, counts-sound, task-sound, sem-sound, queue-sound, proc-sound, node-sound}
-use Rattle.text.specs.Format.{headLine, countsLine, taskLine, semLine, queueLine, procLine, Scope, nodeLine, fields, setOf, nodeOf, Described, noLine, described, describe}
+use Rattle.text.specs.Format.{headLine, countsLine, taskLine, semLine, queueLine, procLine, Scope, nodeLine, fields, setOf, nodeOf, Described, noLine, described, describe, taskOf, taskVals, semOf, semVals}
 use Rattle.text.specs.Reader.{rows, queueOf, Numbered, nodeRow, slotOf, openNodes, ifKey, furtherNodes, closedNodes, nodesOf, procOf, scopeOf, procRow, body, table, concatFrom}
 use Rattle.text.specs.Writer.{queueVals, procVals, nodeText, scope, procText, text}
 use Rattle.text.specs.LinedLaws.{all-same, proc-is}
 use Rattle.text.specs.ValueLaws.{no}
+use Rattle.text.specs.NodeLaws.{by-line, nodeFrom}
 use Rattle.text.specs.Structure.{firstOf, gap, placeFault, procFault, linesFault}
 
 -- ---- outcomes, up to line numbers: with no fault, something that has P, and s is left; else a fault with the number of c
@@ -120,29 +119,6 @@ rows-then z Q d g w h q n xs l s f k = ends-then f
 
 -- ---- nodes
 
--- a place is absent and stands for no line, or is not and stands for one
-pub by-line {ℓ} : {P : Type ℓ} (c : Scope) (x : Node) → (x ≡ Absent → describe c x ≡ noLine → P)
-    → ((k : NodeKind) (w : Vals (fields c k)) → isAbsent x ≡ false → describe c x ≡ described k w → P) → P
-unfolding describe isAbsent
-by-line c Absent f g = f refl refl
-by-line c (Start to) f g = g start _ refl refl
-by-line c (Set v o a b to) f g = g setKind _ refl refl
-by-line c (Test o a b y n) f g = g test _ refl refl
-by-line c (Read v to) f g = g read _ refl refl
-by-line c (Call q xs to) f g = g call _ refl refl
-by-line c (Wait s to) f g = g wait _ refl refl
-by-line c (Signal s to) f g = g signal _ refl refl
-by-line c (Send q v to) f g = g send _ refl refl
-by-line c (Recv q v to) f g = g recv _ refl refl
-by-line c (Assert v to) f g = g assert _ refl refl
-by-line c (Out v to) f g = g out _ refl refl
-by-line c Return f g = g return _ refl refl
-
--- the node that is read from a node's line
-abbrev pub back : (c : Scope) → Described c → Node
-back c noLine = Absent
-back c (described k w) = nodeOf c k w
-
 -- what follows a procedure's lines does not begin `node=`
 abbrev Lacking : After → Type 0
 Lacking (at r) = ⊥
@@ -185,7 +161,7 @@ module _ (t : Table) (q : Proc) where
   -- the fault where a node before i is due, with n places from i on left
   ends-gap : {P : Numbered → Type 0} {r : List ℕ} (lo n i l : ℕ) (s : List ℕ) → lo < i → Lacking (after (bytes "node=") s)
       → Ends P r (some (gap q n i)) (nodeRow c lo (suc lo) l (concatFrom lines n i ++ s))
-  unfolding gap concatFrom line number describe isAbsent lineFault check
+  unfolding gap concatFrom line number describe parts lineFault check
   ends-gap lo zero i l s u h = let f = lacking-field (ValueKind.number lo (suc lo) Index) l s h in rw (f .2) (ends-refused (f .1))
   ends-gap lo (suc n) i l s u h = by-line c (nodeIn q i)
       (λ a e. rw a (ends-gap lo n (suc i) l s (omega arith) h))
@@ -195,7 +171,7 @@ module _ (t : Table) (q : Proc) where
 
   -- what is read from node j's place, and its fault
   abbrev Read-back : ℕ → Slot → Type 0
-  Read-back j x = x .node ≡ back c (d j)
+  Read-back j x = x .node ≡ nodeFrom c (d j)
 
   abbrev faultAt : ℕ → Option Fault
   faultAt j = placeFault c q j (d j)
@@ -264,7 +240,7 @@ pub record ProcSame (t : Table) (q r : Proc) : Type 0 where
   pub params : r .params ≡ q .params
   pub nodes : r .nodes ≡ q .nodes
   pub drop : t .closed ≡ true → r .drop ≡ setOf (members (q .drop))
-  pub node : (j : ℕ) → j < q .nodes → j < 32 → nodeIn r j ≡ back (scope t q) (describe (scope t q) (nodeIn q j))
+  pub node : (j : ℕ) → j < q .nodes → j < 32 → nodeIn r j ≡ nodeFrom (scope t q) (describe (scope t q) (nodeIn q j))
 
 vals-scope : (closed : Bool) (procs sems queues i : ℕ) (q : Proc)
     → scopeOf closed procs sems queues i (procVals closed i q) ≡ record { closed = closed; procs = procs; sems = sems; queues = queues; vars = q .vars; nodes = q .nodes }
@@ -301,7 +277,7 @@ pub record Same (t r : Table) : Type 0 where
   pub procs : r .procs ≡ t .procs
   pub sems : r .sems ≡ t .sems
   pub queues : r .queues ≡ t .queues
-  pub top : (i : ℕ) → i < t .tasks → i < 4 → taskAt r i .top ≡ taskAt t i .top
+  pub task : (i : ℕ) → i < t .tasks → i < 4 → taskAt r i ≡ taskAt t i
   pub blank : (i : ℕ) → i < t .queues → i < 8 → t .closed ≡ true → queueAt r i .blank ≡ queueAt t i .blank
   pub proc : (p : ℕ) → p < t .procs → p < 8 → ProcSame t (procAt t p) (procAt r p)
 
@@ -314,16 +290,14 @@ unfolding linesFault table text body
 ends-table t =
     let b = t .closed in
     let counts : Vals countsLine = (t .tasks, (t .procs, (t .sems, (t .queues, tt)))) in
-    let taskVals : (i : ℕ) → Vals (taskLine (t .procs) i) = λ i. (i, (taskAt t i .top, tt)) in
-    let semVals : (i : ℕ) → Vals (semLine i) = λ i. (i, (semAt t i .count, tt)) in
     let procs = concatFrom (procText t) (t .procs) 0 in
     let queues = concatFrom (λ i. write (queueLine b i) (queueVals b i (queueAt t i))) (t .queues) 0 ++ procs in
-    let sems = concatFrom (λ i. write (semLine i) (semVals i)) (t .sems) 0 ++ queues in
-    let tasks = concatFrom (λ i. write (taskLine (t .procs) i) (taskVals i)) (t .tasks) 0 ++ sems in
+    let sems = concatFrom (λ i. write (semLine i) (semVals i (semAt t i))) (t .sems) 0 ++ queues in
+    let tasks = concatFrom (λ i. write (taskLine (t .procs) i) (taskVals (t .procs) i (taskAt t i))) (t .tasks) 0 ++ sems in
     line-then headLine head-sound (t .trap, (b, tt)) 1 (write countsLine counts ++ tasks) _ (λ l e.
     line-then countsLine counts-sound counts l tasks _ (λ l e.
-    rows-then noTask (λ i x. x .top ≡ taskAt t i .top) (taskLine (t .procs)) (task-sound (t .procs)) taskVals (λ i w. record { top = w .1 .0 }) (λ i. refl) (t .tasks) (replicate 4 noTask) l sems _ (λ ts l h₁.
-    rows-then noSem (λ i x. x .count ≡ semAt t i .count) semLine sem-sound semVals (λ i w. record { count = w .1 .0 }) (λ i. refl) (t .sems) (replicate 8 noSem) l queues _ (λ ss l h₂.
+    rows-then noTask (λ i x. x ≡ taskAt t i) (taskLine (t .procs)) (task-sound (t .procs)) (λ i. taskVals (t .procs) i (taskAt t i)) (taskOf (t .procs)) (λ i. refl) (t .tasks) (replicate 4 noTask) l sems _ (λ ts l h₁.
+    rows-then noSem (λ i x. x ≡ semAt t i) semLine sem-sound (λ i. semVals i (semAt t i)) semOf (λ i. refl) (t .sems) (replicate 8 noSem) l queues _ (λ ss l h₂.
     rows-then noQueue (λ i x. b ≡ true → x .blank ≡ queueAt t i .blank) (queueLine b) (queue-sound b) (λ i. queueVals b i (queueAt t i)) (queueOf b) (λ i. vals-queue b i (queueAt t i)) (t .queues) (replicate 8 noQueue) l procs _ (λ qs l h₃.
     let ps = ends-rows outside (λ p. ProcSame t (procAt t p)) (procRow b (t .procs) (t .sems) (t .queues)) (procText t) (procFault t) [] (t .procs) (λ i n l e. ends-proc t i l _ (procs-lacking t n (suc i))) (t .procs) 0 (omega arith) (replicate 8 noProc) l in
     ends-last _ (rw append-nil at ps) (λ ps l h₄. ends-took (
@@ -333,7 +307,7 @@ ends-table t =
       procs = refl;
       sems = refl;
       queues = refl;
-      top = λ i l u. h₁ .inside i (omega arith) (omega arith) u;
+      task = λ i l u. h₁ .inside i (omega arith) (omega arith) u;
       blank = λ i l u. h₃ .inside i (omega arith) (omega arith) u;
       proc = λ p l u. h₄ .inside p (omega arith) (omega arith) u;
     })))))))

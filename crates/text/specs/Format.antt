@@ -8,6 +8,8 @@ use lib.ListN.{length, getD, take, replicate}
 use Rattle.table.specs.Mask.{pick, members, maskOf}
 use Rattle.table.specs.Table.{removed, argPlaces}
 use Rattle.table.specs.declared.Args.{Args}
+use Rattle.table.specs.declared.Task.{Task}
+use Rattle.table.specs.declared.Sem.{Sem}
 use Rattle.table.specs.declared.Node.{Node}
 use Rattle.table.specs.declared.Node.the-variants.{Absent, Start, Set, Test, Read, Call, Wait, Signal, Send, Recv, Assert, Out, Return}
 use Rattle.text.specs.Number.{bytes}
@@ -46,6 +48,19 @@ semLine i =
     field (bytes "sem=") (due i) λ j.
     field (bytes " count=") (from 0 255) λ c.
     end
+
+-- what a task line and a semaphore line make, and the values that they stand for
+abbrev pub taskOf : (procs i : ℕ) → Vals (taskLine procs i) → Task
+taskOf procs i w = record { top = w .1 .0 }
+
+abbrev pub taskVals : (procs i : ℕ) → Task → Vals (taskLine procs i)
+taskVals procs i x = (i, (x .top, tt))
+
+abbrev pub semOf : (i : ℕ) → Vals (semLine i) → Sem
+semOf i w = record { count = w .1 .0 }
+
+abbrev pub semVals : (i : ℕ) → Sem → Vals (semLine i)
+semVals i x = (i, (x .count, tt))
 
 -- "in closed form also `blank=yes` or `no`"
 abbrev pub blankField : Bool → Line

@@ -1,3 +1,4 @@
+pub mod ByWord
 pub mod Number
 pub mod Fault
 pub mod Value
@@ -19,11 +20,13 @@ pub mod LinedLaws
 pub mod EndsLaws
 pub mod StructureLaws
 pub mod ValidLaws
+pub mod PartsLaws
 pub mod RowLaws
 pub mod NodeLaws
 pub mod TableLaws
 pub mod MadeLaws
 pub mod ShapeLaws
+pub mod KindLaws
 pub mod RoundTrip
 pub mod ReadShaped
 pub mod TextLength

@@ -10,11 +10,11 @@ use lib.ListN.{length, take, drop, length-append, take-append-drop}
 use lib.Seq.{take-append-seam, drop-append-seam}
 use borrow.Author.Tests.{eqb-true, eq-eqb, lt-ltb}
 use Rattle.text.specs.declared.Fault.{Fault}
-use Rattle.text.specs.NumberLaws.{cases}
 use Rattle.text.specs.Value.{NodeKind, start, setKind, test, read, call, wait, signal, send, recv, assert, out, return, ValueKind, Of, same, spell, said, orElse, check}
 use Rattle.text.specs.ValueLaws.{no, Apart, said-spell, spell-said, run-spell}
 use Rattle.text.specs.Line.{Line, end, field, Vals, write, Outcome, took, refused, Parser, onto, After, at, differs, broken, after, stops, run, verdict, judged, valueOf, afterKey, fieldOf, line, lineFault}
 use Rattle.text.specs.Format.{headLine, countsLine, taskLine, semLine, queueLine, procLine, Scope, toField, fields, nodeLine}
+use Rattle.table.specs.Cases.{cases}
 
 -- ---- lines that can be read back
 

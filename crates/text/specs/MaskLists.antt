@@ -8,9 +8,11 @@ use native.Mathlib.Nat.{mod-eq-of-lt}
 use lib.Dec.{ltb, leb, eqb}
 use lib.Pow.{mod-pow-add}
 use borrow.Author.Tests.{leb-true, ltb-true, lt-ltb, eqb-true, eqb-false, eq-eqb, ne-eqb}
+use Rattle.table.specs.Cases.{cases}
 use Rattle.table.specs.Mask.{bit, also, membersFrom, members, maskOf}
 use Rattle.table.specs.MaskLaws.{bit-maskOf}
-use Rattle.text.specs.NumberLaws.{cases, byOrder, and-left, and-right}
+use Rattle.text.specs.Number.{every}
+use Rattle.text.specs.NumberLaws.{byOrder, and-left, and-right}
 use Rattle.text.specs.Value.{ascends, within}
 use Rattle.text.specs.Format.{elem, setOf}
 
@@ -24,7 +26,7 @@ rising-down n k l [] h r = tt
 rising-down n k l (x ∷ xs) h r = (omega arith, r .1, r .2)
 
 rising : (lo n : ℕ) (xs : List ℕ) → ascends xs ≡ true → within lo n xs ≡ true → Rising n lo xs
-unfolding ascends within
+unfolding ascends every
 rising lo n [] a w = tt
 rising lo n (x ∷ xs) a w =
     let h = and-left (leb lo x && ltb x n) (within lo n xs) w in (

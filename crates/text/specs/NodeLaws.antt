@@ -9,8 +9,9 @@ use lib.Dec.{ltb, leb, eqb}
 use lib.ListN.{length, getD, set, take, drop, replicate, length-set}
 use lib.Seq.{getD-set-other, set-getD}
 use borrow.Author.Tests.{ltb-true, lt-ltb, leb-true, le-leb, eqb-true, ne-eqb}
-use Rattle.table.specs.Mask.{members}
-use Rattle.table.specs.Table.{noSlot, noSlots, procAt, removed, argPlaces, arcTo, arcNo}
+use Rattle.table.specs.Cases.{cases}
+use Rattle.table.specs.Mask.{pick, members}
+use Rattle.table.specs.Table.{noSlot, noSlots, procAt, removed, argPlaces, arcTo, arcNo, isAbsent, parts}
 use Rattle.table.specs.declared.Args.{Args}
 use Rattle.table.specs.declared.Node.{Node}
 use Rattle.table.specs.declared.Node.the-variants.{Absent, Start, Set, Test, Read, Call, Wait, Signal, Send, Recv, Assert, Out, Return}
@@ -19,7 +20,9 @@ use Rattle.table.specs.declared.Table.{Table}
 use Rattle.text.specs.declared.Fault.{Fault}
 use Rattle.text.specs.declared.Fault.the-variants.{Misspelt, Reference}
 use Rattle.text.specs.Number.{bytes}
-use Rattle.text.specs.NumberLaws.{cases, byOrder, and-left, and-right}
+use Rattle.table.specs.ByKind.{by-kind}
+use Rattle.text.specs.ByWord.{by-word}
+use Rattle.text.specs.NumberLaws.{byOrder, and-left, and-right}
 use Rattle.text.specs.Value.{NodeKind, start, setKind, test, read, call, wait, signal, send, recv, assert, out, return, number, variable, ascending, arguments, spell, unless, ascends, within, isOne, noneRemoved, allDeclared, check}
 use Rattle.text.specs.ValueLaws.{no}
 use Rattle.text.specs.Line.{Vals, write, took, onto, _>>=_, give, After, at, differs, broken, after, line}
@@ -50,7 +53,7 @@ list-fact one lo n xs e =
     )
 
 within-more : (lo n m : ℕ) (xs : List ℕ) → n ≤ m → within lo n xs ≡ true → within lo m xs ≡ true
-unfolding within
+unfolding every
 within-more lo n m [] h e = refl
 within-more lo n m (x ∷ xs) h e =
     let a = and-left (leb lo x && ltb x n) (within lo n xs) e in
@@ -70,11 +73,11 @@ unfolding check
 variable-back c n none h e = refl
 variable-back c n (some v) h e = name-back n v h (ltb-true v n (unless-none (ltb v n) Reference e))
 
-number-back : (v : ℕ) → variableOf (nameOf v) ≡ v
+pub number-back : (v : ℕ) → variableOf (nameOf v) ≡ v
 number-back v = cases (eqb v removed) (λ e. rw e (sym (eqb-true v removed e))) (λ e. rw e)
 
 names-back : (n : ℕ) (xs : List (Option ℕ)) → n ≤ removed → allDeclared n xs ≡ true → map nameOf (map variableOf xs) ≡ xs
-unfolding allDeclared
+unfolding every
 names-back n [] h e = refl
 names-back n (none ∷ xs) h e = rw (names-back n xs h e)
 names-back n (some v ∷ xs) h e =
@@ -125,23 +128,48 @@ args-forth x z l = go (x .len) (x .a0) (x .a1) (x .a2) (x .a3) z l
 
 -- ---- a node and the values of its line
 
+abbrev lacks : {c : Scope} → Described c → Bool
+lacks noLine = true
+lacks (described k w) = false
+
+-- only where there is no node is no line
+line-absent : (c : Scope) (x : Node) → isAbsent x ≡ lacks (describe c x)
+unfolding describe parts
+line-absent c = by-kind (search)
+
+absent-or : (x : Node) → x ≡ pick (isAbsent x) Absent x
+unfolding parts
+absent-or = by-kind (search)
+
+pub absent-is : (x : Node) → isAbsent x ≡ true → x ≡ Absent
+absent-is x e = absent-or x ∙ rw e
+
+-- a place is absent and stands for no line, or is not and stands for one
+pub by-line {ℓ} : {P : Type ℓ} (c : Scope) (x : Node) → (x ≡ Absent → describe c x ≡ noLine → P)
+    → ((k : NodeKind) (w : Vals (fields c k)) → isAbsent x ≡ false → describe c x ≡ described k w → P) → P
+by-line {P = P} c x f g = go (describe c x) refl (line-absent c x)
+  where
+    go : (d : Described c) → describe c x ≡ d → isAbsent x ≡ lacks d → P
+    go noLine e a = f (absent-is x a) e
+    go (described k w) e a = g k w a e
+
 -- a node of table t with as many arguments as its callee has parameters, which are no more than four
 abbrev pub FitsIn : Table → Node → Type 0
 FitsIn t x = (countRight t x ≡ true) × ((q : ℕ) → procAt t q .params ≤ 4)
 
 pub few : (t : Table) (q : ℕ) (xs : Args) (to : ℕ) → FitsIn t (Call q xs to) → xs .len ≤ 4
-unfolding countRight
+unfolding parts
 few t q xs to f = let e = eqb-true (xs .len) (procAt t q .params) (f .0) in rw e (f .1 q)
 
 -- a line without fault stands for a node that stands for that line
 pub describe-node : (t : Table) (c : Scope) (k : NodeKind) (w : Vals (fields c k)) → c .vars ≤ removed → c .nodes ≤ 32 → Faultless (fields c k) w
     → FitsIn t (nodeOf c k w) → describe c (nodeOf c k w) ≡ described k w
-unfolding nodeOf describe
+unfolding nodeOf describe parts
 describe-node t c start w v n f g = rw (list-back _ 1 (c .nodes) (w .0) n (f .0))
 describe-node t c setKind w v n f g = rw (list-back _ 1 (c .nodes) (w .1 .1 .1 .1 .0) n (f .1 .1 .1 .1 .0))
 describe-node t c test w v n f g = rw (list-back _ 1 (c .nodes) (w .1 .1 .1 .0) n (f .1 .1 .1 .0), list-back _ 1 (c .nodes) (w .1 .1 .1 .1 .0) n (f .1 .1 .1 .1 .0))
 describe-node t c read w v n f g = rw (list-back _ 1 (c .nodes) (w .1 .0) n (f .1 .0))
-describe-node t c call w v n f g = rw (args-back (c .closed) (c .vars) (w .1 .0) v (f .1 .0) (few t _ (argsOf (w .1 .0)) _ g), list-back _ 1 (c .nodes) (w .1 .1 .0) n (f .1 .1 .0))
+describe-node t c call w v n f g = rw (args-back (c .closed) (c .vars) (w .1 .0) v (f .1 .0) (few t (w .0) (argsOf (w .1 .0)) 0 g), list-back _ 1 (c .nodes) (w .1 .1 .0) n (f .1 .1 .0))
 describe-node t c wait w v n f g = rw (list-back _ 1 (c .nodes) (w .1 .0) n (f .1 .0))
 describe-node t c signal w v n f g = rw (list-back _ 1 (c .nodes) (w .1 .0) n (f .1 .0))
 describe-node t c send w v n f g = rw (variable-back (c .closed) (c .vars) (w .1 .0) v (f .1 .0), list-back _ 1 (c .nodes) (w .1 .1 .0) n (f .1 .1 .0))
@@ -160,13 +188,13 @@ CleanNode x = (argsEmpty x ≡ true) × (arcTo x < 2 ^ 32) × (arcNo x < 2 ^ 32)
 
 -- a clean node stands for a line that stands for that node
 pub node-describe : (t : Table) (c : Scope) (x : Node) → CleanNode x → FitsIn t (nodeFrom c (describe c x)) → nodeFrom c (describe c x) ≡ x
-unfolding nodeOf describe argsEmpty arcTo arcNo
+unfolding nodeOf describe parts
 node-describe t c Absent h f = refl
 node-describe t c (Start to) h f = rw (set-members to (h .1))
 node-describe t c (Set v o a b to) h f = rw (set-members to (h .1))
 node-describe t c (Test o a b y n) h f = rw (set-members y (h .1), set-members n (h .2))
 node-describe t c (Read v to) h f = rw (set-members to (h .1))
-node-describe t c (Call q xs to) h f = rw (args-forth xs (h .0) (few t _ (argsOf (argNames xs)) _ f), set-members to (h .1))
+node-describe t c (Call q xs to) h f = rw (args-forth xs (h .0) (few t q (argsOf (argNames xs)) 0 f), set-members to (h .1))
 node-describe t c (Wait s to) h f = rw (set-members to (h .1))
 node-describe t c (Signal s to) h f = rw (set-members to (h .1))
 node-describe t c (Send q v to) h f = rw (number-back v, set-members to (h .1))
@@ -198,28 +226,18 @@ describe-fine c j out w v n f = rw (variable-back (c .closed) (c .vars) (w .0) v
 describe-fine c j return w v n f = f
 
 -- a node made of a line has nothing behind its arguments
+args-none : (xs : List (Option ℕ)) → every isZero (drop (min (length xs) 5) (argPlaces (argsOf xs))) ≡ true
+unfolding every
+args-none [] = refl
+args-none (a ∷ []) = refl
+args-none (a ∷ b ∷ []) = refl
+args-none (a ∷ b ∷ c ∷ []) = refl
+args-none (a ∷ b ∷ c ∷ d ∷ []) = refl
+args-none (a ∷ b ∷ c ∷ d ∷ f ∷ xs) = let e : min (suc (suc (suc (suc (suc (length xs)))))) 5 ≡ 5 = omega arith in rw e
+
 node-args : (c : Scope) (k : NodeKind) (w : Vals (fields c k)) → argsEmpty (nodeOf c k w) ≡ true
-unfolding nodeOf argsEmpty every
-node-args c start w = refl
-node-args c setKind w = refl
-node-args c test w = refl
-node-args c read w = refl
-node-args c call w = go (w .1 .0)
-  where
-    go : (xs : List (Option ℕ)) → every isZero (drop (min (length xs) 5) (argPlaces (argsOf xs))) ≡ true
-    go [] = refl
-    go (a ∷ []) = refl
-    go (a ∷ b ∷ []) = refl
-    go (a ∷ b ∷ c ∷ []) = refl
-    go (a ∷ b ∷ c ∷ d ∷ []) = refl
-    go (a ∷ b ∷ c ∷ d ∷ f ∷ xs) = let e : min (suc (suc (suc (suc (suc (length xs)))))) 5 ≡ 5 = omega arith in rw e
-node-args c wait w = refl
-node-args c signal w = refl
-node-args c send w = refl
-node-args c recv w = refl
-node-args c assert w = refl
-node-args c out w = refl
-node-args c return w = refl
+unfolding nodeOf parts
+node-args c = by-word (search args-none)
 
 -- ---- a procedure's node lines
 
@@ -303,7 +321,7 @@ module _ (t : Table) (c : Scope) (few-vars : c .vars ≤ removed) (few-nodes : c
 
   -- no line of number j stands there
   absent-row : c .closed ≡ true → (j : ℕ) (s : List ℕ) → 0 < j → ((k : NodeKind) (w : Vals (fields c k)) (s′ : List ℕ) → s ≡ nodeText c j (described k w) ++ s′ → ⊥) → Row (nodeRows t c) j s noSlot s
-  unfolding describe argsEmpty
+  unfolding describe parts
   absent-row o j s m h = record { fine = (refl, (m, o)); same = λ g. refl; only = λ g b s′ u x q. go g b s′ u (describe c (b .node)) refl q }
     where
       go : FitsIn t Absent → (b : Slot) (s′ : List ℕ) → CleanNode (b .node) → (d : Described c) → describe c (b .node) ≡ d → s ≡ nodeText c j d ++ s′ → (b ≡ noSlot) × (s′ ≡ s)

@@ -19,6 +19,11 @@ digitsIn (suc f) n = elim (ltb n 10) [ true ↦ (48 + n) ∷ [] | false ↦ digi
 unfoldable pub digits : ℕ → List ℕ
 digits n = digitsIn n n
 
+-- all of some things pass a test
+unfoldable pub every : {A : Type 0} → (A → Bool) → List A → Bool
+every f [] = true
+every f (x ∷ xs) = f x && every f xs
+
 abbrev pub isDigit : ℕ → Bool
 isDigit b = leb 48 b && leb b 57
 

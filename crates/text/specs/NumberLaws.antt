@@ -1,19 +1,15 @@
 -- Numbers as digits: a number's digits are spelt as a number and say it, and what is spelt as a number is the digits of what it says.
 use Prim.Native.Nat.{ℕ, zero, suc, _+_, _-_, _*_, _/_, _%_, _≤_, _<_}
 use mathlib.Core.Path.{_≡_, refl, sym, _∙_}
-use mathlib.Core.List.{List, [], _∷_, _++_, append-assoc, append-nil}
+use mathlib.Core.List.{List, [], _∷_, _++_, append-assoc, append-nil, List·Memᴰ, List·Memᴰ·head, List·Memᴰ·tail, List·Memᴰ·not-nil}
 use mathlib.Core.Bool.{Bool, true, false, _&&_, not, false≢true}
 use native.Mathlib.Omega.{arith}
 use lib.Dec.{ltb, leb, eqb}
 use borrow.Author.Tests.{ltb-true, ltb-false, le-ltb, lt-ltb, leb-true, le-leb, eqb-false, ne-eqb, not-true}
-use Rattle.text.specs.Number.{digitsIn, digits, isDigit, allDigits, spelt, valueFrom, value}
+use Rattle.text.specs.Number.{digitsIn, digits, every, isDigit, allDigits, spelt, valueFrom, value}
+use Rattle.table.specs.Cases.{cases}
 
 -- ---- tests
-
--- the two cases of a test, each with its equation
-abbrev pub cases {ℓ} : {P : Type ℓ} (b : Bool) → (b ≡ true → P) → (b ≡ false → P) → P
-cases true f g = f refl
-cases false f g = g refl
 
 pub byOrder {ℓ} : {P : Type ℓ} (a b : ℕ) → (a < b → P) → (b ≤ a → P) → P
 byOrder a b f g = cases (ltb a b) (λ e. f (ltb-true a b e)) (λ e. g (ltb-false a b e))
@@ -25,6 +21,18 @@ and-left false b e = e
 pub and-right : (a b : Bool) → a && b ≡ true → b ≡ true
 and-right true b e = e
 and-right false b e = absurd (false≢true e)
+
+-- all pass a test if and only if each does
+pub every-all : {A : Type 0} (f : A → Bool) (xs : List A) → every f xs ≡ true → (x : A) → List·Memᴰ x xs → f x ≡ true
+unfolding every
+every-all f [] e x d = absurd (List·Memᴰ·not-nil d)
+every-all f (y ∷ ys) e x (List·Memᴰ·head p) = rw p (and-left (f y) (every f ys) e)
+every-all f (y ∷ ys) e x (List·Memᴰ·tail d) = every-all f ys (and-right (f y) (every f ys) e) x d
+
+pub all-every : {A : Type 0} (f : A → Bool) (xs : List A) → ((x : A) → List·Memᴰ x xs → f x ≡ true) → every f xs ≡ true
+unfolding every
+all-every f [] h = refl
+all-every f (y ∷ ys) h = rw (h y (List·Memᴰ·head refl)) (all-every f ys (λ x d. h x (List·Memᴰ·tail d)))
 
 -- ---- the digits of a number, by its tens
 

@@ -7,7 +7,7 @@ use native.Mathlib.Omega.{arith}
 use lib.ListN.{length, getD, set, replicate, length-set, length-replicate}
 use lib.Pow.{pow-pos}
 use Rattle.table.specs.MaskLaws.{maskOf-lt}
-use Rattle.table.specs.Table.{noSlot, noTask, noSem, noQueue, noProc, noSlots, outside, nodeIn, arcTo, arcNo}
+use Rattle.table.specs.Table.{noSlot, noTask, noSem, noQueue, noProc, noSlots, outside, nodeIn, parts}
 use Rattle.table.specs.Shape.{Shaped}
 use Rattle.table.specs.declared.Slot.{Slot}
 use Rattle.table.specs.declared.Proc.{Proc}
@@ -98,7 +98,7 @@ zero-small : 0 < 2 ^ 32
 zero-small = pow-pos 32
 
 node-small : (c : Scope) (k : NodeKind) (w : Vals (fields c k)) → SmallArcs (nodeOf c k w)
-unfolding nodeOf arcTo arcNo
+unfolding nodeOf parts
 node-small c start w = (maskOf-lt 32 _, zero-small)
 node-small c setKind w = (maskOf-lt 32 _, zero-small)
 node-small c test w = (maskOf-lt 32 _, maskOf-lt 32 _)

@@ -6,9 +6,8 @@ use mathlib.Core.Bool.{Bool, true, false, _&&_, _||_, not}
 use lib.Dec.{ltb, eqb}
 use lib.ListN.{length, set, replicate}
 use Rattle.table.specs.Mask.{pick, bit}
-use Rattle.table.specs.Table.{noTask, noSem, noQueue, noProc, noSlots, noTable, taskAt, queueAt, procAt, nodeIn, nodeAt, removed, argAt, arcs, isAbsent}
+use Rattle.table.specs.Table.{noTask, noSem, noQueue, noProc, noSlots, noTable, taskAt, queueAt, procAt, nodeIn, nodeAt, removed, argAt, Act, alone, waits, signals, sends, receives, calls, returns, act, arcs, isAbsent}
 use Rattle.table.specs.declared.Node.{Node}
-use Rattle.table.specs.declared.Node.the-variants.{Absent, Start, Set, Test, Read, Call, Wait, Signal, Send, Recv, Assert, Out, Return}
 use Rattle.table.specs.declared.Slot.{Slot}
 use Rattle.table.specs.declared.Task.{Task}
 use Rattle.table.specs.declared.Sem.{Sem}
@@ -16,13 +15,13 @@ use Rattle.table.specs.declared.Queue.{Queue}
 use Rattle.table.specs.declared.Proc.{Proc}
 use Rattle.table.specs.declared.Table.{Table}
 use Rattle.text.specs.declared.Reading.{Reading}
-use Rattle.text.specs.Number.{bytes}
+use Rattle.text.specs.Number.{bytes, every}
 use Rattle.text.specs.declared.Fault.{Fault}
 use Rattle.text.specs.declared.Fault.the-variants.{Long, Ended, Arguments, Unclosed}
 use Rattle.text.specs.Fault.{number}
 use Rattle.text.specs.Value.{unless, orElse}
 use Rattle.text.specs.Line.{Vals, Outcome, took, refused, Parser, _>>=_, give, After, at, differs, broken, after, line}
-use Rattle.text.specs.Format.{headLine, countsLine, taskLine, semLine, queueLine, procLine, Scope, nodeLine, setOf, nodeOf}
+use Rattle.text.specs.Format.{headLine, countsLine, taskLine, semLine, queueLine, procLine, Scope, nodeLine, setOf, nodeOf, taskOf, semOf}
 
 -- ---- "Reader, lines in order, each left to right": faults 2 to 5
 
@@ -32,10 +31,10 @@ rows f zero i l = give l
 rows f (suc n) i l = f i >>= λ a. rows f n (suc i) (set l i a)
 
 abbrev pub taskRow : ℕ → ℕ → Parser Task
-taskRow procs i = line (taskLine procs i) >>= λ w. give (record { top = w .1 .0 })
+taskRow procs i = line (taskLine procs i) >>= λ w. give (taskOf procs i w)
 
 abbrev pub semRow : ℕ → Parser Sem
-semRow i = line (semLine i) >>= λ w. give (record { count = w .1 .0 })
+semRow i = line (semLine i) >>= λ w. give (semOf i w)
 
 abbrev pub queueOf : (closed : Bool) (i : ℕ) → Vals (queueLine closed i) → Queue
 queueOf false i w = record { cap = w .1 .0; blank = false }
@@ -123,9 +122,8 @@ unfoldable pub allBelow : ℕ → (ℕ → Bool) → Bool
 allBelow zero f = true
 allBelow (suc n) f = f n && allBelow n f
 
-unfoldable pub allPresent : Proc → List ℕ → Bool
-allPresent q [] = true
-allPresent q (m ∷ ms) = not (isAbsent (nodeIn q m)) && allPresent q ms
+abbrev pub allPresent : Proc → List ℕ → Bool
+allPresent q ms = every (λ m. not (isAbsent (nodeIn q m))) ms
 
 abbrev pub isRemoved : ℕ → Bool
 isRemoved v = eqb v removed
@@ -135,36 +133,30 @@ iff true b = b
 iff false b = not b
 
 -- "argument count differs from the callee's"
-unfoldable pub countRight : Table → Node → Bool
-countRight t Absent = true
-countRight t (Start to) = true
-countRight t (Set v o a b to) = true
-countRight t (Test o a b y n) = true
-countRight t (Read v to) = true
-countRight t (Call q xs to) = eqb (xs .len) (procAt t q .params)
-countRight t (Wait s to) = true
-countRight t (Signal s to) = true
-countRight t (Send q v to) = true
-countRight t (Recv q v to) = true
-countRight t (Assert v to) = true
-countRight t (Out v to) = true
-countRight t Return = true
+abbrev pub countBy : Table → Act → Bool
+countBy t alone = true
+countBy t (waits i) = true
+countBy t (signals i) = true
+countBy t (sends q v) = true
+countBy t (receives q v) = true
+countBy t (calls q xs) = eqb (xs .len) (procAt t q .params)
+countBy t returns = true
+
+abbrev pub countRight : Table → Node → Bool
+countRight t x = countBy t (act x)
 
 -- `-` "in `send` and `recv` if and only if the queue is blank, in `args` if and only if the parameter is dropped, in `assert` and `out` freely"
-unfoldable pub removedRight : Table → Node → Bool
-removedRight t Absent = true
-removedRight t (Start to) = true
-removedRight t (Set v o a b to) = true
-removedRight t (Test o a b y n) = true
-removedRight t (Read v to) = true
-removedRight t (Call q xs to) = allBelow (xs .len) (λ i. iff (isRemoved (argAt xs i)) (bit i (procAt t q .drop)))
-removedRight t (Wait s to) = true
-removedRight t (Signal s to) = true
-removedRight t (Send q v to) = iff (isRemoved v) (queueAt t q .blank)
-removedRight t (Recv q v to) = iff (isRemoved v) (queueAt t q .blank)
-removedRight t (Assert v to) = true
-removedRight t (Out v to) = true
-removedRight t Return = true
+abbrev pub removedBy : Table → Act → Bool
+removedBy t alone = true
+removedBy t (waits i) = true
+removedBy t (signals i) = true
+removedBy t (sends q v) = iff (isRemoved v) (queueAt t q .blank)
+removedBy t (receives q v) = iff (isRemoved v) (queueAt t q .blank)
+removedBy t (calls q xs) = allBelow (xs .len) (λ i. iff (isRemoved (argAt xs i)) (bit i (procAt t q .drop)))
+removedBy t returns = true
+
+abbrev pub removedRight : Table → Node → Bool
+removedRight t x = removedBy t (act x)
 
 -- a node line of procedure q
 abbrev pub nodeFault : Table → Proc → Node → Option Fault

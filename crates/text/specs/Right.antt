@@ -3,30 +3,24 @@ use Prim.Native.Nat.{ℕ, _≤_, _<_}
 use mathlib.Core.Path.{_≡_}
 use mathlib.Core.List.{List, List·Memᴰ}
 use mathlib.Core.Option.{Option, none, some}
-use mathlib.Core.Bool.{Bool, true, false}
+use mathlib.Core.Bool.{Bool, true, false, _&&_}
 use lib.IntN.{pos, negsuc}
 use lib.ListN.{length, getD}
 use Rattle.table.specs.declared.Operand.{Operand}
 use Rattle.table.specs.declared.Operand.the-variants.{Var, Const}
 use Rattle.table.specs.declared.Op.{Op}
 use Rattle.table.specs.declared.Op.the-variants.{Add, Sub, And, Or, Xor, Shr, Lt, Eq}
-use Rattle.text.specs.Value.{NodeKind, start, setKind, test, read, call, wait, signal, send, recv, assert, out, return, ValueKind, number, choice, kind, operation, operand, variable, ascending, arguments, Of, ascends, isOne}
+use Rattle.text.specs.Value.{NodeKind, start, read, isKind, ValueKind, number, choice, kind, operation, operand, variable, ascending, arguments, Of, ascends, isOne}
 use Rattle.text.specs.Line.{Line, end, field, Vals}
 
--- node 0 is the only start, and only an open table reads
+-- node 0 is the only start
+abbrev pub DueAt : ℕ → Bool → Type 0
+DueAt j true = j ≡ 0
+DueAt j false = 0 < j
+
+-- and only an open table reads
 abbrev pub KindRight : Bool → ℕ → NodeKind → Type 0
-KindRight c j start = j ≡ 0
-KindRight c j setKind = 0 < j
-KindRight c j test = 0 < j
-KindRight c j read = (0 < j) × (c ≡ false)
-KindRight c j call = 0 < j
-KindRight c j wait = 0 < j
-KindRight c j signal = 0 < j
-KindRight c j send = 0 < j
-KindRight c j recv = 0 < j
-KindRight c j assert = 0 < j
-KindRight c j out = 0 < j
-KindRight c j return = 0 < j
+KindRight c j k = DueAt j (isKind start k) × (isKind read k && c ≡ false)
 
 abbrev pub Compares : Op → Type 0
 Compares Add = ⊥

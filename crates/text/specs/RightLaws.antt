@@ -2,24 +2,26 @@
 use Prim.Native.Nat.{ℕ, zero, suc, _≤_, _<_}
 use mathlib.Core.Path.{_≡_, refl, sym}
 use mathlib.Core.Logic.{_↔_}
-use mathlib.Core.List.{List, [], _∷_, List·Memᴰ·head, List·Memᴰ·tail, List·Memᴰ·not-nil}
+use mathlib.Core.List.{List, [], _∷_}
 use mathlib.Core.Option.{Option, none, some}
 use mathlib.Core.Bool.{Bool, true, false, _&&_, _||_, not, false≢true}
 use native.Mathlib.Omega.{arith}
 use lib.Dec.{ltb, leb}
 use lib.IntN.{pos, negsuc}
 use lib.ListN.{length, getD}
-use borrow.Author.Tests.{ltb-true, lt-ltb, leb-true, le-leb}
+use borrow.Author.Tests.{ltb-true, lt-ltb, leb-true, le-leb, not-true}
 use Rattle.table.specs.declared.Operand.{Operand}
 use Rattle.table.specs.declared.Operand.the-variants.{Var, Const}
 use Rattle.table.specs.declared.Op.{Op}
 use Rattle.table.specs.declared.Op.the-variants.{Add, Sub, And, Or, Xor, Shr, Lt, Eq}
+use Rattle.text.specs.Number.{every}
 use Rattle.text.specs.declared.Fault.{Fault}
-use Rattle.text.specs.NumberLaws.{and-left, and-right}
+use Rattle.text.specs.declared.Fault.the-variants.{Form, Index}
+use Rattle.text.specs.NumberLaws.{and-left, and-right, every-all, all-every}
 use Rattle.text.specs.ValueLaws.{no}
-use Rattle.text.specs.Value.{NodeKind, start, setKind, test, read, call, wait, signal, send, recv, assert, out, return, ValueKind, number, choice, kind, operation, operand, variable, ascending, arguments, Of, unless, orElse, kindFault, opFault, operandFault, variableFault, ascends, within, isOne, noneRemoved, allDeclared, check}
+use Rattle.text.specs.Value.{NodeKind, start, read, isKind, dueAt, ValueKind, number, choice, kind, operation, operand, variable, ascending, arguments, Of, unless, orElse, kindFault, opFault, operandFault, variableFault, ascends, within, isOne, noneRemoved, allDeclared, check}
 use Rattle.text.specs.Line.{Line, end, field, Vals, lineFault}
-use Rattle.text.specs.Right.{KindRight, Fits, OperandIn, NameIn, Within, Right, Rights}
+use Rattle.text.specs.Right.{DueAt, KindRight, Fits, OperandIn, NameIn, Within, Right, Rights}
 
 -- ---- the first of some faults
 
@@ -36,32 +38,21 @@ and-is a b = (λ e. (and-left a b e, and-right a b e), λ e. rw (e .0) (e .1))
 
 -- ---- a value has no fault if and only if it is right
 
+due-is : (j : ℕ) (s : Bool) → (dueAt j s ≡ true) ↔ DueAt j s
+due-is zero true = (λ e. refl, λ h. refl)
+due-is zero false = (λ e. absurd (false≢true e), λ h. absurd (omega arith))
+due-is (suc j) true = (λ e. absurd (false≢true e), λ h. absurd (omega arith))
+due-is (suc j) false = (λ e. omega arith, λ h. refl)
+
 kind-is : (c : Bool) (j : ℕ) (v : NodeKind) → (kindFault c j v ≡ none) ↔ KindRight c j v
-kind-is c zero start = (λ e. refl, λ h. refl)
-kind-is c (suc j) start = (λ e. no (cc), λ h. absurd (omega arith))
-kind-is c zero setKind = (λ e. no (cc), λ h. absurd (omega arith))
-kind-is c (suc j) setKind = (λ e. omega arith, λ h. refl)
-kind-is c zero test = (λ e. no (cc), λ h. absurd (omega arith))
-kind-is c (suc j) test = (λ e. omega arith, λ h. refl)
-kind-is false zero read = (λ e. no (cc), λ h. absurd (omega arith))
-kind-is false (suc j) read = (λ e. (omega arith, refl), λ h. refl)
-kind-is true j read = (λ e. no (cc), λ h. absurd (false≢true (sym (h .1))))
-kind-is c zero call = (λ e. no (cc), λ h. absurd (omega arith))
-kind-is c (suc j) call = (λ e. omega arith, λ h. refl)
-kind-is c zero wait = (λ e. no (cc), λ h. absurd (omega arith))
-kind-is c (suc j) wait = (λ e. omega arith, λ h. refl)
-kind-is c zero signal = (λ e. no (cc), λ h. absurd (omega arith))
-kind-is c (suc j) signal = (λ e. omega arith, λ h. refl)
-kind-is c zero send = (λ e. no (cc), λ h. absurd (omega arith))
-kind-is c (suc j) send = (λ e. omega arith, λ h. refl)
-kind-is c zero recv = (λ e. no (cc), λ h. absurd (omega arith))
-kind-is c (suc j) recv = (λ e. omega arith, λ h. refl)
-kind-is c zero assert = (λ e. no (cc), λ h. absurd (omega arith))
-kind-is c (suc j) assert = (λ e. omega arith, λ h. refl)
-kind-is c zero out = (λ e. no (cc), λ h. absurd (omega arith))
-kind-is c (suc j) out = (λ e. omega arith, λ h. refl)
-kind-is c zero return = (λ e. no (cc), λ h. absurd (omega arith))
-kind-is c (suc j) return = (λ e. omega arith, λ h. refl)
+kind-is c j v =
+    let r = isKind read v && c in
+    let d = due-is j (isKind start v) in (
+      λ e.
+          let h = else-is (unless (not r) Form) _ .0 e in
+          (d .0 (unless-is _ Index .0 (h .1)), not-true r (unless-is (not r) Form .0 (h .0))),
+      λ h. rw (h .1, d .1 (h .0)),
+    )
 
 op-is : (t : Bool) (v : Op) → (opFault t v ≡ none) ↔ Fits t v
 op-is false v = (λ e. tt, λ h. refl)
@@ -93,19 +84,14 @@ range-is : (lo v n : ℕ) → (leb lo v && ltb v n ≡ true) ↔ ((lo ≤ v) × 
 range-is lo v n = (λ e. (leb-true lo v (and-left (leb lo v) (ltb v n) e), ltb-true v n (and-right (leb lo v) (ltb v n) e)), λ h. rw (le-leb lo v (h .0)) (lt-ltb v n (h .1)))
 
 pub within-all : (lo n : ℕ) (xs : List ℕ) → within lo n xs ≡ true → Within lo n xs
-unfolding within
-within-all lo n [] e m d = absurd (List·Memᴰ·not-nil d)
-within-all lo n (x ∷ xs) e m (List·Memᴰ·head p) = rw p (range-is lo x n .0 (and-left (leb lo x && ltb x n) (within lo n xs) e))
-within-all lo n (x ∷ xs) e m (List·Memᴰ·tail d) = within-all lo n xs (and-right (leb lo x && ltb x n) (within lo n xs) e) m d
+within-all lo n xs e m d = range-is lo m n .0 (every-all _ xs e m d)
 
 pub all-within : (lo n : ℕ) (xs : List ℕ) → Within lo n xs → within lo n xs ≡ true
-unfolding within
-all-within lo n [] f = refl
-all-within lo n (x ∷ xs) f = rw (range-is lo x n .1 (f x (List·Memᴰ·head refl)), all-within lo n xs (λ m d. f m (List·Memᴰ·tail d)))
+all-within lo n xs f = all-every _ xs (λ m d. range-is lo m n .1 (f m d))
 
 -- each argument is right by itself
 names-all : (c : Bool) (n : ℕ) (xs : List (Option ℕ)) → c || noneRemoved xs ≡ true → allDeclared n xs ≡ true → (i : ℕ) → i < length xs → NameIn c n (getD xs i (some 0))
-unfolding noneRemoved allDeclared
+unfolding every
 names-all c n [] r a i l = absurd (omega arith)
 names-all true n (none ∷ xs) r a zero l = refl
 names-all true n (none ∷ xs) r a (suc i) l = names-all true n xs refl a i (omega arith)
@@ -114,7 +100,7 @@ names-all c n (some v ∷ xs) r a zero l = ltb-true v n (and-left (ltb v n) (all
 names-all c n (some v ∷ xs) r a (suc i) l = names-all c n xs r (and-right (ltb v n) (allDeclared n xs) a) i (omega arith)
 
 all-names : (c : Bool) (n : ℕ) (xs : List (Option ℕ)) → ((i : ℕ) → i < length xs → NameIn c n (getD xs i (some 0))) → (c || noneRemoved xs ≡ true) × (allDeclared n xs ≡ true)
-unfolding noneRemoved allDeclared
+unfolding every
 all-names true n [] f = (refl, refl)
 all-names false n [] f = (refl, refl)
 all-names c n (none ∷ xs) f = let ih = all-names c n xs (λ i l. f (suc i) (omega arith)) in (rw (f 0 (omega arith)), ih .1)

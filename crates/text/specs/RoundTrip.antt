@@ -6,12 +6,12 @@ use mathlib.Core.Bool.{true}
 use native.Mathlib.Omega.{arith}
 use lib.Dec.{ltb}
 use lib.ListN.{length}
+use Rattle.table.specs.Cases.{cases}
 use Rattle.table.specs.Shape.{Shaped}
 use Rattle.table.specs.declared.Table.{Table}
 use Rattle.text.specs.declared.Fault.{Fault}
 use Rattle.text.specs.declared.Fault.the-variants.{Long, Form, Misspelt, Ended, Range, Index, Reference, Arguments, Unclosed, Unused, Short}
 use Rattle.text.specs.Fault.{number}
-use Rattle.text.specs.NumberLaws.{cases}
 use Rattle.text.specs.Reader.{Result, good, bad, readLines, reading, read}
 use Rattle.text.specs.Writer.{text, tidy, faultIn, fault}
 use Rattle.text.specs.TableLaws.{Fitting, Lines, accepted}

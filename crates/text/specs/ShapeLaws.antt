@@ -20,12 +20,13 @@ use Rattle.table.proofs.Sem as sem
 use Rattle.table.proofs.Queue as queue
 use Rattle.table.proofs.Proc as proc
 use Rattle.table.proofs.Table as table
-use Rattle.table.specs.Table.{noSlot, noTask, noSem, noQueue, outside, taskAt, semAt, queueAt, procAt, nodeIn, arcTo, arcNo}
+use Rattle.table.specs.Table.{noSlot, noTask, noSem, noQueue, outside, taskAt, semAt, queueAt, procAt, nodeIn, arcTo, arcNo, parts}
 use Rattle.table.specs.declared.Node.{Node}
-use Rattle.table.specs.declared.Node.the-variants.{Absent, Start, Set, Test, Read, Call, Wait, Signal, Send, Recv, Assert, Out, Return}
+use Rattle.table.specs.declared.Node.the-variants.{Absent}
 use Rattle.table.specs.declared.Proc.{Proc}
 use Rattle.table.specs.declared.Table.{Table}
 use Rattle.table.specs.Shape.{Shaped}
+use Rattle.table.specs.ByKind.{by-kind}
 
 -- x is a value of the type: some machine values are its
 abbrev pub Of : (F : Field) → F .Value → Type 0
@@ -54,23 +55,11 @@ abbrev pub SmallArcs : Node → Type 0
 SmallArcs x = (arcTo x < 2 ^ 32) × (arcNo x < 2 ^ 32)
 
 pub node-arcs : (x : Node) → Of (Enum.field node.the-type) x → SmallArcs x
-unfolding arcTo arcNo
-node-arcs Absent g = (search needs, search needs)
-node-arcs (Start to) g = (search needs, search needs)
-node-arcs (Set v o a b to) g = (search needs, search needs)
-node-arcs (Test o a b y n) g = (search needs, search needs)
-node-arcs (Read v to) g = (search needs, search needs)
-node-arcs (Call q xs to) g = (search needs, search needs)
-node-arcs (Wait s to) g = (search needs, search needs)
-node-arcs (Signal s to) g = (search needs, search needs)
-node-arcs (Send q v to) g = (search needs, search needs)
-node-arcs (Recv q v to) g = (search needs, search needs)
-node-arcs (Assert v to) g = (search needs, search needs)
-node-arcs (Out v to) g = (search needs, search needs)
-node-arcs Return g = (search needs, search needs)
+unfolding parts
+node-arcs = by-kind (search needs)
 
 pub absent-arcs : SmallArcs Absent
-unfolding arcTo arcNo
+unfolding parts
 absent-arcs = (search needs, search needs)
 
 slots-of : (q : Proc) → Of (field proc.the-type) q → Of (array-field (field slot.the-type) 32) (q .slots)

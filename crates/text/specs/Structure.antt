@@ -13,7 +13,7 @@ use Rattle.text.specs.declared.Fault.the-variants.{Ended, Index, Unused}
 use Rattle.text.specs.Fault.{number}
 use Rattle.text.specs.Value.{unless, orElse}
 use Rattle.text.specs.Line.{lineFault}
-use Rattle.text.specs.Format.{headLine, countsLine, taskLine, semLine, queueLine, procLine, Scope, nodeLine, Described, noLine, described, describe}
+use Rattle.text.specs.Format.{headLine, countsLine, taskLine, semLine, queueLine, procLine, Scope, nodeLine, Described, noLine, described, describe, taskVals, semVals}
 use Rattle.text.specs.Reader.{late}
 use Rattle.text.specs.Writer.{queueVals, procVals, scope, tidy}
 
@@ -52,10 +52,10 @@ abbrev pub countsFault : Table → Option Fault
 countsFault t = lineFault countsLine (t .tasks, (t .procs, (t .sems, (t .queues, tt))))
 
 abbrev pub tasksFault : Table → Option Fault
-tasksFault t = firstOf (λ i. lineFault (taskLine (t .procs) i) (i, (taskAt t i .top, tt))) (t .tasks) 0
+tasksFault t = firstOf (λ i. lineFault (taskLine (t .procs) i) (taskVals (t .procs) i (taskAt t i))) (t .tasks) 0
 
 abbrev pub semsFault : Table → Option Fault
-semsFault t = firstOf (λ i. lineFault (semLine i) (i, (semAt t i .count, tt))) (t .sems) 0
+semsFault t = firstOf (λ i. lineFault (semLine i) (semVals i (semAt t i))) (t .sems) 0
 
 abbrev pub queuesFault : Table → Option Fault
 queuesFault t = firstOf (λ i. lineFault (queueLine (t .closed) i) (queueVals (t .closed) i (queueAt t i))) (t .queues) 0

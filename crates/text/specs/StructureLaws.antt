@@ -1,35 +1,38 @@
 -- The fault of a hand-made table is the fault from its parts.
 use Prim.Native.Nat.{ℕ, zero, suc, _+_, _≤_, _<_, min}
 use mathlib.Core.Path.{_≡_, refl, sym, _∙_, ap}
-use mathlib.Core.List.{List, [], _∷_, List·Memᴰ·head, List·Memᴰ·tail}
+use mathlib.Core.List.{List, [], _∷_, _++_, List·Memᴰ·head, List·Memᴰ·tail}
 use mathlib.Core.Option.{Option, none, some}
 use mathlib.Core.Bool.{Bool, true, false, _&&_, _||_, not}
 use native.Mathlib.Omega.{arith}
 use lib.Dec.{eqb}
 use borrow.Author.Tests.{eqb-true, ne-eqb}
-use Rattle.table.specs.Mask.{bit}
-use Rattle.table.specs.Table.{removed, argAt, taskAt, queueAt, procAt, nodeAt, arcTo, arcNo, arcs, isAbsent}
+use Rattle.table.specs.Cases.{cases}
+use Rattle.table.specs.Mask.{bit, members}
+use Rattle.table.specs.Table.{argAt, taskAt, queueAt, procAt, nodeAt, Act, alone, waits, signals, sends, receives, calls, returns, Exit, ends, by, either, parts, keeping, act, firstArc, secondArc, arcs, noNode, isAbsent}
 use Rattle.table.specs.declared.Args.{Args}
 use Rattle.table.specs.declared.Node.{Node}
-use Rattle.table.specs.declared.Node.the-variants.{Absent, Start, Set, Test, Read, Call, Wait, Signal, Send, Recv, Assert, Out, Return}
 use Rattle.table.specs.declared.Proc.{Proc}
 use Rattle.table.specs.declared.Table.{Table}
+use Rattle.text.specs.Number.{every}
 use Rattle.text.specs.declared.Fault.{Fault}
 use Rattle.text.specs.declared.Fault.the-variants.{Arguments, Unclosed, Unused}
 use Rattle.text.specs.Fault.{number}
-use Rattle.text.specs.NumberLaws.{cases, byOrder}
+use Rattle.table.specs.ByKind.{by-kind}
+use Rattle.text.specs.NumberLaws.{byOrder}
 use Rattle.text.specs.Value.{unless, orElse}
 use Rattle.text.specs.Line.{Outcome}
-use Rattle.text.specs.Format.{Scope, variableOf, nameOf, argsOf, argNames, nodeOf, describe}
-use Rattle.text.specs.Reader.{table, allBelow, allPresent, isRemoved, iff, countRight, removedRight, nodeFault, taskFault, concatFrom, nodeLate, procLate, late, firstLate, resultOf, readLines}
+use Rattle.text.specs.Format.{Scope, variableOf, nameOf, setOf, argsOf, argNames, nodeOf, describe}
+use Rattle.text.specs.Reader.{table, allBelow, allPresent, isRemoved, iff, countBy, countRight, removedBy, removedRight, nodeFault, taskFault, concatFrom, nodeLate, procLate, late, firstLate, resultOf, readLines}
 use Rattle.text.specs.Writer.{text, scope, tidy, faultIn, fault}
 use Rattle.text.specs.MaskLists.{bit-again, members-again}
 use Rattle.text.specs.Right.{Within}
 use Rattle.text.specs.Structure.{firstIn, linesFault, tableFault, numbered}
-use Rattle.text.specs.Valid.{NodeValid, Lined}
+use Rattle.text.specs.Valid.{ActValid, Lined}
+use Rattle.text.specs.NodeLaws.{number-back, nodeFrom}
 use Rattle.text.specs.ArgsLaws.{names-length, name-at, made-at}
-use Rattle.text.specs.LinedLaws.{arcs-within, lined-of}
-use Rattle.text.specs.EndsLaws.{Ends, ends-took, ends-refused, back, ProcSame, Same, ends-table}
+use Rattle.text.specs.LinedLaws.{valid-parts, arcs-within, lined-of}
+use Rattle.text.specs.EndsLaws.{Ends, ends-took, ends-refused, ProcSame, Same, ends-table}
 
 -- ---- the same for each
 
@@ -45,33 +48,38 @@ below-same (suc n) f g h = rw (h n (omega arith), below-same n f g (λ i l. h i 
 
 -- ---- a node that is read back: in all that the late faults go by it is the node
 
-back-absent : (c : Scope) (x : Node) → isAbsent (back c (describe c x)) ≡ isAbsent x
-unfolding describe isAbsent nodeOf
-back-absent c x = elim x [ Absent ↦ refl | Start to ↦ refl | Set v o a b to ↦ refl | Test o a b y n ↦ refl | Read v to ↦ refl | Call q xs to ↦ refl | Wait s to ↦ refl | Signal s to ↦ refl | Send q v to ↦ refl | Recv q v to ↦ refl | Assert v to ↦ refl | Out v to ↦ refl | Return ↦ refl ]
+actAgain : Act → Act
+actAgain alone = alone
+actAgain (waits i) = waits i
+actAgain (signals i) = signals i
+actAgain (sends q v) = sends q (variableOf (nameOf v))
+actAgain (receives q v) = receives q (variableOf (nameOf v))
+actAgain (calls q xs) = calls q (argsOf (argNames xs))
+actAgain returns = returns
 
-back-arcs : (c : Scope) (x : Node) → arcs (back c (describe c x)) ≡ arcs x
-unfolding describe arcTo arcNo nodeOf
-back-arcs c x = elim x [
-  | Absent ↦ refl
-  | Start to ↦ rw (members-again to)
-  | Set v o a b to ↦ rw (members-again to)
-  | Test o a b y n ↦ rw (members-again y, members-again n)
-  | Read v to ↦ rw (members-again to)
-  | Call q xs to ↦ rw (members-again to)
-  | Wait s to ↦ rw (members-again to)
-  | Signal s to ↦ rw (members-again to)
-  | Send q v to ↦ rw (members-again to)
-  | Recv q v to ↦ rw (members-again to)
-  | Assert v to ↦ rw (members-again to)
-  | Out v to ↦ rw (members-again to)
-  | Return ↦ refl
-]
+exitAgain : Exit → Exit
+exitAgain ends = ends
+exitAgain (by m) = by (setOf (members m))
+exitAgain (either y n) = either (setOf (members y)) (setOf (members n))
 
-variable-back : (v : ℕ) → variableOf (nameOf v) ≡ v
-variable-back v = cases (eqb v removed) (λ q. rw q (sym (eqb-true v removed q))) (λ q. rw q)
+back-parts : (c : Scope) (x : Node) → let b = parts (nodeFrom c (describe c x)) in (b .keeping ≡ keeping x) × (b .act ≡ actAgain (act x)) × (b .exit ≡ exitAgain (parts x .exit))
+unfolding describe parts nodeOf actAgain exitAgain
+back-parts c = by-kind (search)
+
+back-absent : (c : Scope) (x : Node) → isAbsent (nodeFrom c (describe c x)) ≡ isAbsent x
+back-absent c x = ap noNode (back-parts c x .0)
+
+back-arcs : (c : Scope) (x : Node) → arcs (nodeFrom c (describe c x)) ≡ arcs x
+unfolding exitAgain
+back-arcs c x = rw (back-parts c x .2) (go (parts x .exit))
+  where
+    go : (e : Exit) → members (firstArc (exitAgain e)) ++ members (secondArc (exitAgain e)) ≡ members (firstArc e) ++ members (secondArc e)
+    go ends = refl
+    go (by m) = rw (members-again m)
+    go (either y n) = rw (members-again y, members-again n)
 
 arg-back : (xs : Args) (i : ℕ) → i < xs .len → i < 4 → argAt (argsOf (argNames xs)) i ≡ argAt xs i
-arg-back xs i l u = made-at (argNames xs) i u ∙ ap variableOf (name-at xs i l u) ∙ variable-back (argAt xs i)
+arg-back xs i l u = made-at (argNames xs) i u ∙ ap variableOf (name-at xs i l u) ∙ number-back (argAt xs i)
 
 -- five stands for any count above four
 eqb-min : (a k : ℕ) → k ≤ 4 → eqb (min a 5) k ≡ eqb a k
@@ -105,49 +113,37 @@ module _ (t r : Table) (s : Same t r) (v : Lined t) where
       let p = taskAt t i .top in
       let u = v .top i l in
       let k = v .proc p u .params in
-      rw (s .closed, s .top i l (omega (arith, v .tasks)), callee p u .params) (cases (t .closed)
+      rw (s .closed, s .task i l (omega (arith, v .tasks)), callee p u .params) (cases (t .closed)
       (λ o. rw (o, below-same (procAt t p .params) (λ j. bit j (procAt r p .drop)) (λ j. bit j (procAt t p .drop)) (λ j m. bits p u o j (omega arith))))
       (λ o. rw o))
 
-  count-back : (q : Proc) (n : ℕ) (x : Node) → NodeValid (scope t q) n x → countRight r (back (scope t q) (describe (scope t q) x)) ≡ countRight t x
-  unfolding countRight describe nodeOf
-  count-back q n Absent h = refl
-  count-back q n (Start to) h = refl
-  count-back q n (Set x o a b to) h = refl
-  count-back q n (Test o a b y z) h = refl
-  count-back q n (Read x to) h = refl
-  count-back q n (Call p xs to) h = rw (callee p (h .1) .params, names-length xs) (eqb-min (xs .len) (procAt t p .params) (v .proc p (h .1) .params))
-  count-back q n (Wait x to) h = refl
-  count-back q n (Signal x to) h = refl
-  count-back q n (Send p x to) h = refl
-  count-back q n (Recv p x to) h = refl
-  count-back q n (Assert x to) h = refl
-  count-back q n (Out x to) h = refl
-  count-back q n Return h = refl
+  count-back : (q : Proc) (a : Act) → ActValid (scope t q) a → countBy r (actAgain a) ≡ countBy t a
+  unfolding actAgain
+  count-back q alone h = refl
+  count-back q (waits i) h = refl
+  count-back q (signals i) h = refl
+  count-back q (sends p x) h = refl
+  count-back q (receives p x) h = refl
+  count-back q (calls p xs) h = rw (callee p (h .0) .params, names-length xs) (eqb-min (xs .len) (procAt t p .params) (v .proc p (h .0) .params))
+  count-back q returns h = refl
 
   blank-back : (p x : ℕ) → p < t .queues → t .closed ≡ true → iff (isRemoved (variableOf (nameOf x))) (queueAt r p .blank) ≡ iff (isRemoved x) (queueAt t p .blank)
-  blank-back p x l o = rw (variable-back x, s .blank p l (omega (arith, v .queues)) o)
+  blank-back p x l o = rw (number-back x, s .blank p l (omega (arith, v .queues)) o)
 
   -- with the right count of arguments
-  removed-back : (q : Proc) (n : ℕ) (x : Node) → NodeValid (scope t q) n x → t .closed ≡ true → countRight t x ≡ true → removedRight r (back (scope t q) (describe (scope t q) x)) ≡ removedRight t x
-  unfolding removedRight countRight describe nodeOf
-  removed-back q n Absent h o k = refl
-  removed-back q n (Start to) h o k = refl
-  removed-back q n (Set x a b c to) h o k = refl
-  removed-back q n (Test a b c y z) h o k = refl
-  removed-back q n (Read x to) h o k = refl
-  removed-back q n (Call p xs to) h o k =
-      let a = v .proc p (h .1) .params in
+  removed-back : (q : Proc) (a : Act) → ActValid (scope t q) a → t .closed ≡ true → countBy t a ≡ true → removedBy r (actAgain a) ≡ removedBy t a
+  unfolding actAgain
+  removed-back q alone h o k = refl
+  removed-back q (waits i) h o k = refl
+  removed-back q (signals i) h o k = refl
+  removed-back q (sends p x) h o k = blank-back p x (h .0) o
+  removed-back q (receives p x) h o k = blank-back p x (h .0) o
+  removed-back q (calls p xs) h o k =
+      let a = v .proc p (h .0) .params in
       let e = eqb-true (xs .len) (procAt t p .params) k in
       let m : min (xs .len) 5 ≡ xs .len = omega arith in
-      rw (names-length xs, m) (below-same (xs .len) _ _ (λ i l. rw (arg-back xs i l (omega arith), bits p (h .1) o i (omega arith))))
-  removed-back q n (Wait x to) h o k = refl
-  removed-back q n (Signal x to) h o k = refl
-  removed-back q n (Send p x to) h o k = blank-back p x (h .1) o
-  removed-back q n (Recv p x to) h o k = blank-back p x (h .1) o
-  removed-back q n (Assert x to) h o k = refl
-  removed-back q n (Out x to) h o k = refl
-  removed-back q n Return h o k = refl
+      rw (names-length xs, m) (below-same (xs .len) _ _ (λ i l. rw (arg-back xs i l (omega arith), bits p (h .0) o i (omega arith))))
+  removed-back q returns h o k = refl
 
   -- the nodes of procedure p
   absent-back : (p m : ℕ) → p < t .procs → m < procAt t p .nodes → isAbsent (nodeAt r p m) ≡ isAbsent (nodeAt t p m)
@@ -156,7 +152,7 @@ module _ (t r : Table) (s : Same t r) (v : Lined t) where
       rw (callee p u .node m l (omega (arith, v .proc p u .nodes))) (back-absent c (nodeAt t p m))
 
   present-back : (p : ℕ) → p < t .procs → (ms : List ℕ) → Within 1 (procAt t p .nodes) ms → allPresent (procAt r p) ms ≡ allPresent (procAt t p) ms
-  unfolding allPresent
+  unfolding every
   present-back p u [] w = refl
   present-back p u (m ∷ ms) w = rw (absent-back p m u (w m (List·Memᴰ·head refl) .1), present-back p u ms (λ k d. w k (List·Memᴰ·tail d)))
 
@@ -166,8 +162,10 @@ module _ (t r : Table) (s : Same t r) (v : Lined t) where
       let c = scope t q in
       let x = nodeAt t p n in
       let h = v .proc p u .node n l in
-      let f : nodeFault r (procAt r p) (back c (describe c x)) ≡ nodeFault t q x =
-      fault-same (t .closed) (r .closed) (countRight t x) _ (allPresent q (arcs x)) (allPresent (procAt r p) (arcs (back c (describe c x)))) (removedRight t x) _ (s .closed) (count-back q n x h) (rw (back-arcs c x) (present-back p u (arcs x) (arcs-within c n x h))) (removed-back q n x h)
+      let b = back-parts c x .1 in
+      let a = valid-parts c n x h .act in
+      let f : nodeFault r (procAt r p) (nodeFrom c (describe c x)) ≡ nodeFault t q x =
+      fault-same (t .closed) (r .closed) (countRight t x) _ (allPresent q (arcs x)) (allPresent (procAt r p) (arcs (nodeFrom c (describe c x)))) (removedRight t x) _ (s .closed) (ap (countBy r) b ∙ count-back q (act x) a) (rw (back-arcs c x) (present-back p u (arcs x) (arcs-within c n x h))) (λ o k. ap (removedBy r) b ∙ removed-back q (act x) a o k)
       in
       rw (callee p u .node n l (omega (arith, v .proc p u .nodes)), back-absent c x, f)
 

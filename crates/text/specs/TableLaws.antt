@@ -8,10 +8,11 @@ use native.Mathlib.Omega.{arith}
 use lib.ListN.{length, getD, drop, replicate, getD-replicate, List·getD-eq-default}
 use lib.Seq.{getD-drop}
 use borrow.Author.Tests.{eqb-true, not-true}
-use Rattle.table.specs.Table.{noSlot, noTask, noSem, noQueue, noProc, noSlots, outside, taskAt, semAt, queueAt, procAt, nodeIn, nodeAt, arcTo, arcNo, isAbsent}
+use Rattle.table.specs.Cases.{cases}
+use Rattle.table.specs.Table.{noSlot, noTask, noSem, noQueue, noProc, noSlots, outside, taskAt, semAt, queueAt, procAt, nodeIn, nodeAt, arcTo, arcNo, isAbsent, parts}
 use Rattle.table.specs.Shape.{Shaped}
 use Rattle.table.specs.declared.Node.{Node}
-use Rattle.table.specs.declared.Node.the-variants.{Absent, Start, Set, Test, Read, Call, Wait, Signal, Send, Recv, Assert, Out, Return}
+use Rattle.table.specs.declared.Node.the-variants.{Absent}
 use Rattle.table.specs.declared.Slot.{Slot}
 use Rattle.table.specs.declared.Task.{Task}
 use Rattle.table.specs.declared.Sem.{Sem}
@@ -20,17 +21,17 @@ use Rattle.table.specs.declared.Proc.{Proc}
 use Rattle.table.specs.declared.Table.{Table}
 use Rattle.text.specs.declared.Fault.{Fault}
 use Rattle.text.specs.declared.Fault.the-variants.{Arguments}
-use Rattle.text.specs.NumberLaws.{cases, byOrder, and-left, and-right}
+use Rattle.text.specs.NumberLaws.{byOrder, and-left, and-right}
 use Rattle.text.specs.Value.{from, due, unless, check}
 use Rattle.text.specs.ValueLaws.{no}
 use Rattle.text.specs.Line.{Line, Vals, write, Outcome, took, refused, Parser, onto, give, after, line}
 use Rattle.text.specs.LineLaws.{Sound, line-read, onto-read, head-sound, counts-sound, task-sound, sem-sound, queue-sound, proc-sound}
 use Rattle.text.specs.MaskLists.{set-members}
-use Rattle.text.specs.Format.{headLine, countsLine, taskLine, semLine, queueLine, procLine, Scope, setOf, describe}
+use Rattle.text.specs.Format.{headLine, countsLine, taskLine, semLine, queueLine, procLine, Scope, setOf, describe, taskOf, taskVals, semOf, semVals}
 use Rattle.text.specs.Reader.{rows, taskRow, semRow, queueOf, queueRow, droppedBy, procOf, scopeOf, nodesOf, procRow, atEnd, body, table, allBelow, countRight, concatFrom, late, nodeLate, taskFault, procLate, firstLate, good, resultOf, readLines}
 use Rattle.text.specs.Writer.{queueVals, procVals, scope, text, every, isZero, slotEmpty, taskEmpty, semEmpty, queueEmpty, procEmpty, argsEmpty, procTidy, tidy}
 use Rattle.text.specs.RowLaws.{Faultless, or-left, unless-none, faultless, line-only, Rows, Row, written, Filled, atOrLater, rows-fill}
-use Rattle.text.specs.NodeLaws.{number-fact, list-back, FitsIn, FaultlessNode, NoNode, no-line, nodeRows, nodes-fill}
+use Rattle.text.specs.NodeLaws.{number-fact, absent-is, list-back, FitsIn, FaultlessNode, NoNode, no-line, nodeRows, nodes-fill}
 
 -- ---- rows of one line each
 
@@ -62,10 +63,10 @@ line-row d vals empty Clean i g made back clean forth l s a l′ r e = onto-read
     }))
 
 abbrev taskRows : ℕ → Rows Task
-taskRows procs = lineRows (taskLine procs) (λ i x. (i, (x .top, tt))) noTask (λ x. Unit {0})
+taskRows procs = lineRows (taskLine procs) (taskVals procs) noTask (λ x. Unit {0})
 
 abbrev semRows : Rows Sem
-semRows = lineRows semLine (λ i x. (i, (x .count, tt))) noSem (λ x. Unit {0})
+semRows = lineRows semLine semVals noSem (λ x. Unit {0})
 
 abbrev queueRows : Bool → Rows Queue
 queueRows closed = lineRows (queueLine closed) (queueVals closed) noQueue (λ x. closed || not (x .blank) ≡ true)
@@ -75,11 +76,11 @@ due-is : (i v : ℕ) → check (due i) v ≡ none → i ≡ v
 due-is i v e = let h = number-fact i (i + 1) _ v e in omega arith
 
 task-row : (procs i l : ℕ) (s : List ℕ) (a : Task) (l′ : ℕ) (r : List ℕ) → taskRow procs i l s ≡ took a l′ r → Row (taskRows procs) i s a r
-task-row procs i = line-row (taskLine procs) _ noTask _ i (task-sound procs i) (λ w. record { top = w .1 .0 })
+task-row procs i = line-row (taskLine procs) _ noTask _ i (task-sound procs i) (taskOf procs i)
     (λ w f. ap (λ (j : ℕ). (j, (w .1 .0, tt))) (due-is i (w .0) (f .0))) (λ w. tt) (λ b x. refl)
 
 sem-row : (i l : ℕ) (s : List ℕ) (a : Sem) (l′ : ℕ) (r : List ℕ) → semRow i l s ≡ took a l′ r → Row semRows i s a r
-sem-row i = line-row semLine _ noSem _ i (sem-sound i) (λ w. record { count = w .1 .0 })
+sem-row i = line-row semLine _ noSem _ i (sem-sound i) (semOf i)
     (λ w f. ap (λ (j : ℕ). (j, (w .1 .0, tt))) (due-is i (w .0) (f .0))) (λ w. tt) (λ b x. refl)
 
 queue-row : (closed : Bool) (i l : ℕ) (s : List ℕ) (a : Queue) (l′ : ℕ) (r : List ℕ) → queueRow closed i l s ≡ took a l′ r → Row (queueRows closed) i s a r
@@ -112,15 +113,15 @@ rest-all f e h (suc m) zero = rw h (rest-all f e h m zero)
 rest-all f e h (suc m) (suc n) = rest-all f e h m n
 
 -- `allBelow` is that all pass
-below-all : (n : ℕ) (f : ℕ → Bool) → ((j : ℕ) → j < n → f j ≡ true) → allBelow n f ≡ true
+pub all-below : (n : ℕ) (f : ℕ → Bool) → ((i : ℕ) → i < n → f i ≡ true) → allBelow n f ≡ true
 unfolding allBelow
-below-all zero f h = refl
-below-all (suc n) f h = rw (h n (omega arith)) (below-all n f (λ j k. h j (omega arith)))
+all-below zero f h = refl
+all-below (suc n) f h = rw (h n (omega arith)) (all-below n f (λ i l. h i (omega arith)))
 
-all-below : (n : ℕ) (f : ℕ → Bool) → allBelow n f ≡ true → (j : ℕ) → j < n → f j ≡ true
+pub below-all : (n : ℕ) (f : ℕ → Bool) → allBelow n f ≡ true → (i : ℕ) → i < n → f i ≡ true
 unfolding allBelow
-all-below zero f h j k = absurd (omega arith)
-all-below (suc n) f h j k = byOrder j n (all-below n f (and-right (f n) (allBelow n f) h) j) (λ u. let p : j ≡ n = omega arith in rw p (and-left (f n) (allBelow n f) h))
+below-all zero f e i l = absurd (omega arith)
+below-all (suc n) f e i l = byOrder i n (below-all n f (and-right (f n) (allBelow n f) e) i) (λ u. let p : i ≡ n = omega arith in rw p (and-left (f n) (allBelow n f) e))
 
 -- what the node lines of procedure q are judged by
 abbrev scopeIn : Bool → ℕ → ℕ → ℕ → Proc → Scope
@@ -179,22 +180,6 @@ proc-forth true i q w h t e = (
   sym (set-members (q .drop) h) ∙ ap (λ (u : Vals (procLine true i)). setOf (u .1 .1 .1 .1 .0)) e,
 )
 
-absent-is : (x : Node) → isAbsent x ≡ true → x ≡ Absent
-unfolding isAbsent
-absent-is Absent e = refl
-absent-is (Start to) e = no (cc)
-absent-is (Set v o a b to) e = no (cc)
-absent-is (Test o a b y n) e = no (cc)
-absent-is (Read v to) e = no (cc)
-absent-is (Call q xs to) e = no (cc)
-absent-is (Wait s to) e = no (cc)
-absent-is (Signal s to) e = no (cc)
-absent-is (Send q v to) e = no (cc)
-absent-is (Recv q v to) e = no (cc)
-absent-is (Assert v to) e = no (cc)
-absent-is (Out v to) e = no (cc)
-absent-is Return e = no (cc)
-
 slots-rest : (n : ℕ) (l : List Slot) → length l ≡ 32 → every slotEmpty (drop n l) ≡ true → drop n l ≡ drop n noSlots
 slots-rest n l h e = all-rest slotEmpty noSlot noSlot 32 n l h (λ j k q. ap (λ (x : Node). record { node = x }) (absent-is (getD l j noSlot .node) q)) e
 
@@ -211,7 +196,7 @@ proc-only t closed procs sems queues i w L s r F g q s′ h x v e =
     let d = proc-forth closed i q w (h .1) (h .2) v in
     let a = allBelow (q .nodes) (λ j. argsEmpty (nodeIn q j)) in
     let rest = and-right (every slotEmpty (drop (q .nodes) (q .slots))) (a && (closed || isZero (q .drop))) (h .2) in
-    let args = all-below (q .nodes) (λ j. argsEmpty (nodeIn q j)) (and-left a (closed || isZero (q .drop)) rest) in
+    let args = below-all (q .nodes) (λ j. argsEmpty (nodeIn q j)) (and-left a (closed || isZero (q .drop)) rest) in
     let o = F .only g (q .slots) s′ (h .0) (λ j k. absurd (omega arith))
     (rw (d .2) at (slots-rest (q .nodes) (q .slots) (h .0) (and-left (every slotEmpty (drop (q .nodes) (q .slots))) _ (h .2))))
     (λ j k u. (args j (rw (d .2) u), h .3 j .0, h .3 j .1)) (λ lo n l v l′ r y. absurd (no-line _ lo n l s′ x v l′ r y)) (sym (rw (d .1, d .2) at e)) in
@@ -220,7 +205,7 @@ proc-only t closed procs sems queues i w L s r F g q s′ h x v e =
 -- a procedure was read, its line and its node lines
 proc-row : (t : Table) (closed : Bool) (procs sems queues i l : ℕ) (s : List ℕ) (a : Proc) (l′ : ℕ) (r : List ℕ) → procRow closed procs sems queues i l s ≡ took a l′ r
     → Row (procRows t closed procs sems queues) i s a r
-unfolding isAbsent
+unfolding parts
 proc-row t closed procs sems queues i l s a l′ r e =
     onto-read (line (procLine closed i) l s) _ a l′ r e (λ w l₁ s₁ p q.
     let c = scopeOf closed procs sems queues i w in
@@ -235,7 +220,7 @@ proc-row t closed procs sems queues i l s a l′ r e =
     rw (← m, ← n) (record {
       fine = (
         rw (proc-back closed i w L f) f,
-        rw (F .later, rest-all slotEmpty noSlot refl 32 (w .1 .1 .1 .0), below-all (w .1 .1 .1 .0) (λ j. argsEmpty (getD L j noSlot .node)) (λ j k. F .fine j (omega arith) k .0)) (no-drop closed i w),
+        rw (F .later, rest-all slotEmpty noSlot refl 32 (w .1 .1 .1 .0), all-below (w .1 .1 .1 .0) (λ j. argsEmpty (getD L j noSlot .node)) (λ j k. F .fine j (omega arith) k .0)) (no-drop closed i w),
         λ j k. F .fine j (omega arith) k .1,
       );
       same = λ g. b .0 ∙ rw (proc-back closed i w L f, F .same (λ j h k. g j k)) (sym (append-assoc (write (procLine closed i) w) _ s₂));
@@ -254,8 +239,8 @@ Fitting t = (p : ℕ) → p < t .procs → FitNodes t (procAt t p)
 pub record Lines (t : Table) : Type 0 where
   pub head : Faultless headLine (t .trap, (t .closed, tt))
   pub counts : Faultless countsLine (t .tasks, (t .procs, (t .sems, (t .queues, tt))))
-  pub tasks : (i : ℕ) → i < t .tasks → Faultless (taskLine (t .procs) i) (i, (taskAt t i .top, tt))
-  pub sems : (i : ℕ) → i < t .sems → Faultless (semLine i) (i, (semAt t i .count, tt))
+  pub tasks : (i : ℕ) → i < t .tasks → Faultless (taskLine (t .procs) i) (taskVals (t .procs) i (taskAt t i))
+  pub sems : (i : ℕ) → i < t .sems → Faultless (semLine i) (semVals i (semAt t i))
   pub queues : (i : ℕ) → i < t .queues → Faultless (queueLine (t .closed) i) (queueVals (t .closed) i (queueAt t i))
   pub procs : (p : ℕ) → p < t .procs → Faultless (procLine (t .closed) p) (procVals (t .closed) p (procAt t p))
   pub nodes : (p : ℕ) → p < t .procs → (j : ℕ) → j < procAt t p .nodes → FaultlessNode (scope t (procAt t p)) j (describe (scope t (procAt t p)) (nodeAt t p j))
@@ -352,8 +337,8 @@ behind t s v w e =
       all-rest semEmpty noSem noSem 8 (t .sems) (t .sem) (v .sems) (λ j k q. ap (λ (n : ℕ). record { count = n }) (eqb-true (semAt t j .count) 0 q)) (and-left sems _ w₁),
       all-rest queueEmpty noQueue noQueue 8 (t .queues) (t .queue) (v .queues) (λ j k q. empty-queue (queueAt t j) q) (and-left queues _ w₂),
       all-rest procEmpty noProc outside 8 (t .procs) (t .proc) (v .procs) (λ j k q. empty-proc (procAt t j) (v .slots j k) q) (and-left procs _ w₃),
-      all-below (t .queues) (λ i. t .closed || not (queueAt t i .blank)) (and-left blanks _ w₄),
-      λ p k u. (v .slots p u, v .drops p, all-below (t .procs) (λ p. procTidy (t .closed) (procAt t p)) (and-right blanks _ w₄) p k, v .arcs p),
+      below-all (t .queues) (λ i. t .closed || not (queueAt t i .blank)) (and-left blanks _ w₄),
+      λ p k u. (v .slots p u, v .drops p, below-all (t .procs) (λ p. procTidy (t .closed) (procAt t p)) (and-right blanks _ w₄) p k, v .arcs p),
       e,
     )
 
@@ -365,7 +350,7 @@ parsed : (h : Vals headLine) (c : Vals countsLine) (ts : List Task) (ss : List S
     → Filled (queueRows (h .1 .0)) (c .1 .1 .1 .0) 0 (c .1 .1 .1 .0) (replicate 8 noQueue) qs s₄ s₅
     → Filled (procRows (tableOf h c ts ss qs ps) (h .1 .0) (c .1 .0) (c .1 .1 .0) (c .1 .1 .1 .0)) (c .1 .0) 0 (c .1 .0) (replicate 8 noProc) ps s₅ []
     → Parsed s (tableOf h c ts ss qs ps)
-unfolding tidy text isAbsent every
+unfolding tidy text parts every
 parsed h c ts ss qs ps l m n s s₁ s₂ s₃ s₄ s₅ a b T S Q P =
     let x = line-read headLine l s h m s₁ a in
     let y = line-read countsLine m s₁ c n s₂ b in
@@ -385,8 +370,8 @@ parsed h c ts ss qs ps l m n s s₁ s₂ s₃ s₄ s₅ a b T S Q P =
         rest-all queueEmpty noQueue refl 8 (c .1 .1 .1 .0),
         P .later,
         rest-all procEmpty noProc refl 8 (c .1 .0),
-        below-all (c .1 .1 .1 .0) (λ i. h .1 .0 || not (getD qs i noQueue .blank)) (λ i k. Q .fine i (omega arith) k .1),
-        below-all (c .1 .0) (λ p. procTidy (h .1 .0) (getD ps p outside)) (λ i k. P .fine i (omega arith) k .1),
+        all-below (c .1 .1 .1 .0) (λ i. h .1 .0 || not (getD qs i noQueue .blank)) (λ i k. Q .fine i (omega arith) k .1),
+        all-below (c .1 .0) (λ p. procTidy (h .1 .0) (getD ps p outside)) (λ i k. P .fine i (omega arith) k .1),
       );
       lines = record {
         head = f;
@@ -468,7 +453,7 @@ good-late t u l (none ∷ fs) e = let r = good-late t u (suc l) fs e in (r .0, (
 good-late t u l (some f ∷ fs) e = no (cc)
 
 count-right : (t : Table) (q : Proc) (x : Node) → AllNone (nodeLate t q x) → countRight t x ≡ true
-unfolding countRight
+unfolding parts
 count-right t q x h = cases (isAbsent x) (λ e. rw (absent-is x e)) (λ e. let f = (rw e at h) .0 in unless-none (countRight t x) _ (or-left (unless (countRight t x) Arguments) _ f))
 
 fitting : (t : Table) → AllNone (late t) → ((q : ℕ) → procAt t q .params ≤ 4) → Fitting t

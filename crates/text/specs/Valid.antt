@@ -3,9 +3,10 @@ use Prim.Native.Nat.{ℕ, _≤_, _<_}
 use mathlib.Core.Path.{_≡_}
 use mathlib.Core.Logic.{_≢_}
 use mathlib.Core.List.{[], _∷_, List·Memᴰ}
+use mathlib.Core.Option.{some}
 use mathlib.Core.Bool.{true, false}
 use Rattle.table.specs.Mask.{bit, members}
-use Rattle.table.specs.Table.{taskAt, semAt, queueAt, procAt, nodeAt, removed, argAt, arcs, isAbsent}
+use Rattle.table.specs.Table.{taskAt, semAt, queueAt, procAt, nodeAt, removed, argAt, Act, alone, waits, signals, sends, receives, calls, returns, Exit, ends, by, either, parts, uses, variableSet, act, arcs, isAbsent}
 use Rattle.table.specs.declared.Node.{Node}
 use Rattle.table.specs.declared.Node.the-variants.{Absent, Start, Set, Test, Read, Call, Wait, Signal, Send, Recv, Assert, Out, Return}
 use Rattle.table.specs.declared.Table.{Table}
@@ -40,6 +41,30 @@ NodeValid c n (Recv q v to) = (0 < n) × (q < c .queues) × Named c v × Arc c t
 NodeValid c n (Assert v to) = (0 < n) × Named c v × Arc c to
 NodeValid c n (Out v to) = (0 < n) × Named c v × Arc c to
 NodeValid c n Return = 0 < n
+
+-- ---- a node by its parts
+
+abbrev pub ActValid : Scope → Act → Type 0
+ActValid c alone = Unit {0}
+ActValid c (waits i) = i < c .sems
+ActValid c (signals i) = i < c .sems
+ActValid c (sends q v) = (q < c .queues) × Named c v
+ActValid c (receives q v) = (q < c .queues) × Named c v
+ActValid c (calls q xs) = (q < c .procs) × ((i : ℕ) → i < xs .len → i < 4 → Named c (argAt xs i))
+ActValid c returns = Unit {0}
+
+abbrev pub ExitValid : Scope → Exit → Type 0
+ExitValid c ends = Unit {0}
+ExitValid c (by m) = Arc c m
+ExitValid c (either y n) = Arc c y × Arc c n
+
+pub record PartsValid (c : Scope) (n : ℕ) (x : Node) : Type 0 where
+  pub start : n ≡ 0 → (to : ℕ) × (x ≡ Start to)
+  pub act : ActValid c (act x)
+  pub exit : ExitValid c (parts x .exit)
+  -- in open form every variable is one of the procedure's
+  pub uses : c .closed ≡ false → (u : ℕ) → List·Memᴰ u (uses x) → u < c .vars
+  pub sets : c .closed ≡ false → (v : ℕ) → variableSet x ≡ some v → v < c .vars
 
 -- ---- lines
 

@@ -10,16 +10,18 @@ use lib.Dec.{eqb}
 use lib.ListN.{getD, drop, replicate}
 use lib.Seq.{getD-drop}
 use borrow.Author.Tests.{eqb-true, eqb-false, not-true}
+use Rattle.table.specs.Cases.{cases}
 use Rattle.table.specs.Mask.{bit, membersFrom}
-use Rattle.table.specs.Table.{noSlot, outside, taskAt, queueAt, procAt, nodeIn, nodeAt, arcTo, arcNo, arcs, isAbsent}
+use Rattle.table.specs.Table.{noSlot, outside, taskAt, queueAt, procAt, nodeIn, nodeAt, arcs, isAbsent, parts}
 use Rattle.table.specs.declared.Node.{Node}
-use Rattle.table.specs.declared.Node.the-variants.{Absent, Start, Set, Test, Read, Call, Wait, Signal, Send, Recv, Assert, Out, Return}
+use Rattle.table.specs.declared.Node.the-variants.{Absent, Start}
 use Rattle.table.specs.declared.Proc.{Proc}
 use Rattle.table.specs.declared.Table.{Table}
 use Rattle.text.specs.declared.Fault.{Fault}
 use Rattle.text.specs.declared.Fault.the-variants.{Long, Form, Misspelt, Ended, Range, Index, Reference, Arguments, Unclosed, Unused, Short}
 use Rattle.text.specs.Fault.{number}
-use Rattle.text.specs.NumberLaws.{cases, byOrder, and-left, and-right}
+use Rattle.text.specs.NumberLaws.{byOrder, and-left, and-right, every-all, all-every}
+pub use Rattle.text.specs.TableLaws.{below-all, all-below}
 use Rattle.text.specs.ValueLaws.{no}
 use Rattle.text.specs.Value.{unless, orElse}
 use Rattle.text.specs.Reader.{allBelow, allPresent, countRight, removedRight, nodeFault, taskFault, concatFrom, nodeLate, procLate, late}
@@ -28,8 +30,9 @@ use Rattle.text.specs.Writer.{scope, every, isZero, slotEmpty, taskEmpty
 use Rattle.text.specs.RightLaws.{unless-is, else-is, and-is}
 use Rattle.text.specs.Structure.{firstOf, firstIn, linesFault, tableFault, numbered}
 use Rattle.text.specs.Valid.{Named, NodeValid, Valid}
-use Rattle.text.specs.EndsLaws.{by-line}
-use Rattle.text.specs.LinedLaws.{first-none, none-first, lined-of, of-lined}
+pub use Rattle.text.specs.NodeLaws.{absent-is}
+use Rattle.text.specs.LinedLaws.{first-none, none-first, valid-parts, lined-of, of-lined}
+pub use Rattle.text.specs.LinedLaws.{named-open}
 use Rattle.text.specs.StructureLaws.{fault-is}
 
 -- ---- tests
@@ -38,31 +41,11 @@ or-is : (a b : Bool) → (not a || b ≡ true) ↔ (a ≡ true → b ≡ true)
 or-is true b = (λ e o. e, λ f. f refl)
 or-is false b = (λ e o. no (cc), λ f. refl)
 
-pub below-all : (n : ℕ) (f : ℕ → Bool) → allBelow n f ≡ true → (i : ℕ) → i < n → f i ≡ true
-unfolding allBelow
-below-all zero f e i l = absurd (omega arith)
-below-all (suc n) f e i l = cases (eqb i n)
-    (λ q. rw (eqb-true i n q) (and-left (f n) (allBelow n f) e))
-    (λ q. below-all n f (and-right (f n) (allBelow n f) e) i (omega (arith, eqb-false i n q)))
-
-pub all-below : (n : ℕ) (f : ℕ → Bool) → ((i : ℕ) → i < n → f i ≡ true) → allBelow n f ≡ true
-unfolding allBelow
-all-below zero f h = refl
-all-below (suc n) f h = rw (h n (omega arith)) (all-below n f (λ i l. h i (omega arith)))
-
-pub absent-is : (x : Node) → isAbsent x ≡ true → x ≡ Absent
-absent-is x e = by-line (record { closed = false; procs = 0; sems = 0; queues = 0; vars = 0; nodes = 0 }) x (λ a b. a) (λ k w a b. no (cc))
-
 pub present-all : (q : Proc) (ms : List ℕ) → allPresent q ms ≡ true → (m : ℕ) → List·Memᴰ m ms → isAbsent (nodeIn q m) ≡ false
-unfolding allPresent
-present-all q [] e m d = absurd (List·Memᴰ·not-nil d)
-present-all q (x ∷ xs) e m (List·Memᴰ·head p) = rw p (not-true (isAbsent (nodeIn q x)) (and-left (not (isAbsent (nodeIn q x))) (allPresent q xs) e))
-present-all q (x ∷ xs) e m (List·Memᴰ·tail d) = present-all q xs (and-right (not (isAbsent (nodeIn q x))) (allPresent q xs) e) m d
+present-all q ms e m d = not-true (isAbsent (nodeIn q m)) (every-all _ ms e m d)
 
 pub all-present : (q : Proc) (ms : List ℕ) → ((m : ℕ) → List·Memᴰ m ms → isAbsent (nodeIn q m) ≡ false) → allPresent q ms ≡ true
-unfolding allPresent
-all-present q [] f = refl
-all-present q (x ∷ xs) f = rw (f x (List·Memᴰ·head refl)) (all-present q xs (λ m d. f m (List·Memᴰ·tail d)))
+all-present q ms f = all-every _ ms (λ m d. rw (f m d))
 
 -- ---- the late faults
 
@@ -98,7 +81,7 @@ abbrev LateValid : Table → Proc → Node → Type 0
 LateValid t q x = (countRight t x ≡ true) × (t .closed ≡ true → (allPresent q (arcs x) ≡ true) × (removedRight t x ≡ true))
 
 late-absent : (t : Table) (q : Proc) → (firstIn (nodeLate t q Absent) ≡ none) ↔ LateValid t q Absent
-unfolding firstIn isAbsent countRight allPresent removedRight arcTo arcNo membersFrom bit
+unfolding firstIn parts every membersFrom bit
 late-absent t q = (λ z. (refl, λ o. (refl, refl)), λ v. refl)
 
 late-node : (t : Table) (q : Proc) (x : Node) → (firstIn (nodeLate t q x) ≡ none) ↔ LateValid t q x
@@ -217,12 +200,12 @@ far-empty t e p l =
 
 -- and no place holds a node
 far-absent : (t : Table) → tidy t ≡ true → (p n : ℕ) → t .procs ≤ p → nodeAt t p n ≡ Absent
-unfolding isAbsent
+unfolding parts
 far-absent t e p n l = absent-is (nodeAt t p n) (all-at slotEmpty (procAt t p .slots) noSlot (far-empty t e p l .3) refl n)
 
 -- nor does one behind a procedure's nodes
 pub outside-absent : (t : Table) → fault t ≡ 0 → (p n : ℕ) → (t .procs ≤ p) ⊎ (procAt t p .nodes ≤ n) → nodeAt t p n ≡ Absent
-unfolding isAbsent
+unfolding parts
 outside-absent t z p n h =
     let e = valid-of t z .unused in
     let q = procAt t p in
@@ -235,7 +218,7 @@ outside-absent t z p n h =
 
 -- so a node stands within the counts
 pub inside-of : (t : Table) → fault t ≡ 0 → (p n : ℕ) → isAbsent (nodeAt t p n) ≡ false → (p < t .procs) × (n < procAt t p .nodes)
-unfolding isAbsent
+unfolding parts
 inside-of t z p n e = (
   byOrder p (t .procs) (λ l. l) (λ l. let a = outside-absent t z p n (inl l) in no (cc)),
   byOrder n (procAt t p .nodes) (λ l. l) (λ l. let a = outside-absent t z p n (inr l) in no (cc)),
@@ -243,29 +226,10 @@ inside-of t z p n e = (
 
 -- in an open table every place within the counts holds one, and node 0 is a start in both forms
 pub open-present : (t : Table) → Valid t → t .closed ≡ false → (p n : ℕ) → p < t .procs → n < procAt t p .nodes → isAbsent (nodeAt t p n) ≡ false
-unfolding isAbsent
+unfolding parts
 open-present t v o p n u l = cases (isAbsent (nodeAt t p n))
     (λ e. let h = rw (absent-is (nodeAt t p n) e) at (v .lines .proc p u .node n l) in no (cc (h .1)))
     (λ e. e)
 
-start-is : (c : Scope) (x : Node) → NodeValid c 0 x → (to : ℕ) × (x ≡ Start to)
-start-is c Absent v = absurd (omega arith)
-start-is c (Start to) v = (to, refl)
-start-is c (Set x o a b to) v = absurd (omega arith)
-start-is c (Test o a b y n) v = absurd (omega arith)
-start-is c (Read x to) v = absurd (omega arith)
-start-is c (Call q xs to) v = absurd (omega arith)
-start-is c (Wait s to) v = absurd (omega arith)
-start-is c (Signal s to) v = absurd (omega arith)
-start-is c (Send q x to) v = absurd (omega arith)
-start-is c (Recv q x to) v = absurd (omega arith)
-start-is c (Assert x to) v = absurd (omega arith)
-start-is c (Out x to) v = absurd (omega arith)
-start-is c Return v = absurd (omega arith)
-
 pub start-at : (t : Table) → Valid t → (p : ℕ) → p < t .procs → (to : ℕ) × (nodeAt t p 0 ≡ Start to)
-start-at t v p u = let h = v .lines .proc p u in start-is (scope t (procAt t p)) (nodeAt t p 0) (h .node 0 (omega (arith, h .nodesLow)))
-
--- what names a variable in an open table names one of the procedure's
-pub named-open : (c : Scope) (x : ℕ) → c .closed ≡ false → Named c x → x < c .vars
-named-open c x o h = h .1 (λ e. true≢false (sym (h .0 e) ∙ o))
+start-at t v p u = let h = v .lines .proc p u in valid-parts (scope t (procAt t p)) 0 (nodeAt t p 0) (h .node 0 (omega (arith, h .nodesLow))) .start refl

@@ -10,13 +10,11 @@ use Rattle.table.specs.declared.Operand.{Operand}
 use Rattle.table.specs.declared.Operand.the-variants.{Var, Const}
 use Rattle.table.specs.declared.Op.{Op}
 use Rattle.table.specs.declared.Op.the-variants.{Add, Sub, And, Or, Xor, Shr, Lt, Eq}
-use Rattle.text.specs.Number.{bytes, digits, spelt, value}
+use Rattle.text.specs.Number.{bytes, digits, every, spelt, value}
+pub use Rattle.text.specs.declared.NodeKind.{NodeKind}
+pub use Rattle.text.specs.declared.NodeKind.the-variants.{Start as start, Set as setKind, Test as test, Read as read, Call as call, Wait as wait, Signal as signal, Send as send, Recv as recv, Assert as assert, Out as out, Return as return}
 use Rattle.text.specs.declared.Fault.{Fault}
 use Rattle.text.specs.declared.Fault.the-variants.{Form, Misspelt, Range, Index, Reference}
-
--- the kinds of nodes, by their words
-pub data NodeKind : Type 0 where
-  start setKind test read call wait signal send recv assert out return : NodeKind
 
 pub data ValueKind : Type 0 where
   -- a number at least the first and below the second; outside, the fault
@@ -220,33 +218,17 @@ abbrev pub orElse : Option Fault → Option Fault → Option Fault
 orElse (some f) g = some f
 orElse none g = g
 
--- a closed table has no `read`; node 0 is the only `start`
+abbrev pub isKind : NodeKind → NodeKind → Bool
+isKind a b = same (kindWord a) (kindWord b)
+
+-- a `start`, or another kind, is due at place j: "Node 0 is the only `start`"
+abbrev pub dueAt : ℕ → Bool → Bool
+dueAt zero isStart = isStart
+dueAt (suc j) isStart = not isStart
+
+-- "Closed form has no `read`"
 abbrev pub kindFault : Bool → ℕ → NodeKind → Option Fault
-kindFault c zero start = none
-kindFault c (suc j) start = some Index
-kindFault c zero setKind = some Index
-kindFault c (suc j) setKind = none
-kindFault c zero test = some Index
-kindFault c (suc j) test = none
-kindFault false zero read = some Index
-kindFault false (suc j) read = none
-kindFault true j read = some Form
-kindFault c zero call = some Index
-kindFault c (suc j) call = none
-kindFault c zero wait = some Index
-kindFault c (suc j) wait = none
-kindFault c zero signal = some Index
-kindFault c (suc j) signal = none
-kindFault c zero send = some Index
-kindFault c (suc j) send = none
-kindFault c zero recv = some Index
-kindFault c (suc j) recv = none
-kindFault c zero assert = some Index
-kindFault c (suc j) assert = none
-kindFault c zero out = some Index
-kindFault c (suc j) out = none
-kindFault c zero return = some Index
-kindFault c (suc j) return = none
+kindFault c j k = orElse (unless (not (isKind read k && c)) Form) (unless (dueAt j (isKind start k)) Index)
 
 -- "A test has lt or eq"
 abbrev pub opFault : Bool → Op → Option Fault
@@ -276,24 +258,27 @@ ascends [] = true
 ascends (x ∷ []) = true
 ascends (x ∷ y ∷ xs) = ltb x y && ascends (y ∷ xs)
 
-unfoldable pub within : ℕ → ℕ → List ℕ → Bool
-within lo n [] = true
-within lo n (x ∷ xs) = leb lo x && ltb x n && within lo n xs
+abbrev pub within : ℕ → ℕ → List ℕ → Bool
+within lo n xs = every (λ x. leb lo x && ltb x n) xs
 
 abbrev pub isOne : List ℕ → Bool
 isOne [] = false
 isOne (x ∷ []) = true
 isOne (x ∷ y ∷ xs) = false
 
-unfoldable pub noneRemoved : List (Option ℕ) → Bool
-noneRemoved [] = true
-noneRemoved (none ∷ xs) = false
-noneRemoved (some v ∷ xs) = noneRemoved xs
+abbrev pub isNamed : Option ℕ → Bool
+isNamed none = false
+isNamed (some v) = true
 
-unfoldable pub allDeclared : ℕ → List (Option ℕ) → Bool
-allDeclared n [] = true
-allDeclared n (none ∷ xs) = allDeclared n xs
-allDeclared n (some v ∷ xs) = ltb v n && allDeclared n xs
+abbrev pub noneRemoved : List (Option ℕ) → Bool
+noneRemoved xs = every isNamed xs
+
+abbrev pub isDeclared : ℕ → Option ℕ → Bool
+isDeclared n none = true
+isDeclared n (some v) = ltb v n
+
+abbrev pub allDeclared : ℕ → List (Option ℕ) → Bool
+allDeclared n xs = every (isDeclared n) xs
 
 -- a whole list is one value: its spelling, its order and its count come before any item's range
 unfoldable pub check : (k : ValueKind) → Of k → Option Fault

@@ -9,12 +9,14 @@ use lib.Dec.{eqb}
 use lib.IntN.{pos, negsuc}
 use lib.ListN.{length}
 use borrow.Author.Tests.{eqb-true, eq-eqb, ne-eqb}
+use Rattle.table.specs.Cases.{cases}
 use Rattle.table.specs.declared.Operand.{Operand}
 use Rattle.table.specs.declared.Operand.the-variants.{Var, Const}
 use Rattle.table.specs.declared.Op.{Op}
 use Rattle.table.specs.declared.Op.the-variants.{Add, Sub, And, Or, Xor, Shr, Lt, Eq}
 use Rattle.text.specs.Number.{bytes, digits, spelt, value, allDigits}
-use Rattle.text.specs.NumberLaws.{cases, and-left, and-right, all-head, all-tail, spelt-digits, digits-all, digits-first, value-digits, digits-value}
+use Rattle.text.specs.NumberLaws.{and-left, and-right, all-head, all-tail, spelt-digits, digits-all, digits-first, value-digits, digits-value}
+use Rattle.text.specs.ByWord.{by-word}
 use Rattle.text.specs.Value.{NodeKind, start, setKind, test, read, call, wait, signal, send, recv, assert, out, return, ValueKind, number, choice, kind, operation, operand, variable, ascending, arguments, Of, kindWord, kinds, opWord, ops, same, named, chosen, numeral, spellVariable, asVariable, saidVariable, spellOperand, asVar, asConst, asNegative, saidOperand, commas, spellList, split, followed, each, saidList, spell, said}
 use Rattle.text.specs.Line.{stops, run}
 
@@ -74,9 +76,9 @@ unfolding named
 choice-said a b e false = rw (same-refl a, named)
 choice-said a b e true = rw (e, same-refl b, named)
 
-kind-said : (v : NodeKind) → named kindWord kinds (kindWord v) ≡ some v
+pub kind-said : (v : NodeKind) → named kindWord kinds (kindWord v) ≡ some v
 unfolding named same
-kind-said v = elim v [ start ↦ refl | setKind ↦ refl | test ↦ refl | read ↦ refl | call ↦ refl | wait ↦ refl | signal ↦ refl | send ↦ refl | recv ↦ refl | assert ↦ refl | out ↦ refl | return ↦ refl ]
+kind-said = by-word (search)
 
 op-said : (v : Op) → named opWord ops (opWord v) ≡ some v
 unfolding named same
@@ -87,7 +89,7 @@ chosen-over a b p q false = p
 chosen-over a b p q true = q
 
 kind-over : (v : NodeKind) → Over 32 (kindWord v)
-kind-over v = elim v [ start ↦ omega arith | setKind ↦ omega arith | test ↦ omega arith | read ↦ omega arith | call ↦ omega arith | wait ↦ omega arith | signal ↦ omega arith | send ↦ omega arith | recv ↦ omega arith | assert ↦ omega arith | out ↦ omega arith | return ↦ omega arith ]
+kind-over = by-word (search arith)
 
 op-over : (v : Op) → Over 32 (opWord v)
 op-over v = elim v [ Add ↦ omega arith | Sub ↦ omega arith | And ↦ omega arith | Or ↦ omega arith | Xor ↦ omega arith | Shr ↦ omega arith | Lt ↦ omega arith | Eq ↦ omega arith ]

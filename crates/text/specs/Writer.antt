@@ -5,9 +5,8 @@ use mathlib.Core.Bool.{Bool, true, false, _&&_, _||_, not}
 use lib.Dec.{ltb, eqb}
 use lib.ListN.{length, drop}
 use Rattle.table.specs.Mask.{members}
-use Rattle.table.specs.Table.{taskAt, semAt, queueAt, procAt, nodeIn, argPlaces, isAbsent}
+use Rattle.table.specs.Table.{taskAt, semAt, queueAt, procAt, nodeIn, argPlaces, Act, alone, waits, signals, sends, receives, calls, returns, act, isAbsent}
 use Rattle.table.specs.declared.Node.{Node}
-use Rattle.table.specs.declared.Node.the-variants.{Absent, Start, Set, Test, Read, Call, Wait, Signal, Send, Recv, Assert, Out, Return}
 use Rattle.table.specs.declared.Slot.{Slot}
 use Rattle.table.specs.declared.Task.{Task}
 use Rattle.table.specs.declared.Sem.{Sem}
@@ -17,8 +16,9 @@ use Rattle.table.specs.declared.Table.{Table}
 use Rattle.text.specs.declared.Writing.{Writing}
 use Rattle.text.specs.declared.Fault.the-variants.{Unused, Short}
 use Rattle.text.specs.Fault.{number}
+unfoldable pub use Rattle.text.specs.Number.{every}
 use Rattle.text.specs.Line.{Vals, write}
-use Rattle.text.specs.Format.{headLine, countsLine, taskLine, semLine, queueLine, procLine, Scope, nodeLine, Described, noLine, described, describe}
+use Rattle.text.specs.Format.{headLine, countsLine, taskLine, semLine, queueLine, procLine, Scope, nodeLine, Described, noLine, described, describe, taskVals, semVals}
 use Rattle.text.specs.Reader.{allBelow, concatFrom, Result, good, bad, readLines}
 
 -- ---- the lines that a table stands for, faulty or not
@@ -48,16 +48,12 @@ unfoldable pub text : Table → List ℕ
 text t =
     write headLine (t .trap, (t .closed, tt))
     ++ (write countsLine (t .tasks, (t .procs, (t .sems, (t .queues, tt))))
-    ++ (concatFrom (λ i. write (taskLine (t .procs) i) (i, (taskAt t i .top, tt))) (t .tasks) 0
-    ++ (concatFrom (λ i. write (semLine i) (i, (semAt t i .count, tt))) (t .sems) 0
+    ++ (concatFrom (λ i. write (taskLine (t .procs) i) (taskVals (t .procs) i (taskAt t i))) (t .tasks) 0
+    ++ (concatFrom (λ i. write (semLine i) (semVals i (semAt t i))) (t .sems) 0
     ++ (concatFrom (λ i. write (queueLine (t .closed) i) (queueVals (t .closed) i (queueAt t i))) (t .queues) 0
     ++ concatFrom (procText t) (t .procs) 0))))
 
 -- ---- places that are not used
-
-unfoldable pub every : {A : Type 0} → (A → Bool) → List A → Bool
-every f [] = true
-every f (x ∷ xs) = f x && every f xs
 
 abbrev pub isZero : ℕ → Bool
 isZero n = eqb n 0
@@ -78,20 +74,17 @@ abbrev pub procEmpty : Proc → Bool
 procEmpty x = isZero (x .params) && (isZero (x .vars) && (isZero (x .nodes) && (isZero (x .drop) && every slotEmpty (x .slots))))
 
 -- the places behind a call's arguments
-unfoldable pub argsEmpty : Node → Bool
-argsEmpty Absent = true
-argsEmpty (Start to) = true
-argsEmpty (Set v o a b to) = true
-argsEmpty (Test o a b y n) = true
-argsEmpty (Read v to) = true
-argsEmpty (Call q xs to) = every isZero (drop (xs .len) (argPlaces xs))
-argsEmpty (Wait s to) = true
-argsEmpty (Signal s to) = true
-argsEmpty (Send q v to) = true
-argsEmpty (Recv q v to) = true
-argsEmpty (Assert v to) = true
-argsEmpty (Out v to) = true
-argsEmpty Return = true
+abbrev pub emptyBehind : Act → Bool
+emptyBehind alone = true
+emptyBehind (waits i) = true
+emptyBehind (signals i) = true
+emptyBehind (sends q v) = true
+emptyBehind (receives q v) = true
+emptyBehind (calls q xs) = every isZero (drop (xs .len) (argPlaces xs))
+emptyBehind returns = true
+
+abbrev pub argsEmpty : Node → Bool
+argsEmpty x = emptyBehind (act x)
 
 -- within a procedure: places behind its nodes and behind its calls' arguments, and `drop` in an open table
 abbrev pub procTidy : Bool → Proc → Bool

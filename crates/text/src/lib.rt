@@ -1,6 +1,5 @@
 // The faults of texts and tables, and what the reader and the writer answer.
 
-// `number`, in specs/, gives document 01's number for each.
 pub enum Fault {
     // text over 65,536 bytes
     Long,
@@ -24,6 +23,45 @@ pub enum Fault {
     Unused,
     // buffer shorter than the text
     Short,
+}
+
+// Document 01's number for each, as `number` in specs/ gives it.
+pub const LONG: u8 = 1;
+
+pub const FORM: u8 = 2;
+
+pub const MISSPELT: u8 = 2;
+
+pub const ENDED: u8 = 2;
+
+pub const RANGE: u8 = 3;
+
+pub const INDEX: u8 = 4;
+
+pub const REFERENCE: u8 = 5;
+
+pub const ARGUMENTS: u8 = 6;
+
+pub const UNCLOSED: u8 = 7;
+
+pub const UNUSED: u8 = 2;
+
+pub const SHORT: u8 = 8;
+
+// The kinds of nodes, by their words.
+pub enum NodeKind {
+    Start,
+    Set,
+    Test,
+    Read,
+    Call,
+    Wait,
+    Signal,
+    Send,
+    Recv,
+    Assert,
+    Out,
+    Return,
 }
 
 // The table, with number and line 0; or the number and the line of the first fault, with a table all 0.

@@ -7,17 +7,19 @@ use native.Mathlib.Omega.{arith}
 use lib.Dec.{ltb, eqb}
 use lib.ListN.{length, getD, drop, length-map}
 use borrow.Author.Tests.{lt-ltb, le-ltb, eqb-true, eq-eqb, ne-eqb}
+use Rattle.table.specs.Cases.{cases}
 use Rattle.table.specs.Mask.{pick}
-use Rattle.table.specs.Table.{noSlot, noTask, noSem, noQueue, outside, queueAt, nodeIn, procAt, argPlaces}
+use Rattle.table.specs.Table.{noSlot, noTask, noSem, noQueue, outside, queueAt, nodeIn, procAt, argPlaces, Act, alone, waits, signals, sends, receives, calls, returns, parts, act}
 use Rattle.table.specs.declared.Args.{Args}
 use Rattle.table.specs.declared.Node.{Node}
 use Rattle.table.specs.declared.Node.the-variants.{Call}
 use Rattle.table.specs.declared.Queue.{Queue}
 use Rattle.table.specs.declared.Proc.{Proc}
 use Rattle.table.specs.declared.Table.{Table}
-use Rattle.text.specs.NumberLaws.{cases, byOrder, and-left, and-right}
+use Rattle.text.specs.NumberLaws.{byOrder, and-left, and-right}
 use Rattle.text.specs.Reader.{allBelow}
-use Rattle.text.specs.Writer.{every, isZero, slotEmpty, taskEmpty, semEmpty, queueEmpty, procEmpty, argsEmpty, procTidy, tidy}
+use Rattle.text.specs.Writer.{every, isZero, slotEmpty, taskEmpty, semEmpty, queueEmpty, procEmpty, emptyBehind, argsEmpty, procTidy, tidy}
+use Rattle.text.specs.KindLaws.{Other, not-call}
 use Rattle.text.specs.ValidLaws.{below-all, all-below}
 use Rattle.targets.specs.MaskTests.{same-truth}
 use Rattle.unused.specs.Unused.{taskFits, semFits, queueFits, procFits, tasksTidy, semsTidy, queuesTidy, slotsTidy, procsTidy, headTidy, Ranged}
@@ -180,8 +182,21 @@ pub queue-cap : (closed used : Bool) (x : Queue) → used ≡ false → (x .cap 
 queue-cap closed used x e z = rw (e, ne-eqb (x .cap) 0 z)
 
 pub call-args : {x : Node} {q to : ℕ} (xs : Args) {r : Bool} → x ≡ Call q xs to → r ≡ every isZero (drop (xs .len) (argPlaces xs)) → r ≡ argsEmpty x
-unfolding argsEmpty
+unfolding parts
 call-args xs e h = rw e h
+
+-- a node that is no call
+pub no-args : (x : Node) → Other 5 x → true ≡ argsEmpty x
+no-args x h = go (act x) (not-call x h)
+  where
+    go : (a : Act) → ((q : ℕ) (xs : Args) → a ≡ calls q xs → ⊥) → true ≡ emptyBehind a
+    go alone f = refl
+    go (waits i) f = refl
+    go (signals i) f = refl
+    go (sends q v) f = refl
+    go (receives q v) f = refl
+    go (calls q xs) f = absurd (f q xs refl)
+    go returns f = refl
 
 pub spare : ℕ → ℕ → ℕ → Bool
 spare len k v = ltb k len || eqb v 0

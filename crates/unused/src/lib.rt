@@ -72,44 +72,14 @@ fn call_fits(xs: Args) -> bool
 fn args_fit(x: Node) -> bool
     ensures { λ r. ⌜ r ≡ argsEmpty x ⌝ }
 {
-    match x {
-        Node::Absent => true,
-        Node::Start { to: _ } => true,
-        Node::Set {
-            var: _,
-            op: _,
-            a: _,
-            b: _,
-            to: _,
-        } => true,
-        Node::Test {
-            op: _,
-            a: _,
-            b: _,
-            yes: _,
-            no: _,
-        } => true,
-        Node::Read { var: _, to: _ } => true,
-        Node::Call {
-            callee: _,
-            args,
-            to: _,
-        } => call_fits(args),
-        Node::Wait { sem: _, to: _ } => true,
-        Node::Signal { sem: _, to: _ } => true,
-        Node::Send {
-            queue: _,
-            var: _,
-            to: _,
-        } => true,
-        Node::Recv {
-            queue: _,
-            var: _,
-            to: _,
-        } => true,
-        Node::Assert { var: _, to: _ } => true,
-        Node::Out { var: _, to: _ } => true,
-        Node::Return => true,
+    if let Node::Call {
+        callee: _,
+        args,
+        to: _,
+    } = x {
+        call_fits(args)
+    } else {
+        true
     }
 }
 

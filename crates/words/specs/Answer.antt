@@ -1,7 +1,7 @@
 -- What the readers of words answer. Of bytes t that end at e; and of the field at a place of a text.
 use Prim.Native.Nat.{ℕ, _+_, _-_, _<_}
 use mathlib.Core.Path.{_≡_}
-use mathlib.Core.Bool.{Bool, true, false}
+use mathlib.Core.Bool.{Bool, true, false, _&&_, not}
 use mathlib.Core.List.{List, [], _∷_}
 use mathlib.Core.Option.{some}
 use lib.Dec.{ltb}
@@ -10,15 +10,15 @@ use Rattle.table.specs.Mask.{pick}
 use Rattle.table.specs.declared.Op.{Op}
 use Rattle.table.specs.declared.Op.the-variants.{Add, Sub, And, Or, Xor, Shr, Lt, Eq}
 use Rattle.text.specs.Number.{bytes}
-use Rattle.text.specs.Value.{NodeKind, start, setKind, test, read, call, wait, signal, send, recv, assert, out, return, choice, kind, operation, kindWord, opWord, same, named, said}
+use Rattle.text.specs.declared.NodeKind.{NodeKind}
+use Rattle.text.specs.declared.NodeKind.the-variants.{Start as start, Set as setKind, Test as test, Read as read, Call as call, Wait as wait, Signal as signal, Send as send, Recv as recv, Assert as assert, Out as out, Return as return}
+use Rattle.text.specs.Value.{choice, kind, operation, kindWord, opWord, same, named, said, isKind}
 use Rattle.text.specs.Line.{Outcome, took, refused, judged, valueOf, fieldOf}
 use Rattle.scan.specs.Place.{RunEnd}
 use Rattle.words.specs.declared.Quick.{Quick}
 use Rattle.words.specs.declared.Quick.the-variants.{Is as IsQuick, Not as NotQuick}
 use Rattle.words.specs.declared.Choice.{Choice}
 use Rattle.words.specs.declared.Choice.the-variants.{Is as IsChoice, Not as NotChoice}
-use Rattle.words.specs.declared.NodeKind.{NodeKind as Word}
-use Rattle.words.specs.declared.NodeKind.the-variants.{Start, Set, Test, Read, Call, Wait, Signal, Send, Recv, Assert, Out, Return}
 use Rattle.words.specs.declared.Kind.{Kind as KindAnswer}
 use Rattle.words.specs.declared.Kind.the-variants.{Is as IsKind, Not as NotKind}
 use Rattle.words.specs.declared.Operation.{Operation}
@@ -54,22 +54,8 @@ pub record ChoiceAt (a b key s : List ℕ) (at : ℕ) (r : Choice) : Type 0 wher
 
 -- ---- the kinds of nodes
 
-abbrev pub kindOf : Word → NodeKind
-kindOf Start = start
-kindOf Set = setKind
-kindOf Test = test
-kindOf Read = read
-kindOf Call = call
-kindOf Wait = wait
-kindOf Signal = signal
-kindOf Send = send
-kindOf Recv = recv
-kindOf Assert = assert
-kindOf Out = out
-kindOf Return = return
-
 abbrev pub kindIn : ℕ → List ℕ → KindAnswer → Outcome NodeKind
-kindIn l s (IsKind k e) = took (kindOf k) l (drop e s)
+kindIn l s (IsKind k e) = took k l (drop e s)
 kindIn l s (NotKind f) = refused f l
 
 abbrev pub kindEnds : ℕ → KindAnswer → Type 0
@@ -81,19 +67,8 @@ kindWithin s (IsKind k e) = e < length s
 kindWithin s (NotKind f) = Unit {0}
 
 -- a kind that any node but 0 may have, in either form
-abbrev pub plain : Word → Bool
-plain Start = false
-plain Set = true
-plain Test = true
-plain Read = false
-plain Call = true
-plain Wait = true
-plain Signal = true
-plain Send = true
-plain Recv = true
-plain Assert = true
-plain Out = true
-plain Return = true
+abbrev pub plain : NodeKind → Bool
+plain k = not (isKind start k) && not (isKind read k)
 
 -- the answer for a kind
 pub record KindJudged (c : Bool) (j : ℕ) (k : NodeKind) (e : ℕ) (r : KindAnswer) : Type 0 where
@@ -127,9 +102,9 @@ standsAt w s at = same w (take (length w) (drop at s))
 unfoldable pub quickKind : List ℕ → ℕ → Quick
 quickKind s at =
     pick (ltb (length s - at) 5) NotQuick
-    (pick (standsAt (bytes "set ") s at) (IsQuick Set (at + 3))
-    (pick (standsAt (bytes "out ") s at) (IsQuick Out (at + 3))
-    (pick (standsAt (bytes "test ") s at) (IsQuick Test (at + 4)) NotQuick)))
+    (pick (standsAt (bytes "set ") s at) (IsQuick setKind (at + 3))
+    (pick (standsAt (bytes "out ") s at) (IsQuick out (at + 3))
+    (pick (standsAt (bytes "test ") s at) (IsQuick test (at + 4)) NotQuick)))
 
 pub record KindAt (c : Bool) (j : ℕ) (s : List ℕ) (at : ℕ) (r : KindAnswer) : Type 0 where
   pub same : (l : ℕ) → kindIn l s r ≡ fieldOf (bytes " kind=") (kind c j) l (drop at s)

@@ -3,21 +3,24 @@ use Prim.Native.Nat.{ℕ, zero, suc, _+_, _-_, _≤_, _<_}
 use mathlib.Core.Path.{_≡_, refl, sym, _∙_, ap}
 use mathlib.Core.List.{List, [], _∷_, _++_}
 use mathlib.Core.Option.{Option, none, some}
-use mathlib.Core.Bool.{Bool, true, false, false≢true}
+use mathlib.Core.Bool.{Bool, true, false, not, false≢true}
 use native.Mathlib.Omega.{arith}
 use native.Mathlib.Numerals.{add-one}
 use lib.ListN.{length, take, drop, getD, take-append-drop}
 use lib.Dec.{ltb}
 use lib.Seq.{drop-cons, drop-drop}
-use borrow.Author.Tests.{lt-ltb, le-ltb, ne-eqb}
+use borrow.Author.Tests.{lt-ltb, le-ltb, ne-eqb, not-true}
+use Rattle.table.specs.Cases.{cases}
 use Rattle.table.specs.declared.Op.{Op}
 use Rattle.table.specs.declared.Op.the-variants.{Add, Sub, And, Or, Xor, Shr, Lt, Eq}
 use Rattle.text.specs.declared.Fault.{Fault}
 use Rattle.text.specs.declared.Fault.the-variants.{Form, Ended, Index}
 use Rattle.text.specs.Number.{bytes}
-use Rattle.text.specs.Value.{NodeKind, start, read, choice, kind, operation, kindWord, opWord, same, named, said, unsaid, kindFault, opFault, check, kinds, ops}
-use Rattle.text.specs.NumberLaws.{byOrder, cases}
-use Rattle.text.specs.ValueLaws.{same-eq}
+use Rattle.text.specs.declared.NodeKind.{NodeKind}
+use Rattle.text.specs.declared.NodeKind.the-variants.{Start as start, Set as setKind, Test as test, Read as read, Out as out}
+use Rattle.text.specs.Value.{choice, kind, operation, kindWord, opWord, same, named, said, unsaid, unless, isKind, dueAt, kindFault, opFault, check, kinds, ops}
+use Rattle.text.specs.NumberLaws.{byOrder, and-left, and-right}
+use Rattle.text.specs.ValueLaws.{same-eq, kind-said}
 use Rattle.text.specs.Line.{judged, run as count, stops, fieldOf}
 use Rattle.scan.specs.declared.Found.{Found}
 use Rattle.scan.specs.declared.Found.the-variants.{At, Differs, Broken}
@@ -25,8 +28,6 @@ use Rattle.scan.specs.declared.Token.{Token}
 use Rattle.scan.specs.declared.Token.the-variants.{At as Between, Not as Refused}
 use Rattle.words.specs.declared.Choice.{Choice}
 use Rattle.words.specs.declared.Choice.the-variants.{Is as IsChoice, Not as NotChoice}
-use Rattle.words.specs.declared.NodeKind.{NodeKind as Word}
-use Rattle.words.specs.declared.NodeKind.the-variants.{Start, Set, Test, Read, Call, Wait, Signal, Send, Recv, Assert, Out, Return}
 use Rattle.words.specs.declared.Quick.{Quick}
 use Rattle.words.specs.declared.Quick.the-variants.{Is as IsQuick, Not as NotQuick}
 use Rattle.words.specs.declared.Kind.{Kind as KindAnswer}
@@ -35,7 +36,7 @@ use Rattle.words.specs.declared.Operation.{Operation}
 use Rattle.words.specs.declared.Operation.the-variants.{Is as IsOp, Not as NotOp}
 use Rattle.scan.specs.Place.{AfterKey, quadNumber, Bytes, QuadAt, ValueAt, TokenAt, refusalOf}
 use Rattle.scan.specs.PlaceLaws.{quad-bytes, count-more, count-none, value-ends, value-within, token-within}
-use Rattle.words.specs.Answer.{WordTo, choiceEnds, choiceWithin, ChoiceSaid, ChoiceAt, kindOf, kindEnds, kindWithin, plain, KindJudged, Later, KindSaid, KindIn, standsAt, quickKind, KindAt, opEnds, opWithin, calculates, OpJudged, OpSaid, OpIn, OpAt}
+use Rattle.words.specs.Answer.{WordTo, choiceEnds, choiceWithin, ChoiceSaid, ChoiceAt, kindEnds, kindWithin, plain, KindJudged, Later, KindSaid, KindIn, standsAt, quickKind, KindAt, opEnds, opWithin, calculates, OpJudged, OpSaid, OpIn, OpAt}
 
 -- ---- a word that four bytes show
 step : (s : List ℕ) (i k : ℕ) → i < length s → k ≡ i + 1 → drop i s ≡ getD s i 0 ∷ drop k s
@@ -117,62 +118,40 @@ module _ {key s : List ℕ} {at : ℕ} {r : Token} (m : TokenAt key s at r) wher
       reach (NotChoice f) h = tt
 
 -- ---- the kinds of nodes
-abbrev onlyLater : ℕ → Option Fault
-onlyLater zero = some Index
-onlyLater (suc j) = none
+plain-fault : (k : NodeKind) → plain k ≡ true → (c : Bool) (j : ℕ) → kindFault c j k ≡ unless (dueAt j false) Index
+plain-fault k h c j =
+    let s = isKind start k in
+    let r = isKind read k in
+    rw (not-true s (and-left (not s) (not r) h), not-true r (and-right (not s) (not r) h))
 
-plain-fault : (k : Word) → plain k ≡ true → (c : Bool) (j : ℕ) → kindFault c j (kindOf k) ≡ onlyLater j
-plain-fault Start h c j = absurd (false≢true h)
-plain-fault Set h c zero = refl
-plain-fault Set h c (suc j) = refl
-plain-fault Test h c zero = refl
-plain-fault Test h c (suc j) = refl
-plain-fault Read h c j = absurd (false≢true h)
-plain-fault Call h c zero = refl
-plain-fault Call h c (suc j) = refl
-plain-fault Wait h c zero = refl
-plain-fault Wait h c (suc j) = refl
-plain-fault Signal h c zero = refl
-plain-fault Signal h c (suc j) = refl
-plain-fault Send h c zero = refl
-plain-fault Send h c (suc j) = refl
-plain-fault Recv h c zero = refl
-plain-fault Recv h c (suc j) = refl
-plain-fault Assert h c zero = refl
-plain-fault Assert h c (suc j) = refl
-plain-fault Out h c zero = refl
-plain-fault Out h c (suc j) = refl
-plain-fault Return h c zero = refl
-plain-fault Return h c (suc j) = refl
-
-pub later-zero : (k : Word) {j : ℕ} (e : ℕ) → plain k ≡ true → j ≡ 0 → Later (kindOf k) j e (NotKind Index)
+pub later-zero : (k : NodeKind) {j : ℕ} (e : ℕ) → plain k ≡ true → j ≡ 0 → Later k j e (NotKind Index)
 unfolding check
 later-zero k {j} e h z = record { judged = λ c. record { same = λ l s. rw (plain-fault k h c j, z); ends = tt } }
 
-pub later-is : (k : Word) (j e : ℕ) → plain k ≡ true → (j ≡ 0 → ⊥) → Later (kindOf k) j e (IsKind k e)
+pub later-is : (k : NodeKind) (j e : ℕ) → plain k ≡ true → (j ≡ 0 → ⊥) → Later k j e (IsKind k e)
 unfolding check
 later-is k zero e h z = absurd (z refl)
 later-is k (suc j) e h z = record { judged = λ c. record { same = λ l s. rw (plain-fault k h c (suc j)); ends = refl } }
 
-pub start-is : {j : ℕ} (e : ℕ) → j ≡ 0 → Later start j e (IsKind Start e)
-unfolding check
+pub start-is : {j : ℕ} (e : ℕ) → j ≡ 0 → Later start j e (IsKind start e)
+unfolding check same
 start-is e z = record { judged = λ c. record { same = λ l s. rw z; ends = refl } }
 
 pub start-late : (j e : ℕ) → (j ≡ 0 → ⊥) → Later start j e (NotKind Index)
-unfolding check
+unfolding check same
 start-late zero e z = absurd (z refl)
 start-late (suc j) e z = record { judged = λ c. record { same = λ l s. refl; ends = tt } }
 
 pub read-closed : {c : Bool} (j e : ℕ) → c ≡ true → KindJudged c j read e (NotKind Form)
-unfolding check
+unfolding check same
 read-closed j e h = record { same = λ l s. rw h; ends = tt }
 
 pub read-first : {c : Bool} {j : ℕ} (e : ℕ) → c ≡ false → j ≡ 0 → KindJudged c j read e (NotKind Index)
-unfolding check
+unfolding check same
 read-first e h z = record { same = λ l s. rw (h, z); ends = tt }
 
-pub read-is : {c : Bool} (j e : ℕ) → c ≡ false → (j ≡ 0 → ⊥) → KindJudged c j read e (IsKind Read e)
-unfolding check
+pub read-is : {c : Bool} (j e : ℕ) → c ≡ false → (j ≡ 0 → ⊥) → KindJudged c j read e (IsKind read e)
+unfolding check same
 read-is zero e h z = absurd (z refl)
 read-is (suc j) e h z = record { same = λ l s. rw h; ends = refl }
 
@@ -217,29 +196,13 @@ module _ {s : List ℕ} {at : ℕ} {r : Found} (m : AfterKey (bytes " kind=") s 
   unfolding fieldOf
   kind-broken c j e = record { same = λ l. rw (← m .same, e); within = tt }
 
--- a kind is the first whose word its word is
-named-kind : (k : Word) → named kindWord kinds (kindWord (kindOf k)) ≡ some (kindOf k)
-unfolding named same
-named-kind Start = refl
-named-kind Set = refl
-named-kind Test = refl
-named-kind Read = refl
-named-kind Call = refl
-named-kind Wait = refl
-named-kind Signal = refl
-named-kind Send = refl
-named-kind Recv = refl
-named-kind Assert = refl
-named-kind Out = refl
-named-kind Return = refl
-
 -- the bytes that stand at a place
 stands-parts : (w s : List ℕ) (at : ℕ) → standsAt w s at ≡ true → drop at s ≡ w ++ drop (length w) (drop at s)
 stands-parts w s at h = sym (take-append-drop (length w) (drop at s)) ∙ ap (λ (t : List ℕ). t ++ drop (length w) (drop at s)) (sym (same-eq w _ h))
 
 -- a kind whose word stands at a place
 abbrev kindStands : List ℕ → ℕ → Quick → Type 0
-kindStands s at (IsQuick k e) = WordTo s at e (kindWord (kindOf k)) × (plain k ≡ true)
+kindStands s at (IsQuick k e) = WordTo s at e (kindWord k) × (plain k ≡ true)
 kindStands s at NotQuick = Unit {0}
 
 module _ (s : List ℕ) (at : ℕ) (h : 5 ≤ length s - at) where
@@ -254,7 +217,7 @@ module _ (s : List ℕ) (at : ℕ) (h : 5 ≤ length s - at) where
       (cc, cc)
 
   quick-long : kindStands s at (quickKind s at)
-  unfolding quickKind
+  unfolding quickKind same
   quick-long =
       rw (le-ltb (length s - at) 5 h)
       (cases (standsAt (bytes "set ") s at)
@@ -269,18 +232,18 @@ quick-stands : (s : List ℕ) (at : ℕ) → kindStands s at (quickKind s at)
 unfolding quickKind
 quick-stands s at = byOrder (length s - at) 5 (λ h. rw (lt-ltb (length s - at) 5 h) tt) (λ h. quick-long s at h)
 
-module _ (s : List ℕ) (at : ℕ) {r : Quick} (m : r ≡ quickKind s at) {k : Word} {e : ℕ} (q : r ≡ IsQuick k e) where
-  quick-word : WordTo s at e (kindWord (kindOf k)) × (plain k ≡ true)
+module _ (s : List ℕ) (at : ℕ) {r : Quick} (m : r ≡ quickKind s at) {k : NodeKind} {e : ℕ} (q : r ≡ IsQuick k e) where
+  quick-word : WordTo s at e (kindWord k) × (plain k ≡ true)
   quick-word = rw (← m, q) at (quick-stands s at)
 
   pub quick-plain : plain k ≡ true
   quick-plain = quick-word .1
 
-  pub quick-kind : {c : Bool} {j : ℕ} {v : KindAnswer} → Later (kindOf k) j e v → KindIn c j s at v
+  pub quick-kind : {c : Bool} {j : ℕ} {v : KindAnswer} → Later k j e v → KindIn c j s at v
   unfolding said
   quick-kind {c} {j} {v} d =
       let w = quick-word .0 in
-      let z : named kindWord kinds (take (e - at) (drop at s)) ≡ some (kindOf k) = rw (w .same) (named-kind k) in
+      let z : named kindWord kinds (take (e - at) (drop at s)) ≡ some k = rw (w .same) (kind-said k) in
       record { same = λ l. d .judged c .same l s ∙ (rw z at (value-ends (w .run) (w .inside) .same (kind c j) l)); within = reach v (d .judged c .ends) }
     where
       reach : (v : KindAnswer) → kindEnds e v → kindWithin s v
@@ -296,11 +259,11 @@ module _ {s : List ℕ} {at r : ℕ} (m : QuadAt s at r) (h : 5 ≤ length s - a
   long = le-ltb (length s - at) 5 h
 
   module _ {x : ℕ} where
-    pub quick-set : Bytes 115 101 116 32 → x ≡ quadNumber 115 101 116 32 → r ≡ x → IsQuick Set (at + 3) ≡ quickKind s at
+    pub quick-set : Bytes 115 101 116 32 → x ≡ quadNumber 115 101 116 32 → r ≡ x → IsQuick setKind (at + 3) ≡ quickKind s at
     unfolding quickKind same
     quick-set b g e = rw (long, parts m (omega arith) b g e)
 
-    pub quick-out : Bytes 111 117 116 32 → x ≡ quadNumber 111 117 116 32 → r ≡ x → IsQuick Out (at + 3) ≡ quickKind s at
+    pub quick-out : Bytes 111 117 116 32 → x ≡ quadNumber 111 117 116 32 → r ≡ x → IsQuick out (at + 3) ≡ quickKind s at
     unfolding quickKind same
     quick-out b g e = rw (long, parts m (omega arith) b g e)
 
@@ -308,7 +271,7 @@ module _ {s : List ℕ} {at r : ℕ} (m : QuadAt s at r) (h : 5 ≤ length s - a
       five : drop at s ≡ 116 ∷ 101 ∷ 115 ∷ 116 ∷ getD s (at + 4) 0 ∷ drop (at + 5) s
       five = rw (← step s (at + 4) (at + 5) (omega arith) (omega arith)) (parts m (omega arith) b g e)
 
-      pub quick-test : getD s (at + 4) 0 ≡ 32 → IsQuick Test (at + 4) ≡ quickKind s at
+      pub quick-test : getD s (at + 4) 0 ≡ 32 → IsQuick test (at + 4) ≡ quickKind s at
       unfolding quickKind same
       quick-test d = rw (long, five, d)
 

@@ -3,8 +3,9 @@ ghost use Prim.Native.Nat.{_≤_};
 ghost use mathlib.Core.Path.{_≡_};
 ghost use mathlib.Core.Bool.{true, false};
 ghost use lib.ListN.{length};
+ghost use Rattle.text.specs.declared.NodeKind.the-variants.{Start as start, Read as read};
 ghost use Rattle.text.specs.Value.{kinds, ops};
-ghost use Rattle.words.specs.Answer.{ChoiceSaid, ChoiceAt, kindOf, KindJudged, plain, Later, KindSaid, middleKinds, lateKinds, KindIn, quickKind, KindAt, calculates, OpJudged, OpSaid, lateOps, OpIn, OpAt};
+ghost use Rattle.words.specs.Answer.{ChoiceSaid, ChoiceAt, KindJudged, plain, Later, KindSaid, middleKinds, lateKinds, KindIn, quickKind, KindAt, calculates, OpJudged, OpSaid, lateOps, OpIn, OpAt};
 
 // One of two words and the place after it, or the fault.
 pub enum Choice {
@@ -12,25 +13,9 @@ pub enum Choice {
     Not(text::Fault),
 }
 
-// The kinds of nodes, by their words.
-pub enum NodeKind {
-    Start,
-    Set,
-    Test,
-    Read,
-    Call,
-    Wait,
-    Signal,
-    Send,
-    Recv,
-    Assert,
-    Out,
-    Return,
-}
-
 // A node's kind and the place after it, or the fault.
 pub enum Kind {
-    Is(NodeKind, usize),
+    Is(text::NodeKind, usize),
     Not(text::Fault),
 }
 
@@ -68,17 +53,17 @@ pub fn choice_field(s: &[u8], at: usize, key: &[u8], a: &[u8], b: &[u8]) -> Choi
 
 // Node 0 is the only `start`.
 fn start_at(e: usize, j: u8) -> Kind
-    ensures { λ r. ⌜ Later (kindOf NodeKind.Start) j e r ⌝ }
+    ensures { λ r. ⌜ Later start j e r ⌝ }
 {
     if j == 0 {
-        return Kind::Is(NodeKind::Start, e);
+        return Kind::Is(text::NodeKind::Start, e);
     }
     Kind::Not(text::Fault::Index)
 }
 
-fn later(k: NodeKind, e: usize, j: u8) -> Kind
+fn later(k: text::NodeKind, e: usize, j: u8) -> Kind
     requires { ⌜ plain k ≡ true ⌝ }
-    ensures { λ r. ⌜ Later (kindOf k) j e r ⌝ }
+    ensures { λ r. ⌜ Later k j e r ⌝ }
 {
     if j == 0 {
         return Kind::Not(text::Fault::Index);
@@ -88,7 +73,7 @@ fn later(k: NodeKind, e: usize, j: u8) -> Kind
 
 // A closed table has no `read`.
 fn read_at(e: usize, closed: bool, j: u8) -> Kind
-    ensures { λ r. ⌜ KindJudged closed j (kindOf NodeKind.Read) e r ⌝ }
+    ensures { λ r. ⌜ KindJudged closed j read e r ⌝ }
 {
     if closed {
         return Kind::Not(text::Fault::Form);
@@ -96,23 +81,23 @@ fn read_at(e: usize, closed: bool, j: u8) -> Kind
     if j == 0 {
         return Kind::Not(text::Fault::Index);
     }
-    Kind::Is(NodeKind::Read, e)
+    Kind::Is(text::NodeKind::Read, e)
 }
 
 fn late_kind(t: &[u8], e: usize, closed: bool, j: u8) -> Kind
     ensures { λ r. ⌜ KindSaid closed j lateKinds (now (t .entry)) e r ⌝ }
 {
     if scan::is_word(t, b"recv") {
-        return later(NodeKind::Recv, e, j);
+        return later(text::NodeKind::Recv, e, j);
     }
     if scan::is_word(t, b"assert") {
-        return later(NodeKind::Assert, e, j);
+        return later(text::NodeKind::Assert, e, j);
     }
     if scan::is_word(t, b"out") {
-        return later(NodeKind::Out, e, j);
+        return later(text::NodeKind::Out, e, j);
     }
     if scan::is_word(t, b"return") {
-        return later(NodeKind::Return, e, j);
+        return later(text::NodeKind::Return, e, j);
     }
     Kind::Not(text::Fault::Form)
 }
@@ -121,16 +106,16 @@ fn middle_kind(t: &[u8], e: usize, closed: bool, j: u8) -> Kind
     ensures { λ r. ⌜ KindSaid closed j middleKinds (now (t .entry)) e r ⌝ }
 {
     if scan::is_word(t, b"call") {
-        return later(NodeKind::Call, e, j);
+        return later(text::NodeKind::Call, e, j);
     }
     if scan::is_word(t, b"wait") {
-        return later(NodeKind::Wait, e, j);
+        return later(text::NodeKind::Wait, e, j);
     }
     if scan::is_word(t, b"signal") {
-        return later(NodeKind::Signal, e, j);
+        return later(text::NodeKind::Signal, e, j);
     }
     if scan::is_word(t, b"send") {
-        return later(NodeKind::Send, e, j);
+        return later(text::NodeKind::Send, e, j);
     }
     late_kind(t, e, closed, j)
 }
@@ -142,10 +127,10 @@ fn kind_value(t: &[u8], e: usize, closed: bool, j: u8) -> Kind
         return start_at(e, j);
     }
     if scan::is_word(t, b"set") {
-        return later(NodeKind::Set, e, j);
+        return later(text::NodeKind::Set, e, j);
     }
     if scan::is_word(t, b"test") {
-        return later(NodeKind::Test, e, j);
+        return later(text::NodeKind::Test, e, j);
     }
     if scan::is_word(t, b"read") {
         return read_at(e, closed, j);
@@ -155,7 +140,7 @@ fn kind_value(t: &[u8], e: usize, closed: bool, j: u8) -> Kind
 
 // A kind that is told by its first bytes, and where its word ends.
 enum Quick {
-    Is(NodeKind, usize),
+    Is(text::NodeKind, usize),
     Not,
 }
 
@@ -180,17 +165,17 @@ fn quick_kind(s: &[u8], at: usize) -> Quick
     }
     let w = scan::quad(s, at);
     if w == scan::quad_of(115, 101, 116, 32) {
-        return Quick::Is(NodeKind::Set, at + 3);
+        return Quick::Is(text::NodeKind::Set, at + 3);
     }
     if w == scan::quad_of(111, 117, 116, 32) {
-        return Quick::Is(NodeKind::Out, at + 3);
+        return Quick::Is(text::NodeKind::Out, at + 3);
     }
     if w != scan::quad_of(116, 101, 115, 116) {
         return Quick::Not;
     }
     let e = at + 4;
     if s[e] == 32 {
-        return Quick::Is(NodeKind::Test, e);
+        return Quick::Is(text::NodeKind::Test, e);
     }
     Quick::Not
 }

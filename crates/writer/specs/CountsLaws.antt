@@ -4,13 +4,13 @@ use native.Mathlib.Omega.{arith}
 use mathlib.Core.Path.{_≡_}
 use mathlib.Core.Bool.{true}
 use borrow.Author.Tests.{eqb-true}
-use Rattle.table.specs.Table.{procAt, nodeAt}
+use Rattle.table.specs.Table.{calls, procAt, nodeAt}
 use Rattle.table.specs.declared.Node.{Node}
-use Rattle.table.specs.declared.Node.the-variants.{Absent, Start, Set, Test, Read, Call, Wait, Signal, Send, Recv, Assert, Out, Return}
 use Rattle.table.specs.declared.Table.{Table}
 use Rattle.text.specs.Reader.{countRight}
 use Rattle.text.specs.Writer.{scope, fault}
-use Rattle.text.specs.Valid.{Valid, NodeValid}
+use Rattle.text.specs.Valid.{Valid, NodeValid, ActValid}
+use Rattle.text.specs.LinedLaws.{valid-parts}
 use Rattle.text.specs.ValidLaws.{valid-of}
 use Rattle.lines.specs.Lines.{FewArgs}
 use Rattle.writer.specs.Table.{Counts}
@@ -20,20 +20,9 @@ module _ (t : Table) (z : fault t ≡ 0) where
   v = valid-of t z
 
   few : (p n : ℕ) (x : Node) → NodeValid (scope t (procAt t p)) n x → countRight t x ≡ true → FewArgs x
-  unfolding countRight
-  few p n Absent h k = tt
-  few p n (Start to) h k = tt
-  few p n (Set x i a b to) h k = tt
-  few p n (Test i a b y w) h k = tt
-  few p n (Read x to) h k = tt
-  few p n (Call q xs to) h k = omega (arith, eqb-true (xs .len) (procAt t q .params) k, v .lines .proc q (h .1) .params)
-  few p n (Wait i to) h k = tt
-  few p n (Signal i to) h k = tt
-  few p n (Send q x to) h k = tt
-  few p n (Recv q x to) h k = tt
-  few p n (Assert x to) h k = tt
-  few p n (Out x to) h k = tt
-  few p n Return h k = tt
+  few p n x h k q xs e =
+      let a : ActValid (scope t (procAt t p)) (calls q xs) = rw e at (valid-parts (scope t (procAt t p)) n x h .act) in
+      omega (arith, eqb-true (xs .len) (procAt t q .params) (rw e at k), v .lines .proc q (a .0) .params)
 
   pub counts : Counts t
   counts = record {

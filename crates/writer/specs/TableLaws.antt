@@ -9,7 +9,7 @@ use borrow.Author.Tests.{lt-ltb, le-ltb}
 use Rattle.table.specs.Table.{noTask, noSem, noQueue, taskAt, semAt, queueAt, procAt, nodeIn}
 use Rattle.table.specs.declared.Table.{Table}
 use Rattle.text.specs.Line.{write}
-use Rattle.text.specs.Format.{taskLine, semLine, queueLine, describe}
+use Rattle.text.specs.Format.{taskLine, semLine, queueLine, describe, taskVals, semVals}
 use Rattle.text.specs.Reader.{concatFrom}
 use Rattle.text.specs.Writer.{text, procText, scope, nodeText, queueVals, fitted}
 use Rattle.text.specs.Fault.{number}
@@ -36,8 +36,8 @@ unfolding text frontBytes
 table-text t = rw (
   head-text (t .trap) (t .closed),
   counts-text (t .tasks) (t .procs) (t .sems) (t .queues),
-  concat-same (λ i. write (taskLine (t .procs) i) (i, (taskAt t i .top, tt))) (λ i. taskBytes i (taskAt t i)) (λ i. task-text (t .procs) i (taskAt t i .top)) (t .tasks) 0,
-  concat-same (λ i. write (semLine i) (i, (semAt t i .count, tt))) (λ i. semBytes i (semAt t i)) (λ i. sem-text i (semAt t i .count)) (t .sems) 0,
+  concat-same (λ i. write (taskLine (t .procs) i) (taskVals (t .procs) i (taskAt t i))) (λ i. taskBytes i (taskAt t i)) (λ i. task-text (t .procs) i (taskAt t i .top)) (t .tasks) 0,
+  concat-same (λ i. write (semLine i) (semVals i (semAt t i))) (λ i. semBytes i (semAt t i)) (λ i. sem-text i (semAt t i .count)) (t .sems) 0,
   concat-same (λ i. write (queueLine (t .closed) i) (queueVals (t .closed) i (queueAt t i))) (λ i. queueBytes (t .closed) i (queueAt t i)) (λ i. queue-text (t .closed) i (queueAt t i)) (t .queues) 0,
   concat-same (procText t) (procsBytes (t .closed) (t .proc)) (proc-bytes t) (t .procs) 0,
 ) (regroup (headText (t .trap) (t .closed)) (countsText (t .tasks) (t .procs) (t .sems) (t .queues))

@@ -182,7 +182,7 @@ pub fn write_ready(t: Table, out: &mut [u8]) -> Writing
     let need = put_table(&mut out[..0], t);
     if out.len() < need {
         return Writing {
-            number: 8,
+            number: text::SHORT,
             line: 0,
             len: 0,
         };

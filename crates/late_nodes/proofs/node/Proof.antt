@@ -1,4 +1,5 @@
 use mathlib.Core.Path.{refl}
+use Rattle.table.specs.Table.{parts}
 use Rattle.late_nodes.specs.Terms.{nodeFaultBy}
 use Rattle.late_nodes.specs.Steps.{node-is, test-is}
 use borrow.Author.Needs.{needs}
@@ -84,54 +85,54 @@ enum-told-2 : tie.Need-enum-told-2
 enum-told-2 c = search needs
 
 returns : tie.Need-returns
-unfolding nodeFaultBy
+unfolding nodeFaultBy parts
 returns c = node-is _ _ (c .enum-told .given .1) refl
 
 returns-2 : tie.Need-returns-2
-unfolding nodeFaultBy
+unfolding nodeFaultBy parts
 returns-2 c = node-is _ _ (c .before .before .x .given .1) (c .arc .ensures)
 
 returns-3 : tie.Need-returns-3
-unfolding nodeFaultBy
+unfolding nodeFaultBy parts
 returns-3 c = node-is _ _ (c .before .before .x2 .given .1) (c .arc2 .ensures)
 
 returns-4 : tie.Need-returns-4
 returns-4 c = test-is _ _ _ _ (c .before .before .before .before .x3 .given .1) (c .before .before .arc3 .ensures) (c .before .arc4 .ensures) (c .first .ensures)
 
 returns-5 : tie.Need-returns-5
-unfolding nodeFaultBy
+unfolding nodeFaultBy parts
 returns-5 c = node-is _ _ (c .before .before .x4 .given .1) (c .arc5 .ensures)
 
 returns-6 : tie.Need-returns-6
-unfolding nodeFaultBy
+unfolding nodeFaultBy parts
 returns-6 c = node-is _ _ (c .before .before .x5 .given .1) (c .call .ensures)
 
 returns-7 : tie.Need-returns-7
-unfolding nodeFaultBy
+unfolding nodeFaultBy parts
 returns-7 c = node-is _ _ (c .before .before .x6 .given .1) (c .arc6 .ensures)
 
 returns-8 : tie.Need-returns-8
-unfolding nodeFaultBy
+unfolding nodeFaultBy parts
 returns-8 c = node-is _ _ (c .before .before .x7 .given .1) (c .arc7 .ensures)
 
 returns-9 : tie.Need-returns-9
-unfolding nodeFaultBy
+unfolding nodeFaultBy parts
 returns-9 c = node-is _ _ (c .before .before .x8 .given .1) (c .transfer .ensures)
 
 returns-10 : tie.Need-returns-10
-unfolding nodeFaultBy
+unfolding nodeFaultBy parts
 returns-10 c = node-is _ _ (c .before .before .x9 .given .1) (c .transfer2 .ensures)
 
 returns-11 : tie.Need-returns-11
-unfolding nodeFaultBy
+unfolding nodeFaultBy parts
 returns-11 c = node-is _ _ (c .before .before .x10 .given .1) (c .arc8 .ensures)
 
 returns-12 : tie.Need-returns-12
-unfolding nodeFaultBy
+unfolding nodeFaultBy parts
 returns-12 c = node-is _ _ (c .before .before .x11 .given .1) (c .arc9 .ensures)
 
 returns-13 : tie.Need-returns-13
-unfolding nodeFaultBy
+unfolding nodeFaultBy parts
 returns-13 c = node-is _ _ (c .enum-told2 .given .1) refl
 
 pub node-spec : {M : Type 1} → statement M

@@ -1,4 +1,4 @@
-use Rattle.node_lines.specs.NodeLineLaws.{node-none, node-start, node-set, node-test, node-read, node-call, node-wait, node-signal, node-send, node-recv, node-assert, node-out, node-return}
+use Rattle.node_lines.specs.NodeLineLaws.{few-call, node-none, node-start, node-set, node-test, node-read, node-call, node-wait, node-signal, node-send, node-recv, node-assert, node-out, node-return}
 use native.Mathlib.Omega.{arith}
 use borrow.Author.Needs.{needs}
 use Rattle.node_lines.proofs.fill_node.Statement.{statement}
@@ -38,7 +38,7 @@ enum-known-x-5 : tie.Need-enum-known-x-5
 enum-known-x-5 c = search needs
 
 fill-call-requires : tie.Need-fill-call-requires
-fill-call-requires c κs = (omega arith, rw (c .before .before .x5 .given .1) at (c .before .before .before .before .before .pre .1))
+fill-call-requires c κs = (omega arith, few-call (c .before .before .x5 .given .1) (c .before .before .before .before .before .pre .1))
 
 enum-known-x-6 : tie.Need-enum-known-x-6
 enum-known-x-6 c = search needs

@@ -1,23 +1,8 @@
-use Rattle.unused.specs.UnusedLaws.{call-args}
-use Rattle.text.specs.Writer.{argsEmpty}
+use Rattle.table.specs.Table.{parts}
+use Rattle.unused.specs.UnusedLaws.{call-args, no-args}
 use borrow.Author.Needs.{needs}
 use Rattle.unused.proofs.args_fit.Statement.{statement}
 use Rattle.unused.proofs.args_fit.Tie as tie
-
-enum-told : tie.Need-enum-told
-enum-told c = search needs
-
-enum-told-2 : tie.Need-enum-told-2
-enum-told-2 c = search needs
-
-enum-told-3 : tie.Need-enum-told-3
-enum-told-3 c = search needs
-
-enum-told-4 : tie.Need-enum-told-4
-enum-told-4 c = search needs
-
-enum-told-5 : tie.Need-enum-told-5
-enum-told-5 c = search needs
 
 enum-known-x : tie.Need-enum-known-x
 enum-known-x c = search needs
@@ -25,107 +10,12 @@ enum-known-x c = search needs
 call-fits-requires : tie.Need-call-fits-requires
 call-fits-requires c κs = search needs
 
-enum-told-6 : tie.Need-enum-told-6
-enum-told-6 c = search needs
-
-enum-told-7 : tie.Need-enum-told-7
-enum-told-7 c = search needs
-
-enum-told-8 : tie.Need-enum-told-8
-enum-told-8 c = search needs
-
-enum-told-9 : tie.Need-enum-told-9
-enum-told-9 c = search needs
-
-enum-told-10 : tie.Need-enum-told-10
-enum-told-10 c = search needs
-
-enum-told-11 : tie.Need-enum-told-11
-enum-told-11 c = search needs
-
-enum-told-12 : tie.Need-enum-told-12
-enum-told-12 c = search needs
-
 returns : tie.Need-returns
-unfolding argsEmpty
-returns c = search needs
+unfolding parts
+returns c = search (needs, call-args)
 
 returns-2 : tie.Need-returns-2
-unfolding argsEmpty
-returns-2 c = search needs
-
-returns-3 : tie.Need-returns-3
-unfolding argsEmpty
-returns-3 c = search needs
-
-returns-4 : tie.Need-returns-4
-unfolding argsEmpty
-returns-4 c = search needs
-
-returns-5 : tie.Need-returns-5
-unfolding argsEmpty
-returns-5 c = search needs
-
-returns-6 : tie.Need-returns-6
-unfolding argsEmpty
-returns-6 c = search (needs, call-args)
-
-returns-7 : tie.Need-returns-7
-unfolding argsEmpty
-returns-7 c = search needs
-
-returns-8 : tie.Need-returns-8
-unfolding argsEmpty
-returns-8 c = search needs
-
-returns-9 : tie.Need-returns-9
-unfolding argsEmpty
-returns-9 c = search needs
-
-returns-10 : tie.Need-returns-10
-unfolding argsEmpty
-returns-10 c = search needs
-
-returns-11 : tie.Need-returns-11
-unfolding argsEmpty
-returns-11 c = search needs
-
-returns-12 : tie.Need-returns-12
-unfolding argsEmpty
-returns-12 c = search needs
-
-returns-13 : tie.Need-returns-13
-unfolding argsEmpty
-returns-13 c = search needs
+returns-2 c = no-args _ (c .match .keys2)
 
 pub args-fit-spec : {M : Type 1} → statement M
-args-fit-spec =
-    tie.close
-    (tie.spec
-    enum-told
-    enum-told-2
-    enum-told-3
-    enum-told-4
-    enum-told-5
-    enum-known-x
-    call-fits-requires
-    enum-told-6
-    enum-told-7
-    enum-told-8
-    enum-told-9
-    enum-told-10
-    enum-told-11
-    enum-told-12
-    returns
-    returns-2
-    returns-3
-    returns-4
-    returns-5
-    returns-6
-    returns-7
-    returns-8
-    returns-9
-    returns-10
-    returns-11
-    returns-12
-    returns-13)
+args-fit-spec = tie.close (tie.spec enum-known-x call-fits-requires returns returns-2)

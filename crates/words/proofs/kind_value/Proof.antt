@@ -1,4 +1,5 @@
 use Rattle.words.specs.WordLaws.{kind-laws}
+use Rattle.text.specs.Value.{same}
 use borrow.Author.Needs.{needs}
 use Rattle.words.proofs.kind_value.Statement.{statement}
 use Rattle.words.proofs.kind_value.Tie as tie
@@ -22,6 +23,7 @@ is-word-requires-2 : tie.Need-is-word-requires-2
 is-word-requires-2 c κs = search needs
 
 later-requires : tie.Need-later-requires
+unfolding same
 later-requires c κs = search needs
 
 returns-2 : tie.Need-returns-2
@@ -34,6 +36,7 @@ is-word-requires-3 : tie.Need-is-word-requires-3
 is-word-requires-3 c κs = search needs
 
 later-requires-2 : tie.Need-later-requires-2
+unfolding same
 later-requires-2 c κs = search needs
 
 returns-3 : tie.Need-returns-3
