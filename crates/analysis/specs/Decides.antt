@@ -8,7 +8,7 @@ use lib.ListN.{getD}
 use Rattle.table.specs.Mask.{bit}
 use Rattle.table.specs.Table.{nodeAt}
 use Rattle.table.specs.declared.Table.{Table}
-use Rattle.closing.specs.Dirty.{Dirty, useAt, dropped, blank}
+use Rattle.closing.specs.Dirty.{Dirty, dirtyBefore, dropped, blank}
 use Rattle.closing.specs.Closing.{dirty, kept}
 use Rattle.masks.specs.Cells.{cell, Masks}
 
@@ -16,7 +16,7 @@ use Rattle.masks.specs.Cells.{cell, Masks}
 -- parameters of procedure p, at 264 the blank queues
 pub record Decides (t : Table) (l : List ℕ) : Type 0 where
   pub masks : Masks 265 32 l
-  pub uses : (p n v : ℕ) → p < 8 → n < 32 → (bit v (cell l (p * 32 + n)) ≡ true) ↔ Dirty t (useAt p n v)
+  pub uses : (p n v : ℕ) → p < 8 → n < 32 → (bit v (cell l (p * 32 + n)) ≡ true) ↔ Dirty t (dirtyBefore p n v)
   pub drops : (p i : ℕ) → p < 8 → (bit i (cell l (256 + p)) ≡ true) ↔ Dirty t (dropped p i)
   pub blanks : (q : ℕ) → (bit q (cell l 264) ≡ true) ↔ Dirty t (blank q)
 

@@ -5,27 +5,25 @@ use native.Mathlib.Nat.{mod-eq-of-lt}
 use mathlib.Core.Path.{_≡_, refl, sym, _∙_, ap, subst}
 use mathlib.Core.Bool.{Bool, true, false, _||_, _&&_, false≢true}
 use mathlib.Core.Logic.{_⊎_, inl, inr, _≢_}
-use mathlib.Core.Option.{none, some}
+use mathlib.Core.Option.{Option, none, some}
 use mathlib.Core.List.{List, [], _∷_, _++_, List·Memᴰ, List·Memᴰ·head, List·Memᴰ·tail, List·Memᴰ·not-nil, List·Memᴰ·append-cases, Memᴰ·append-left, Memᴰ·append-right}
 use lib.ListN.{getD, getElem?, take}
 use lib.Bits.{bitOr, or-lt, and-lt, xor-lt}
 use lib.Pow.{pow-lt, pow-pos}
 use lib.Dec.{ltb}
 use borrow.Author.Tests.{ltb-true, lt-ltb}
+use Rattle.table.specs.Cases.{cases}
 use Rattle.table.specs.Mask.{pick, bit, members}
 use Rattle.table.specs.MaskLaws.{members-is}
-use Rattle.table.specs.Table.{variableSet, arcTo, arcNo, arcs, argPlaces, argAt, argList, operandUses}
-use Rattle.table.specs.declared.Operand.{Operand}
-use Rattle.table.specs.declared.Operand.the-variants.{Var, Const}
+use Rattle.table.specs.Table.{variableSet, arcs, firstArc, secondArc, argPlaces, argAt, argList, Keeping, always, ifClean, never, absent, Exit, ends, by, either, Act, alone, waits, signals, sends, receives, calls, returns, parts, uses, keeping, act}
 use Rattle.table.specs.declared.Args.{Args}
 use Rattle.table.specs.declared.Node.{Node}
-use Rattle.table.specs.declared.Node.the-variants.{Absent, Start, Set, Test, Read, Call, Wait, Signal, Send, Recv, Assert, Out, Return}
 use Rattle.table.specs.declared.Table.{Table}
 use Rattle.masks.specs.Bits.{bit-zero, bit-one, bit-one-out, bit-or-out, bit-or-l, bit-or-r, bit-minus, low-is}
 use Rattle.flow.specs.declared.Flow.{Flow}
-use Rattle.flow.specs.Flow.{low, operandDirty, operandsDirty, afterSet, oneFlow, argBit, passedBits, sentBit, flowOf}
-use Rattle.closing.specs.ReachLaws.{cases}
-use Rattle.analysis.specs.Ready.{One, FitsOperand, FitsNode}
+use Rattle.flow.specs.Flow.{low, anyOf, afterSet, argBit, passedBits, sentBit, isNever, fromBlank, setDirty, firstTo, secondTo, afterAny, outBy, addBy, flowOf}
+use Rattle.flow.specs.FlowLaws.{first-low, second-low}
+use Rattle.analysis.specs.Ready.{One, FitsExit, FitsNode}
 
 -- ---- targets
 
@@ -57,14 +55,6 @@ low-only o d = is-at o d ∙ sym (low-at o)
 none-in : {m : ℕ} {P : Type 0} → List·Memᴰ m (members 0) → P
 none-in {m} d = absurd (false≢true (sym (bit-zero m) ∙ members-is m 0 .0 d .0))
 
--- the arcs of a node with one arc
-one-only : {to m : ℕ} → One to → List·Memᴰ m (members to ++ members 0) → m ≡ low to
-one-only {to} {m} o d = go (List·Memᴰ·append-cases (members to) d)
-  where
-    go : List·Memᴰ m (members to) ⊎ List·Memᴰ m (members 0) → m ≡ low to
-    go (inl e) = low-only o e
-    go (inr e) = none-in e
-
 pub no-arc : {m : ℕ} {P : Type 0} → List·Memᴰ m (members 0 ++ members 0) → P
 no-arc {m} {P} d = go (List·Memᴰ·append-cases (members 0) d)
   where
@@ -72,49 +62,32 @@ no-arc {m} {P} d = go (List·Memᴰ·append-cases (members 0) d)
     go (inl e) = none-in e
     go (inr e) = none-in e
 
-pub targets : (t : Table) (vars : ℕ) (x : Node) (n i b m : ℕ) → FitsNode t vars x → List·Memᴰ m (arcs x) → (m ≡ flowOf x n i b .first) ⊎ (m ≡ flowOf x n i b .second)
-unfolding arcTo arcNo flowOf
-targets t vars Absent n i b m f d = no-arc d
-targets t vars (Start to) n i b m f d = inl (one-only f d)
-targets t vars (Set v o x y to) n i b m f d = inl (one-only (f .3) d)
-targets t vars (Test o x y g s) n i b m f d = go (List·Memᴰ·append-cases (members g) d)
+-- the targets of an exit
+to-of : (e : Exit) (n m : ℕ) → FitsExit e → List·Memᴰ m (members (firstArc e) ++ members (secondArc e)) → (m ≡ firstTo n e) ⊎ (m ≡ secondTo n e)
+to-of e n m f d = go e f (List·Memᴰ·append-cases (members (firstArc e)) d)
   where
-    go : List·Memᴰ m (members g) ⊎ List·Memᴰ m (members s) → (m ≡ low g) ⊎ (m ≡ low s)
-    go (inl e) = inl (low-only (f .2) e)
-    go (inr e) = inr (low-only (f .3) e)
-targets t vars (Read v to) n i b m f d = inl (one-only (f .1) d)
-targets t vars (Call q xs to) n i b m f d = inl (one-only (f .3) d)
-targets t vars (Wait s to) n i b m f d = inl (one-only f d)
-targets t vars (Signal s to) n i b m f d = inl (one-only f d)
-targets t vars (Send q v to) n i b m f d = inl (one-only (f .2) d)
-targets t vars (Recv q v to) n i b m f d = inl (one-only (f .2) d)
-targets t vars (Assert v to) n i b m f d = inl (one-only (f .1) d)
-targets t vars (Out v to) n i b m f d = inl (one-only (f .1) d)
-targets t vars Return n i b m f d = no-arc d
+    go : (e : Exit) → FitsExit e → List·Memᴰ m (members (firstArc e)) ⊎ List·Memᴰ m (members (secondArc e)) → (m ≡ firstTo n e) ⊎ (m ≡ secondTo n e)
+    go ends f (inl h) = none-in h
+    go ends f (inr h) = none-in h
+    go (by k) f (inl h) = inl (low-only f h)
+    go (by k) f (inr h) = none-in h
+    go (either y z) f (inl h) = inl (low-only (f .0) h)
+    go (either y z) f (inr h) = inr (low-only (f .1) h)
 
--- a target is an arc's, or the node has none and stays where it is
-pub record Aims (x : Node) (n : ℕ) (f : Flow) : Type 0 where
-  pub first-arc : (List·Memᴰ (f .first) (arcs x)) ⊎ (f .first ≡ n)
-  pub second-arc : (List·Memᴰ (f .second) (arcs x)) ⊎ (f .second ≡ n)
+pub targets : (t : Table) (vars : ℕ) (x : Node) (n i b m : ℕ) → FitsNode t vars x → List·Memᴰ m (arcs x) → (m ≡ flowOf x n i b .first) ⊎ (m ≡ flowOf x n i b .second)
+unfolding flowOf
+targets t vars x n i b m f d = to-of (parts x .exit) n m (f .exit) d
 
-one-aims : (x : Node) (n to out extra add : ℕ) → arcTo x ≡ to → One to → Aims x n (oneFlow to out extra add)
-one-aims x n to out extra add e o = let d : List·Memᴰ (low to) (arcs x) = Memᴰ·append-left (members (arcNo x)) (subst (λ (m : ℕ). List·Memᴰ (low to) (members m)) (sym e) (low-in o)) in record { first-arc = inl d; second-arc = inl d }
+-- each is an arc's, or there is none and the node stays where it is
+pub first-in : (e : Exit) (n : ℕ) → FitsExit e → (List·Memᴰ (firstTo n e) (members (firstArc e) ++ members (secondArc e))) ⊎ ((e ≡ ends) × (firstTo n e ≡ n))
+first-in ends n f = inr (refl, refl)
+first-in (by m) n f = inl (Memᴰ·append-left (members 0) (low-in f))
+first-in (either y z) n f = inl (Memᴰ·append-left (members z) (low-in (f .0)))
 
-pub aims : (t : Table) (vars : ℕ) (x : Node) (n i b : ℕ) → FitsNode t vars x → Aims x n (flowOf x n i b)
-unfolding arcTo arcNo flowOf
-aims t vars Absent n i b f = record { first-arc = inr refl; second-arc = inr refl }
-aims t vars (Start to) n i b f = one-aims (Start to) n to _ _ _ refl f
-aims t vars (Set v o x y to) n i b f = one-aims (Set v o x y to) n to _ _ _ refl (f .3)
-aims t vars (Test o x y g s) n i b f = record { first-arc = inl (Memᴰ·append-left (members s) (low-in (f .2))); second-arc = inl (Memᴰ·append-right (members g) (low-in (f .3))) }
-aims t vars (Read v to) n i b f = one-aims (Read v to) n to _ _ _ refl (f .1)
-aims t vars (Call q xs to) n i b f = one-aims (Call q xs to) n to _ _ _ refl (f .3)
-aims t vars (Wait s to) n i b f = one-aims (Wait s to) n to _ _ _ refl f
-aims t vars (Signal s to) n i b f = one-aims (Signal s to) n to _ _ _ refl f
-aims t vars (Send q v to) n i b f = one-aims (Send q v to) n to _ _ _ refl (f .2)
-aims t vars (Recv q v to) n i b f = one-aims (Recv q v to) n to _ _ _ refl (f .2)
-aims t vars (Assert v to) n i b f = one-aims (Assert v to) n to _ _ _ refl (f .1)
-aims t vars (Out v to) n i b f = one-aims (Out v to) n to _ _ _ refl (f .1)
-aims t vars Return n i b f = record { first-arc = inr refl; second-arc = inr refl }
+pub second-in : (e : Exit) (n : ℕ) → FitsExit e → (List·Memᴰ (secondTo n e) (members (firstArc e) ++ members (secondArc e))) ⊎ ((e ≡ ends) × (secondTo n e ≡ n))
+second-in ends n f = inr (refl, refl)
+second-in (by m) n f = inl (Memᴰ·append-left (members 0) (low-in f))
+second-in (either y z) n f = inl (Memᴰ·append-right (members y) (low-in (f .1)))
 
 -- ---- places and masks
 
@@ -127,19 +100,16 @@ pub record Places (f : Flow) : Type 0 where
 
 pub flow-places : (x : Node) (n i b : ℕ) → n < 32 → Places (flowOf x n i b)
 unfolding flowOf
-flow-places Absent n i b h = omega arith
-flow-places (Start to) n i b h = omega arith
-flow-places (Set v o x y to) n i b h = omega arith
-flow-places (Test o x y f s) n i b h = omega arith
-flow-places (Read v to) n i b h = omega arith
-flow-places (Call p xs to) n i b h = omega arith
-flow-places (Wait s to) n i b h = omega arith
-flow-places (Signal s to) n i b h = omega arith
-flow-places (Send q v to) n i b h = omega arith
-flow-places (Recv q v to) n i b h = omega arith
-flow-places (Assert v to) n i b h = omega arith
-flow-places (Out v to) n i b h = omega arith
-flow-places Return n i b h = omega arith
+flow-places x n i b h = record { first-low = first-low (parts x .exit) n h; second-low = second-low (parts x .exit) n h; extra-low = extra-in (act x) .0; extra-high = extra-in (act x) .1 }
+  where
+    extra-in : (a : Act) → (addBy a i .0 < 265) × (256 ≤ addBy a i .0)
+    extra-in alone = omega arith
+    extra-in (waits s) = omega arith
+    extra-in (signals s) = omega arith
+    extra-in (sends q v) = omega arith
+    extra-in (receives q v) = omega arith
+    extra-in (calls q xs) = omega arith
+    extra-in returns = omega arith
 
 small : (k : ℕ) → 2 ^ (k % 32) < 2 ^ 32
 small k = pow-lt {i = k % 32} {j = 32} (omega arith)
@@ -170,19 +140,25 @@ pub record Small (f : Flow) : Type 0 where
 
 pub flow-small : (x : Node) (n i b : ℕ) → i < 2 ^ 32 → Small (flowOf x n i b)
 unfolding flowOf
-flow-small Absent n i b h = record { out-small = h; add-small = pow-pos 32 }
-flow-small (Start to) n i b h = record { out-small = h; add-small = pow-pos 32 }
-flow-small (Set v o x y to) n i b h = record { out-small = after-small i v (operandsDirty x y i) h; add-small = pow-pos 32 }
-flow-small (Test o x y f s) n i b h = record { out-small = h; add-small = pow-pos 32 }
-flow-small (Read v to) n i b h = record { out-small = after-small i v true h; add-small = pow-pos 32 }
-flow-small (Call p xs to) n i b h = record { out-small = h; add-small = passed-small i xs }
-flow-small (Wait s to) n i b h = record { out-small = h; add-small = pow-pos 32 }
-flow-small (Signal s to) n i b h = record { out-small = h; add-small = pow-pos 32 }
-flow-small (Send q v to) n i b h = record { out-small = h; add-small = sent-small i q v }
-flow-small (Recv q v to) n i b h = record { out-small = after-small i v (bit (q % 32) b) h; add-small = pow-pos 32 }
-flow-small (Assert v to) n i b h = record { out-small = h; add-small = pow-pos 32 }
-flow-small (Out v to) n i b h = record { out-small = h; add-small = pow-pos 32 }
-flow-small Return n i b h = record { out-small = h; add-small = pow-pos 32 }
+flow-small x n i b h = record { out-small = out-by (parts x .exit) (variableSet x); add-small = add-by (act x) }
+  where
+    after-any : (s : Option ℕ) → afterAny s i (setDirty x i b) < 2 ^ 32
+    after-any none = h
+    after-any (some v) = after-small i v (setDirty x i b) h
+
+    out-by : (e : Exit) (s : Option ℕ) → outBy e i (afterAny s i (setDirty x i b)) < 2 ^ 32
+    out-by ends s = h
+    out-by (by m) s = after-any s
+    out-by (either y z) s = after-any s
+
+    add-by : (a : Act) → addBy a i .1 < 2 ^ 32
+    add-by alone = pow-pos 32
+    add-by (waits s) = pow-pos 32
+    add-by (signals s) = pow-pos 32
+    add-by (sends q v) = sent-small i q v
+    add-by (receives q v) = pow-pos 32
+    add-by (calls q xs) = passed-small i xs
+    add-by returns = pow-pos 32
 
 -- ---- after a setting
 
@@ -221,95 +197,83 @@ after-other i w v false h e = rw (bit-minus, h, clear)
 
 -- ---- whether what a node sets is dirty
 
-unfoldable pub setDirty : Node → ℕ → ℕ → Bool
-setDirty Absent i b = false
-setDirty (Start to) i b = false
-setDirty (Set v o x y to) i b = operandsDirty x y i
-setDirty (Test o x y f s) i b = false
-setDirty (Read v to) i b = true
-setDirty (Call p xs to) i b = false
-setDirty (Wait s to) i b = false
-setDirty (Signal s to) i b = false
-setDirty (Send q v to) i b = false
-setDirty (Recv q v to) i b = bit (q % 32) b
-setDirty (Assert v to) i b = false
-setDirty (Out v to) i b = false
-setDirty Return i b = false
-
 pub var-mod : {v vars : ℕ} → vars ≤ 16 → v < vars → v % 32 ≡ v
 var-mod l h = mod-eq-of-lt (omega arith)
 
--- a dirty operand is a dirty use, and back
-pub operands-out : (vars i : ℕ) (x y : Operand) → vars ≤ 16 → FitsOperand vars x → FitsOperand vars y → operandsDirty x y i ≡ true → (u : ℕ) × List·Memᴰ u (operandUses x ++ operandUses y) × (bit u i ≡ true)
-operands-out vars i x y l fx fy h = cases (operandDirty x i)
-    (λ e. let r = one x fx e in (r .0, Memᴰ·append-left (operandUses y) (r .1), r .2))
-    (λ e. let r = one y fy (rw e at h) in (r .0, Memᴰ·append-right (operandUses x) (r .1), r .2))
+-- one of some uses is dirty: which
+pub any-out : (i : ℕ) (us : List ℕ) → anyOf us i ≡ true → (u : ℕ) × List·Memᴰ u us × (bit (u % 32) i ≡ true)
+any-out i [] h = absurd (false≢true h)
+any-out i (u ∷ us) h = cases (bit (u % 32) i)
+    (λ e. (u, List·Memᴰ·head refl, e))
+    (λ e. let r = any-out i us (rw e at h) in (r .0, List·Memᴰ·tail (r .1), r .2))
+
+or-true : (a : Bool) → a || true ≡ true
+or-true true = refl
+or-true false = refl
+
+-- and back
+pub any-in : (i u : ℕ) (us : List ℕ) → List·Memᴰ u us → bit (u % 32) i ≡ true → anyOf us i ≡ true
+any-in i u us (List·Memᴰ·head e) h = rw (← e, h)
+any-in i u us (List·Memᴰ·tail {xs = r} m) h = rw (any-in i u r m h, or-true)
+
+-- what makes a setting dirty: the three rules
+pub data ByRule (x : Node) (i b : ℕ) : Type 0 where
+  by-never : keeping x ≡ never → ByRule x i b
+  by-use : (u : ℕ) → List·Memᴰ u (uses x) → bit (u % 32) i ≡ true → ByRule x i b
+  by-blank : (q v : ℕ) → act x ≡ receives q v → bit (q % 32) b ≡ true → ByRule x i b
+
+pub rule-of : (x : Node) (i b : ℕ) → setDirty x i b ≡ true → ByRule x i b
+rule-of x i b h = by-keeping (keeping x) refl h
   where
-    one : (x : Operand) → FitsOperand vars x → operandDirty x i ≡ true → (u : ℕ) × List·Memᴰ u (operandUses x) × (bit u i ≡ true)
-    one (Var v) f e = (v, List·Memᴰ·head refl, rw (var-mod l f) at e)
-    one (Const c) f e = absurd (false≢true e)
+    by-act : (a : Act) → act x ≡ a → fromBlank a b ≡ true → ByRule x i b
+    by-act alone e h = absurd (false≢true h)
+    by-act (waits s) e h = absurd (false≢true h)
+    by-act (signals s) e h = absurd (false≢true h)
+    by-act (sends q v) e h = absurd (false≢true h)
+    by-act (receives q v) e h = by-blank q v e h
+    by-act (calls q xs) e h = absurd (false≢true h)
+    by-act returns e h = absurd (false≢true h)
 
-pub operands-in : (vars i u : ℕ) (x y : Operand) → vars ≤ 16 → FitsOperand vars x → FitsOperand vars y → List·Memᴰ u (operandUses x ++ operandUses y) → bit u i ≡ true → operandsDirty x y i ≡ true
-operands-in vars i u x y l fx fy d h = go (List·Memᴰ·append-cases (operandUses x) d)
-  where
-    one : (x : Operand) → FitsOperand vars x → List·Memᴰ u (operandUses x) → operandDirty x i ≡ true
-    one (Var v) f (List·Memᴰ·head e) = rw (var-mod l f, ← e) h
-    one (Var v) f (List·Memᴰ·tail e) = absurd (List·Memᴰ·not-nil e)
-    one (Const c) f e = absurd (List·Memᴰ·not-nil e)
+    by-uses : anyOf (uses x) i || fromBlank (act x) b ≡ true → ByRule x i b
+    by-uses h = cases (anyOf (uses x) i)
+        (λ e. let r = any-out i (uses x) e in by-use (r .0) (r .1) (r .2))
+        (λ e. by-act (act x) refl (rw e at h))
 
-    or-true : (a : Bool) → a || true ≡ true
-    or-true true = refl
-    or-true false = refl
+    by-keeping : (k : Keeping) → keeping x ≡ k → isNever k || (anyOf (uses x) i || fromBlank (act x) b) ≡ true → ByRule x i b
+    by-keeping always e h = by-uses h
+    by-keeping ifClean e h = by-uses h
+    by-keeping never e h = by-never e
+    by-keeping absent e h = by-uses h
 
-    go : List·Memᴰ u (operandUses x) ⊎ List·Memᴰ u (operandUses y) → operandsDirty x y i ≡ true
-    go (inl e) = rw (one x fx e)
-    go (inr e) = rw (one y fy e, or-true)
+pub of-rule : (x : Node) (i b : ℕ) → ByRule x i b → setDirty x i b ≡ true
+of-rule x i b (by-never e) = rw e
+of-rule x i b (by-use u m h) = rw (any-in i u (uses x) m h, or-true)
+of-rule x i b (by-blank q v e h) = rw (e, h, or-true, or-true)
 
 -- ---- the rules that go along the arcs
 
-module _ (t : Table) (vars n i b : ℕ) (few : vars ≤ 16) where
-  none-some : {P : Type 0} {v : ℕ} → none ≡ some v → P
-  none-some e = let z : _≡_ {A = ℕ} 0 1 = cc in absurd (omega arith)
-
-  own : (w v : ℕ) (d : Bool) → w < vars → some w ≡ some v → d ≡ true → bit v (afterSet i d (2 ^ (w % 32))) ≡ true
-  own w v d l e h = let z : w ≡ v = cc in rw (var-mod few l, ← z) (after-own i w d h)
-
-  other : (w v : ℕ) (d : Bool) → w < vars → some w ≢ some v → bit v i ≡ true → bit v (afterSet i d (2 ^ (w % 32))) ≡ true
-  other w v d l e h = rw (var-mod few l) (after-other i w v d h (λ z. e (ap some z)))
+module _ (t : Table) (vars n i b : ℕ) (few : vars ≤ 16) (x : Node) (f : FitsNode t vars x) where
+  -- out of a node with an arc goes what is dirty after it
+  out-is : {m : ℕ} → List·Memᴰ m (arcs x) → flowOf x n i b .out ≡ afterAny (variableSet x) i (setDirty x i b)
+  unfolding flowOf
+  out-is {m} a = go (parts x .exit) refl
+    where
+      go : (e : Exit) → parts x .exit ≡ e → outBy e i (afterAny (variableSet x) i (setDirty x i b)) ≡ afterAny (variableSet x) i (setDirty x i b)
+      go ends e = no-arc (subst (λ (z : Exit). List·Memᴰ m (members (firstArc z) ++ members (secondArc z))) e a)
+      go (by k) e = refl
+      go (either y z) e = refl
 
   -- a dirty setting goes out of the node
-  pub out-after : (x : Node) (v : ℕ) → FitsNode t vars x → variableSet x ≡ some v → setDirty x i b ≡ true → bit v (flowOf x n i b .out) ≡ true
-  unfolding variableSet setDirty flowOf
-  out-after Absent v f h d = none-some h
-  out-after (Start to) v f h d = none-some h
-  out-after (Set w o x y to) v f h d = own w v (operandsDirty x y i) (f .0) h d
-  out-after (Test o x y g s) v f h d = none-some h
-  out-after (Read w to) v f h d = own w v true (f .0) h d
-  out-after (Call p xs to) v f h d = none-some h
-  out-after (Wait s to) v f h d = none-some h
-  out-after (Signal s to) v f h d = none-some h
-  out-after (Send q w to) v f h d = none-some h
-  out-after (Recv q w to) v f h d = own w v (bit (q % 32) b) (f .1) h d
-  out-after (Assert w to) v f h d = none-some h
-  out-after (Out w to) v f h d = none-some h
-  out-after Return v f h d = none-some h
+  pub out-after : (v : ℕ) {m : ℕ} → List·Memᴰ m (arcs x) → variableSet x ≡ some v → setDirty x i b ≡ true → bit v (flowOf x n i b .out) ≡ true
+  out-after v a h d = rw (out-is a, h, var-mod few (f .sets v h)) (after-own i v (setDirty x i b) d)
 
   -- what the node does not set goes through it
-  pub out-along : (x : Node) (v m : ℕ) → FitsNode t vars x → variableSet x ≢ some v → List·Memᴰ m (arcs x) → bit v i ≡ true → bit v (flowOf x n i b .out) ≡ true
-  unfolding variableSet arcTo arcNo flowOf
-  out-along Absent v m f h a d = no-arc a
-  out-along (Start to) v m f h a d = d
-  out-along (Set w o x y to) v m f h a d = other w v (operandsDirty x y i) (f .0) h d
-  out-along (Test o x y g s) v m f h a d = d
-  out-along (Read w to) v m f h a d = other w v true (f .0) h d
-  out-along (Call p xs to) v m f h a d = d
-  out-along (Wait s to) v m f h a d = d
-  out-along (Signal s to) v m f h a d = d
-  out-along (Send q w to) v m f h a d = d
-  out-along (Recv q w to) v m f h a d = other w v (bit (q % 32) b) (f .1) h d
-  out-along (Assert w to) v m f h a d = d
-  out-along (Out w to) v m f h a d = d
-  out-along Return v m f h a d = no-arc a
+  pub out-along : (v : ℕ) {m : ℕ} → List·Memᴰ m (arcs x) → variableSet x ≢ some v → bit v i ≡ true → bit v (flowOf x n i b .out) ≡ true
+  out-along v a h d = rw (out-is a) (go (variableSet x) refl)
+    where
+      go : (s : Option ℕ) → variableSet x ≡ s → bit v (afterAny s i (setDirty x i b)) ≡ true
+      go none e = d
+      go (some w) e = rw (var-mod few (f .sets w e)) (after-other i w v (setDirty x i b) d (λ z. h (e ∙ ap some z)))
 
 -- ---- arguments
 

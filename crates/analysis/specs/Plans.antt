@@ -12,30 +12,13 @@ use borrow.Author.Tests.{eqb-true, eqb-false}
 use Rattle.table.specs.Mask.{maskOf}
 use Rattle.table.specs.Table.{procAt, nodeIn, nodeAt}
 use Rattle.table.specs.declared.Node.{Node}
-use Rattle.table.specs.declared.Node.the-variants.{Absent, Start, Set, Test, Read, Call, Wait, Signal, Send, Recv, Assert, Out, Return}
 use Rattle.table.specs.declared.Proc.{Proc}
 use Rattle.table.specs.declared.Table.{Table}
 use Rattle.masks.specs.Cells.{cell, Filled, set-more}
 use Rattle.flow.specs.declared.Pass.{Pass}
 use Rattle.flow.specs.Flow.{passOf}
+use Rattle.flow.specs.FlowLaws.{pass-low}
 use Rattle.analysis.specs.Sources.{isRead, isRecv, readIn, recvIn, Reads, Receivers, marks}
-
--- a target, or 32
-pass-low : (x : Node) (n : ℕ) → n ≤ 32 → passOf x n .to ≤ 32
-unfolding passOf
-pass-low Absent n h = h
-pass-low (Start to) n h = omega arith
-pass-low (Set v o x y to) n h = omega arith
-pass-low (Test o x y f s) n h = omega arith
-pass-low (Read v to) n h = omega arith
-pass-low (Call q xs to) n h = omega arith
-pass-low (Wait s to) n h = omega arith
-pass-low (Signal s to) n h = omega arith
-pass-low (Send q v to) n h = omega arith
-pass-low (Recv q v to) n h = omega arith
-pass-low (Assert v to) n h = omega arith
-pass-low (Out v to) n h = omega arith
-pass-low Return n h = h
 
 pub pass-small : {s : Pass} (x : Node) (n : ℕ) → s ≡ passOf x n → n ≤ 32 → s .to ≤ 32
 pass-small x n e h = rw e (pass-low x n h)

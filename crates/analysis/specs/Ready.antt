@@ -1,15 +1,12 @@
 -- What the closer needs of a table. Each holds of an open table without a fault.
 use Prim.Native.Nat.{ℕ, _<_, _≤_}
 use mathlib.Core.Path.{_≡_}
-use mathlib.Core.List.{[], _∷_}
+use mathlib.Core.List.{[], _∷_, List·Memᴰ}
+use mathlib.Core.Option.{some}
 use lib.ListN.{length}
 use Rattle.table.specs.Mask.{members}
-use Rattle.table.specs.Table.{taskAt, procAt, nodeAt, argAt}
-use Rattle.table.specs.declared.Operand.{Operand}
-use Rattle.table.specs.declared.Operand.the-variants.{Var, Const}
-use Rattle.table.specs.declared.Args.{Args}
+use Rattle.table.specs.Table.{taskAt, procAt, nodeAt, argAt, Exit, ends, by, either, Act, alone, waits, signals, sends, receives, calls, returns, parts, uses, variableSet, act}
 use Rattle.table.specs.declared.Node.{Node}
-use Rattle.table.specs.declared.Node.the-variants.{Absent, Start, Set, Test, Read, Call, Wait, Signal, Send, Recv, Assert, Out, Return}
 use Rattle.table.specs.declared.Table.{Table}
 
 -- an arc with one target
@@ -17,28 +14,26 @@ pub record One (m : ℕ) : Type 0 where
   pub at : ℕ
   pub is : members m ≡ at ∷ []
 
-abbrev pub FitsOperand : ℕ → Operand → Type 0
-FitsOperand vars (Var v) = v < vars
-FitsOperand vars (Const c) = Unit {0}
+abbrev pub FitsExit : Exit → Type 0
+FitsExit ends = Unit {0}
+FitsExit (by m) = One m
+FitsExit (either y n) = One y × One n
 
-abbrev pub FitsArgs : ℕ → Args → Type 0
-FitsArgs vars xs = (i : ℕ) → i < xs .len → argAt xs i < vars
+-- of a procedure with so many variables
+abbrev pub FitsAct : Table → ℕ → Act → Type 0
+FitsAct t vars alone = Unit {0}
+FitsAct t vars (waits s) = Unit {0}
+FitsAct t vars (signals s) = Unit {0}
+FitsAct t vars (sends q v) = (q < 8) × (v < vars)
+FitsAct t vars (receives q v) = q < 8
+FitsAct t vars (calls q xs) = (q < 8) × (xs .len ≤ procAt t q .params) × ((i : ℕ) → i < xs .len → argAt xs i < vars)
+FitsAct t vars returns = Unit {0}
 
--- a node of a procedure with so many variables
-abbrev pub FitsNode : Table → ℕ → Node → Type 0
-FitsNode t vars Absent = Unit {0}
-FitsNode t vars (Start to) = One to
-FitsNode t vars (Set v o a b to) = (v < vars) × FitsOperand vars a × FitsOperand vars b × One to
-FitsNode t vars (Test o a b y n) = FitsOperand vars a × FitsOperand vars b × One y × One n
-FitsNode t vars (Read v to) = (v < vars) × One to
-FitsNode t vars (Call q xs to) = (q < 8) × (xs .len ≤ procAt t q .params) × FitsArgs vars xs × One to
-FitsNode t vars (Wait s to) = One to
-FitsNode t vars (Signal s to) = One to
-FitsNode t vars (Send q v to) = (q < 8) × (v < vars) × One to
-FitsNode t vars (Recv q v to) = (q < 8) × (v < vars) × One to
-FitsNode t vars (Assert v to) = (v < vars) × One to
-FitsNode t vars (Out v to) = (v < vars) × One to
-FitsNode t vars Return = Unit {0}
+pub record FitsNode (t : Table) (vars : ℕ) (x : Node) : Type 0 where
+  pub uses : (u : ℕ) → List·Memᴰ u (uses x) → u < vars
+  pub sets : (v : ℕ) → variableSet x ≡ some v → v < vars
+  pub act : FitsAct t vars (act x)
+  pub exit : FitsExit (parts x .exit)
 
 pub record Ready (t : Table) : Type 0 where
   pub procs-size : length (t .proc) ≡ 8

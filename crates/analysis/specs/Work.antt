@@ -12,6 +12,7 @@ use lib.Seq.{getD-set-other}
 use lib.Bits.{bitOr, or-lt}
 use lib.Pow.{pow-lt}
 use lib.Dec.{ltb}
+use Rattle.table.specs.Cases.{cases}
 use Rattle.table.specs.Mask.{pick, bit}
 use Rattle.table.specs.Table.{procAt, nodeAt, nodeIn}
 use Rattle.table.specs.declared.Node.{Node}
@@ -22,7 +23,6 @@ use Rattle.masks.specs.Cells.{cell, sum, grown, Masks, masks-sum, Flag, grown-g
 use Rattle.masks.specs.Left.{left, less-left}
 use Rattle.flow.specs.declared.Flow.{Flow}
 use Rattle.flow.specs.Flow.{flowOf}
-use Rattle.closing.specs.ReachLaws.{cases}
 use Rattle.analysis.specs.Ready.{Ready}
 use Rattle.analysis.specs.Decides.{Decides}
 use Rattle.analysis.specs.Steps.{entered, passedOn, stepWith, Held, Rests, topStep}

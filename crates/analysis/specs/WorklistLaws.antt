@@ -12,6 +12,7 @@ use lib.Seq.{getD-set-same, getD-set-other, ext-getD}
 use lib.Bits.{bitOr, or-zero-r}
 use lib.Dec.{eqb, ltb}
 use borrow.Author.Tests.{eq-eqb, ne-eqb, lt-ltb, le-ltb, ltb-true, ltb-false, eqb-true, eqb-false}
+use Rattle.table.specs.Cases.{cases}
 use Rattle.table.specs.Mask.{pick}
 use Rattle.table.specs.Table.{nodeIn}
 use Rattle.table.specs.declared.Node.{Node}
@@ -22,7 +23,6 @@ use Rattle.flow.specs.declared.Flow.{Flow}
 use Rattle.flow.specs.declared.Pass.{Pass}
 use Rattle.flow.specs.Flow.{low, flowOf, passOf, afterPass}
 use Rattle.flow.specs.FlowLaws.{passFlow, pass-flow}
-use Rattle.closing.specs.ReachLaws.{cases}
 use Rattle.analysis.specs.declared.Next.{Next}
 use Rattle.analysis.specs.NodeLaws.{Places, flow-places}
 use Rattle.analysis.specs.Steps.{entered, passedOn, stepWith}

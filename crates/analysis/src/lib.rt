@@ -14,7 +14,7 @@ ghost use Rattle.flow.specs.Flow.{flowOf, passOf, afterPass};
 ghost use Rattle.analysis.specs.Ready.{Ready};
 ghost use Rattle.analysis.specs.Decides.{Decides, KeptMasks};
 ghost use Rattle.analysis.specs.Steps.{entered, passedOn, stepWith, keptIn};
-ghost use Rattle.analysis.specs.Sources.{sourceOf, readIn, recvIn};
+ghost use Rattle.analysis.specs.Sources.{isRead, isRecv, readIn, recvIn};
 ghost use Rattle.analysis.specs.Plans.{storedFrom, passAt, Planned};
 ghost use Rattle.analysis.specs.Worklist.{isNew, todoReached, woken, todoBlank, todoPassed, todoStepped, nextTo, todoTaken, Seen, pendingOf};
 ghost use Rattle.analysis.specs.Work.{Sized, Works};
@@ -243,49 +243,29 @@ fn low_bits(k: u8) -> u32
     (1 << (k as u32)) - 1
 }
 
-// After a source a variable can be dirty though none is dirty before it: 1, a read; 2, a receive, if its queue is blank; 0, every
-// other node.
-fn source(x: Node) -> u8
-    ensures { λ r. ⌜ r ≡ sourceOf x ⌝ }
+// After a source a variable can be dirty though none is dirty before it: a read,
+fn is_read(x: Node) -> bool
+    ensures { λ r. ⌜ r ≡ isRead x ⌝ }
 {
-    match x {
-        Node::Absent => 0,
-        Node::Start { to: _ } => 0,
-        Node::Set {
-            var: _,
-            op: _,
-            a: _,
-            b: _,
-            to: _,
-        } => 0,
-        Node::Test {
-            op: _,
-            a: _,
-            b: _,
-            yes: _,
-            no: _,
-        } => 0,
-        Node::Read { var: _, to: _ } => 1,
-        Node::Call {
-            callee: _,
-            args: _,
-            to: _,
-        } => 0,
-        Node::Wait { sem: _, to: _ } => 0,
-        Node::Signal { sem: _, to: _ } => 0,
-        Node::Send {
-            queue: _,
-            var: _,
-            to: _,
-        } => 0,
-        Node::Recv {
-            queue: _,
-            var: _,
-            to: _,
-        } => 2,
-        Node::Assert { var: _, to: _ } => 0,
-        Node::Out { var: _, to: _ } => 0,
-        Node::Return => 0,
+    if let Node::Read { var: _, to: _ } = x {
+        true
+    } else {
+        false
+    }
+}
+
+// or a receive, if its queue is blank.
+fn is_recv(x: Node) -> bool
+    ensures { λ r. ⌜ r ≡ isRecv x ⌝ }
+{
+    if let Node::Recv {
+        queue: _,
+        var: _,
+        to: _,
+    } = x {
+        true
+    } else {
+        false
     }
 }
 
@@ -317,9 +297,10 @@ fn plan(
     while n < 32 {
         let y = q.slots[n];
         let x = y.node;
-        let k = source(x);
-        reads = masks::with(reads, n, k == 1);
-        recvs = masks::with(recvs, n, k == 2);
+        let read = is_read(x);
+        let recv = is_recv(x);
+        reads = masks::with(reads, n, read);
+        recvs = masks::with(recvs, n, recv);
         let s = flow::pass_of(x, n);
         let at = p * 32 + n;
         uses[at] = s.uses;

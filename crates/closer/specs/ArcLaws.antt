@@ -6,10 +6,10 @@ use mathlib.Core.Bool.{false}
 use mathlib.Core.Logic.{_⊎_, inl, inr}
 use mathlib.Core.List.{List, [], _∷_, List·Memᴰ, List·Memᴰ·head, List·Memᴰ·tail, List·Memᴰ·not-nil}
 use Rattle.table.specs.Mask.{bit, members, maskOf}
-use Rattle.table.specs.Table.{procAt, nodeAt, arcs, arcTo, arcNo, keeping}
+use Rattle.table.specs.Table.{procAt, nodeAt, arcs, Exit, parts}
 use Rattle.table.specs.declared.Node.{Node}
 use Rattle.table.specs.declared.Table.{Table}
-use Rattle.closing.specs.Dirty.{Unkept, never-kept, Leads, target, through}
+use Rattle.closing.specs.Dirty.{Unkept, no-node, Leads, target, through}
 use Rattle.closing.specs.ClosedTable.{NewArc}
 use Rattle.closing.specs.Closing.{dirty}
 use Rattle.closing.specs.Close.{unkeptArcs, newArc}
@@ -17,12 +17,11 @@ use Rattle.closing.specs.KeptLaws.{unkept-is, kept-is}
 use Rattle.closing.specs.ArcLaws.{arc-is}
 use Rattle.closing.specs.ClosedTableLaws.{arc-only}
 use Rattle.masks.specs.Cells.{Filled}
-use Rattle.flow.specs.declared.Flow.{Flow}
-use Rattle.flow.specs.Flow.{low, flowOf}
+use Rattle.flow.specs.Flow.{low, firstTo, secondTo, flowOf}
 use Rattle.analysis.specs.Ready.{One, Ready}
 use Rattle.analysis.specs.Decides.{Decides}
 use Rattle.analysis.specs.Steps.{keptIn}
-use Rattle.analysis.specs.NodeLaws.{low-in, low-only, no-arc, targets, aims, flow-places}
+use Rattle.analysis.specs.NodeLaws.{low-in, low-only, no-arc, targets, first-in, second-in, Places, flow-places}
 use Rattle.analysis.specs.Decide.{present}
 use Rattle.analysis.specs.KeptLaws.{kept-bit}
 use Rattle.reach.specs.Reach as Search
@@ -45,43 +44,49 @@ module _ (t : Table) (o : Ready t) (l : List ℕ) (d : Decides t l) (p : ℕ) (h
   keeps = maskOf 32 (keptIn (procAt t p) (p * 32) l)
 
   has-arc : (n m : ℕ) → List·Memᴰ m (arcs (nodeAt t p n)) → n < 32
-  unfolding arcTo arcNo
+  unfolding parts
   has-arc n m a = present t o p n (λ e. no-arc (subst (λ (x : Node). List·Memᴰ m (arcs x)) e a)) .1
 
   is-kept : (n : ℕ) → (Unkept t p n → ⊥) → n < 32
-  unfolding keeping
-  is-kept n h = present t o p n (λ e. h (never-kept (rw e))) .1
+  unfolding parts
+  is-kept n h = present t o p n (λ e. h (no-node (rw e))) .1
 
   unkept : (n : ℕ) → n < 32 → bit n keeps ≡ false → Unkept t p n
   unfolding keeps
   unkept n h e = unkept-is t p n .0 (sym (kept-bit t o l d p n hp h) ∙ e)
 
   module _ (n : ℕ) (h : n < 32) where
-    f : Flow
-    f = flowOf (nodeAt t p n) n 0 0
+    abbrev e : Exit
+    e = parts (nodeAt t p n) .exit
 
-    first-is : Search.firstOf ends n ≡ f .first
-    unfolding f
-    first-is = let k = flow-places (nodeAt t p n) n 0 0 h in let e = ends-are n h in omega (arith, k .first-low, k .second-low)
+    places : Places (flowOf (nodeAt t p n) n 0 0)
+    places = flow-places (nodeAt t p n) n 0 0 h
 
-    second-is : Search.secondOf ends n ≡ f .second
-    unfolding f
-    second-is = let k = flow-places (nodeAt t p n) n 0 0 h in let e = ends-are n h in omega (arith, k .first-low, k .second-low)
+    first-is : Search.firstOf ends n ≡ firstTo n e
+    unfolding flowOf
+    first-is = let z = ends-are n h in omega (arith, places .first-low, places .second-low)
+
+    second-is : Search.secondOf ends n ≡ secondTo n e
+    unfolding flowOf
+    second-is = let z = ends-are n h in omega (arith, places .first-low, places .second-low)
 
     -- an end is a target of an arc, or the node itself
+    side : {A : Type 0} {m k : ℕ} → m ≡ k → List·Memᴰ k (arcs (nodeAt t p n)) ⊎ (A × (k ≡ n)) → List·Memᴰ m (arcs (nodeAt t p n)) ⊎ (m ≡ n)
+    side z (inl a) = inl (rw z a)
+    side z (inr a) = inr (z ∙ a .1)
+
     end-arc : (m : ℕ) → Search.IsEnd ends n m → List·Memᴰ m (arcs (nodeAt t p n)) ⊎ (m ≡ n)
-    unfolding f
-    end-arc m (inl z) = subst (λ (j : ℕ). List·Memᴰ j (arcs (nodeAt t p n)) ⊎ (j ≡ n)) (sym (z ∙ first-is)) (aims t (procAt t p .vars) (nodeAt t p n) n 0 0 (o .fits p n) .first-arc)
-    end-arc m (inr z) = subst (λ (j : ℕ). List·Memᴰ j (arcs (nodeAt t p n)) ⊎ (j ≡ n)) (sym (z ∙ second-is)) (aims t (procAt t p .vars) (nodeAt t p n) n 0 0 (o .fits p n) .second-arc)
+    end-arc m (inl z) = side (z ∙ first-is) (first-in e n (o .fits p n .exit))
+    end-arc m (inr z) = side (z ∙ second-is) (second-in e n (o .fits p n .exit))
 
     -- and a target of an arc is an end
     arc-end : (m : ℕ) → List·Memᴰ m (arcs (nodeAt t p n)) → Search.IsEnd ends n m
-    unfolding f
+    unfolding flowOf
     arc-end m a = go (targets t (procAt t p .vars) (nodeAt t p n) n 0 0 m (o .fits p n) a)
       where
-        go : (m ≡ f .first) ⊎ (m ≡ f .second) → Search.IsEnd ends n m
-        go (inl e) = inl (e ∙ sym first-is)
-        go (inr e) = inr (e ∙ sym second-is)
+        go : (m ≡ firstTo n e) ⊎ (m ≡ secondTo n e) → Search.IsEnd ends n m
+        go (inl z) = inl (z ∙ sym first-is)
+        go (inr z) = inr (z ∙ sym second-is)
 
   -- ---- the two ways are the same
 

@@ -6,15 +6,15 @@ use mathlib.Core.List.{List}
 use lib.ListN.{length, getD}
 use lib.Dec.{ltb}
 use Rattle.table.specs.Mask.{pick, bit, maskOf}
-use Rattle.table.specs.Table.{removed, nodeIn, noSlot, noQueue}
+use Rattle.table.specs.Table.{removed, nodeIn, noSlot, noQueue, Act, alone, waits, signals, sends, receives, calls, returns, act, parts, mapArgs, mapNode}
 use Rattle.table.specs.declared.Args.{Args}
 use Rattle.table.specs.declared.Node.{Node}
-use Rattle.table.specs.declared.Node.the-variants.{Absent, Start, Set, Test, Read, Call, Wait, Signal, Send, Recv, Assert, Out, Return}
+use Rattle.table.specs.declared.Node.the-variants.{Absent}
 use Rattle.table.specs.declared.Slot.{Slot}
 use Rattle.table.specs.declared.Queue.{Queue}
 use Rattle.table.specs.declared.Proc.{Proc}
 use Rattle.masks.specs.Cells.{cell, Filled}
-use Rattle.flow.specs.Flow.{low, flowOf}
+use Rattle.flow.specs.Flow.{low, firstTo, secondTo}
 use Rattle.analysis.specs.Steps.{keptIn}
 use Rattle.reach.specs.Reach.{Reaches}
 
@@ -24,31 +24,29 @@ twoEnds f s = f * 32 + s
 
 -- the two targets of a node
 abbrev pub endOf : Node → ℕ → ℕ
-endOf x n = twoEnds (flowOf x n 0 0 .first) (flowOf x n 0 0 .second)
+endOf x n = twoEnds (firstTo n (parts x .exit)) (secondTo n (parts x .exit))
 
 -- d: the callee's dropped parameters
 abbrev pub argWith : ℕ → ℕ → ℕ → ℕ → ℕ
 argWith d len k v = pick (ltb k len && bit (k % 32) d) removed v
 
 abbrev pub argsWith : ℕ → Args → Args
-argsWith d x = record { len = x .len; a0 = argWith d (x .len) 0 (x .a0); a1 = argWith d (x .len) 1 (x .a1); a2 = argWith d (x .len) 2 (x .a2); a3 = argWith d (x .len) 3 (x .a3) }
+argsWith d x = mapArgs (argWith d (x .len)) x
 
 -- a kept node in the closed table. i: the variables that are dirty before it; d: the dropped parameters of each procedure; b: the blank
 -- queues; arc: the new arc for an open one
-unfoldable pub nodeWith : ℕ → (ℕ → ℕ) → ℕ → (ℕ → ℕ) → Node → Node
-nodeWith i d b arc Absent = Absent
-nodeWith i d b arc (Start to) = Start (arc to)
-nodeWith i d b arc (Set v o x y to) = Set v o x y (arc to)
-nodeWith i d b arc (Test o x y f s) = Test o x y (arc f) (arc s)
-nodeWith i d b arc (Read v to) = Absent
-nodeWith i d b arc (Call q xs to) = Call q (argsWith (d q) xs) (arc to)
-nodeWith i d b arc (Wait s to) = Wait s (arc to)
-nodeWith i d b arc (Signal s to) = Signal s (arc to)
-nodeWith i d b arc (Send q v to) = Send q (pick (bit (q % 32) b) removed v) (arc to)
-nodeWith i d b arc (Recv q v to) = Recv q (pick (bit (q % 32) b) removed v) (arc to)
-nodeWith i d b arc (Assert v to) = Assert (pick (bit (v % 32) i) removed v) (arc to)
-nodeWith i d b arc (Out v to) = Out (pick (bit (v % 32) i) removed v) (arc to)
-nodeWith i d b arc Return = Return
+module _ (i : ℕ) (d : ℕ → ℕ) (b : ℕ) where
+  abbrev pub varWith : Act → ℕ → ℕ → ℕ
+  varWith alone k v = pick (bit (v % 32) i) removed v
+  varWith (waits s) k v = v
+  varWith (signals s) k v = v
+  varWith (sends q w) k v = pick (bit (q % 32) b) removed v
+  varWith (receives q w) k v = pick (bit (q % 32) b) removed v
+  varWith (calls q xs) k v = argWith (d q) (xs .len) k v
+  varWith returns k v = v
+
+  unfoldable pub nodeWith : (ℕ → ℕ) → Node → Node
+  nodeWith arc x = mapNode arc (varWith (act x)) x
 
 -- l: the cells
 abbrev pub dropIn : List ℕ → ℕ → ℕ

@@ -4,64 +4,60 @@ use native.Mathlib.Omega.{arith}
 use native.Mathlib.Nat.{mod-eq-of-lt}
 use mathlib.Core.Path.{_≡_, refl, sym, _∙_, ap}
 use mathlib.Core.Bool.{Bool, true, false}
-use mathlib.Core.List.{List}
+use mathlib.Core.List.{List, List·Memᴰ·head}
 use lib.ListN.{length, getD}
 use lib.Dec.{ltb}
 use lib.Pow.{pow-lt}
 use borrow.Author.Tests.{ltb-true, ltb-false}
+use Rattle.table.specs.Cases.{cases}
 use Rattle.table.specs.Mask.{pick, bit, maskOf}
 use Rattle.table.specs.MaskLaws.{maskOf-lt, bit-maskOf, bit-maskOf-above, bit-ext}
-use Rattle.table.specs.Table.{removed, procAt, nodeAt, noSlot, noQueue, outside}
-use Rattle.table.specs.declared.Args.{Args}
+use Rattle.table.specs.Table.{removed, procAt, nodeAt, noSlot, noQueue, outside, parts, mapNode}
 use Rattle.table.specs.declared.Node.{Node}
 use Rattle.table.specs.declared.Node.the-variants.{Absent, Start, Set, Test, Read, Call, Wait, Signal, Send, Recv, Assert, Out, Return}
 use Rattle.table.specs.declared.Slot.{Slot}
 use Rattle.table.specs.declared.Queue.{Queue}
 use Rattle.table.specs.declared.Proc.{Proc}
 use Rattle.table.specs.declared.Table.{Table}
-use Rattle.closing.specs.ReachLaws.{cases}
-use Rattle.closing.specs.Dirty.{Fact, useAt, dropped, blank}
+use Rattle.closing.specs.Dirty.{Fact, dirtyBefore, dropped, blank}
 use Rattle.closing.specs.Closing.{dirty, isDirty, kept}
-use Rattle.closing.specs.Close.{mapFrom, unkeptArcs, newArc, argsOr, closedNode, closedSlot, closedProc, closedQueue, closedWith, closeTable}
+use Rattle.closing.specs.DirtyLaws.{dropped-low}
+use Rattle.closing.specs.Close.{mapFrom, unkeptArcs, newArc, closedNode, closedSlot, closedProc, closedQueue, closedWith, closeTable}
 use Rattle.masks.specs.Cells.{cell}
 use Rattle.analysis.specs.Ready.{One, FitsNode, Ready}
 use Rattle.analysis.specs.Decides.{Decides}
 use Rattle.analysis.specs.Steps.{keptIn}
 use Rattle.analysis.specs.NodeLaws.{var-mod}
-use Rattle.analysis.specs.Decide.{dropped-low}
 use Rattle.analysis.specs.KeptLaws.{read-use, read-drop, read-blank, kept-bit}
-use Rattle.closer.specs.Parts.{argsWith, nodeWith, dropIn, arcIn, slotWith, ClosedQueues, ClosedProc}
+use Rattle.closer.specs.Parts.{nodeWith, dropIn, arcIn, slotWith, ClosedQueues, ClosedProc}
 use Rattle.closer.specs.ListLaws.{mapped}
 use Rattle.closer.specs.ArcLaws.{arc-right}
 
 -- ---- a kept node
 
 module _ (t : Table) (d : List Fact) (p n i b vars : ℕ) (D arc arc′ : ℕ → ℕ) (few : vars ≤ 16)
-    (hi : (v : ℕ) → bit v i ≡ isDirty d (useAt p n v)) (hb : (q : ℕ) → bit q b ≡ isDirty d (blank q))
+    (hi : (v : ℕ) → bit v i ≡ isDirty d (dirtyBefore p n v)) (hb : (q : ℕ) → bit q b ≡ isDirty d (blank q))
     (hd : (q k : ℕ) → q < 8 → bit k (D q) ≡ isDirty d (dropped q k)) (ha : (to : ℕ) → One to → arc to ≡ arc′ to) where
-  args-are : (q : ℕ) (xs : Args) → q < 8 → argsWith (D q) xs ≡ argsOr t d q xs
-  args-are q xs l = rw (hd q 0 l, hd q 1 l, hd q 2 l, hd q 3 l)
-
   queue-is : (q v : ℕ) → q < 8 → pick (bit (q % 32) b) removed v ≡ pick (isDirty d (blank q)) removed v
   queue-is q v l = let e : q % 32 ≡ q = mod-eq-of-lt (omega arith) in rw (e, hb q)
 
-  use-is : (v : ℕ) → v < vars → pick (bit (v % 32) i) removed v ≡ pick (isDirty d (useAt p n v)) removed v
+  use-is : (v : ℕ) → v < vars → pick (bit (v % 32) i) removed v ≡ pick (isDirty d (dirtyBefore p n v)) removed v
   use-is v l = rw (var-mod few l, hi v)
 
   node-is : (x : Node) → FitsNode t vars x → nodeWith i D b arc x ≡ closedNode t d p n arc′ x
-  unfolding nodeWith closedNode
+  unfolding nodeWith closedNode mapNode parts
   node-is Absent f = refl
-  node-is (Start to) f = rw (ha to f)
-  node-is (Set v o x y to) f = rw (ha to (f .3))
-  node-is (Test o x y g s) f = rw (ha g (f .2), ha s (f .3))
-  node-is (Read v to) f = refl
-  node-is (Call q xs to) f = rw (args-are q xs (f .0), ha to (f .3))
-  node-is (Wait s to) f = rw (ha to f)
-  node-is (Signal s to) f = rw (ha to f)
-  node-is (Send q v to) f = rw (queue-is q v (f .0), ha to (f .2))
-  node-is (Recv q v to) f = rw (queue-is q v (f .0), ha to (f .2))
-  node-is (Assert v to) f = rw (use-is v (f .0), ha to (f .1))
-  node-is (Out v to) f = rw (use-is v (f .0), ha to (f .1))
+  node-is (Start to) f = rw (ha to (f .exit))
+  node-is (Set v o x y to) f = rw (ha to (f .exit))
+  node-is (Test o x y g s) f = rw (ha g (f .exit .0), ha s (f .exit .1))
+  node-is (Read v to) f = rw (ha to (f .exit))
+  node-is (Call q xs to) f = let l = f .act .0 in rw (hd q 0 l, hd q 1 l, hd q 2 l, hd q 3 l, ha to (f .exit))
+  node-is (Wait s to) f = rw (ha to (f .exit))
+  node-is (Signal s to) f = rw (ha to (f .exit))
+  node-is (Send q v to) f = rw (queue-is q v (f .act .0), ha to (f .exit))
+  node-is (Recv q v to) f = rw (queue-is q v (f .act), ha to (f .exit))
+  node-is (Assert v to) f = rw (use-is v (f .uses v (List·Memᴰ·head refl)), ha to (f .exit))
+  node-is (Out v to) f = rw (use-is v (f .uses v (List·Memᴰ·head refl)), ha to (f .exit))
   node-is Return f = refl
 
 module _ (t : Table) (o : Ready t) (l : List ℕ) (d : Decides t l) where

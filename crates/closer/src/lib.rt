@@ -11,79 +11,35 @@ ghost use lib.ListN.{length, getD};
 ghost use Rattle.table.specs.Mask.{pick, bit};
 ghost use Rattle.table.specs.Table.{removed, procAt, outside};
 ghost use Rattle.masks.specs.Cells.{cell};
-ghost use Rattle.flow.specs.Flow.{low};
 ghost use Rattle.closing.specs.Close.{closeTable};
 ghost use Rattle.analysis.specs.Ready.{Ready};
 ghost use Rattle.closer.specs.Parts.{twoEnds, endOf, argWith, argsWith, dropIn, arcIn, nodeWith, ClosedQueues, ClosedProc};
 
-// The target of an arc, twice.
-fn one_end(to: u32) -> u32
-    ensures { λ r. ⌜ r ≡ twoEnds (low to) (low to) ⌝ }
+// Two targets as one number.
+fn two_ends(f: usize, s: usize) -> u32
+    requires { ⌜ (f < 32) × (s < 32) ⌝ }
+    ensures { λ r. ⌜ r ≡ twoEnds f s ⌝ }
 {
-    let k = flow::target(to);
-    (k * 32 + k) as u32
-}
-
-fn test_ends(yes: u32, no: u32) -> u32
-    ensures { λ r. ⌜ r ≡ twoEnds (low yes) (low no) ⌝ }
-{
-    let f = flow::target(yes);
-    let s = flow::target(no);
     (f * 32 + s) as u32
 }
 
-// A node without an arc stays where it is.
-fn no_end(n: usize) -> u32
-    requires { ⌜ n < 32 ⌝ }
-    ensures { λ r. ⌜ r ≡ twoEnds n n ⌝ }
-{
-    (n * 32 + n) as u32
-}
-
-// The two targets of a node, 32 times the first plus the second.
+// The two targets of a node.
 fn end_of(x: Node, n: usize) -> u32
     requires { ⌜ n < 32 ⌝ }
     ensures { λ r. ⌜ r ≡ endOf x n ⌝ }
 {
-    match x {
-        Node::Absent => no_end(n),
-        Node::Start { to } => one_end(to),
-        Node::Set {
-            var: _,
-            op: _,
-            a: _,
-            b: _,
-            to,
-        } => one_end(to),
-        Node::Test {
-            op: _,
-            a: _,
-            b: _,
-            yes,
-            no,
-        } => test_ends(yes, no),
-        Node::Read { var: _, to } => one_end(to),
-        Node::Call {
-            callee: _,
-            args: _,
-            to,
-        } => one_end(to),
-        Node::Wait { sem: _, to } => one_end(to),
-        Node::Signal { sem: _, to } => one_end(to),
-        Node::Send {
-            queue: _,
-            var: _,
-            to,
-        } => one_end(to),
-        Node::Recv {
-            queue: _,
-            var: _,
-            to,
-        } => one_end(to),
-        Node::Assert { var: _, to } => one_end(to),
-        Node::Out { var: _, to } => one_end(to),
-        Node::Return => no_end(n),
+    let f = flow::first_of(x, n);
+    if let Node::Test {
+        op: _,
+        a: _,
+        b: _,
+        yes: _,
+        no,
+    } = x {
+        let s = flow::target(no);
+        return two_ends(f, s);
     }
+    two_ends(f, f)
 }
 
 // The variable v, or `-` if k is in m.
@@ -173,7 +129,10 @@ fn closed_node(x: Node, i: u32, cells: &[u32; 265], arcs: &[u32; 32]) -> Node
                 no: s,
             }
         }
-        Node::Read { var: _, to: _ } => Node::Absent,
+        Node::Read { var, to } => {
+            let t = arc(arcs, to);
+            Node::Read { var, to: t }
+        }
         Node::Call { callee, args, to } => {
             let k = (callee % 8) as usize;
             let d = cells[256 + k];

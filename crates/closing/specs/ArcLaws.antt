@@ -7,13 +7,14 @@ use mathlib.Core.List.{List, List·Memᴰ, List·Memᴰ·not-nil, List·Memᴰ·
 use lib.ListN.{length, List·getD-eq-default}
 use lib.Dec.{eqb, ltb}
 use borrow.Author.Tests.{eqb-true, eq-eqb, ltb-true, ltb-false}
+use Rattle.table.specs.Cases.{cases}
 use Rattle.table.specs.Mask.{bit, membersFrom, members, maskOf}
 use Rattle.table.specs.MaskLaws.{bit-maskOf, bit-maskOf-above, members-is}
-use Rattle.table.specs.Table.{nodeAt, procAt, arcTo, arcNo, arcs, noSlot}
+use Rattle.table.specs.Table.{nodeAt, procAt, arcTo, arcNo, arcs, noSlot, parts}
 use Rattle.table.specs.declared.Slot.{Slot}
 use Rattle.table.specs.declared.Table.{Table}
-use Rattle.closing.specs.Reach.{Reach, source, edge, mem, closure}
-use Rattle.closing.specs.ReachLaws.{cases, closure-sound, closure-complete}
+use Rattle.table.specs.Reach.{Reach, source, edge, mem, closure}
+use Rattle.table.specs.ReachLaws.{closure-sound, closure-complete}
 use Rattle.closing.specs.Dirty.{Unkept, Leads, target, through}
 use Rattle.closing.specs.ClosedTable.{NewArc}
 use Rattle.closing.specs.Closing.{upTo, dirty, kept}
@@ -41,7 +42,7 @@ module _ (t : Table) (p : ℕ) where
       (λ k. rw k (all-map IsArc (λ m. (n, m)) (arcs (nodeAt t p n)) (λ m d. (unkept-is t p n .0 k, d)))))
 
   arcs-in : (n m : ℕ) → Unkept t p n → List·Memᴰ m (arcs (nodeAt t p n)) → List·Memᴰ (n, m) es
-  unfolding unkeptArcs arcTo arcNo membersFrom bit
+  unfolding unkeptArcs parts membersFrom bit
   arcs-in n m u d = cases (ltb n (length (procAt t p .slots)))
       (λ k. in-each _ n (n, m) (upTo (length (procAt t p .slots))) (in-upTo n _ (ltb-true n _ k)) (rw (unkept-is t p n .1 u) (Memᴰ·map (λ m. (n, m)) d)))
       (λ k. absurd (List·Memᴰ·not-nil (rw (ap (λ (x : Slot). x .node) (List·getD-eq-default (procAt t p .slots) noSlot (ltb-false n _ k))) at d)))

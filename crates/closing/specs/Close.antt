@@ -5,18 +5,17 @@ use mathlib.Core.List.{List, [], _∷_, map}
 use lib.ListN.{length}
 use lib.Dec.{eqb, ltb}
 use Rattle.table.specs.Mask.{pick, members, maskOf}
-use Rattle.table.specs.Table.{nodeAt, procAt, removed, arcs, noTable}
-use Rattle.table.specs.declared.Args.{Args}
+use Rattle.table.specs.Table.{nodeAt, procAt, removed, arcs, noTable, Act, alone, waits, signals, sends, receives, calls, returns, act, mapNode}
 use Rattle.table.specs.declared.Node.{Node}
-use Rattle.table.specs.declared.Node.the-variants.{Absent, Start, Set, Test, Read, Call, Wait, Signal, Send, Recv, Assert, Out, Return}
+use Rattle.table.specs.declared.Node.the-variants.{Absent}
 use Rattle.table.specs.declared.Slot.{Slot}
 use Rattle.table.specs.declared.Queue.{Queue}
 use Rattle.table.specs.declared.Proc.{Proc}
 use Rattle.table.specs.declared.Table.{Table}
 use Rattle.text.specs.Writer.{fault}
 use Rattle.closing.specs.declared.Closing.{Closing}
-use Rattle.closing.specs.Dirty.{Fact, useAt, dropped, blank}
-use Rattle.closing.specs.Reach.{mem, closure}
+use Rattle.closing.specs.Dirty.{Fact, dirtyBefore, dropped, blank}
+use Rattle.table.specs.Reach.{mem, closure}
 use Rattle.closing.specs.Closing.{forEach, upTo, dirty, isDirty, kept}
 
 -- f at each place of a list, counted from i
@@ -41,35 +40,21 @@ module _ (t : Table) (d : List Fact) where
 
   -- ---- what a kept node becomes
 
-  -- "a `-` in `assert` or `out` is written if and only if that use is dirty"
-  abbrev pub useOr : ℕ → ℕ → ℕ → ℕ
-  useOr p n v = pick (isDirty d (useAt p n v)) removed v
+  -- the variable at place i of a node gives way to `-`
+  abbrev pub givesWay : ℕ → ℕ → Act → ℕ → ℕ → Bool
+  givesWay p n (sends q w) i v = isDirty d (blank q)
+  givesWay p n (receives q w) i v = isDirty d (blank q)
+  givesWay p n (calls q xs) i v = ltb i (xs .len) && isDirty d (dropped q i)
+  givesWay p n alone i v = isDirty d (dirtyBefore p n v)
+  givesWay p n (waits s) i v = false
+  givesWay p n (signals s) i v = false
+  givesWay p n returns i v = false
 
-  -- "in `send` and `recv` if and only if the queue is blank"
-  abbrev pub queueOr : ℕ → ℕ → ℕ
-  queueOr q v = pick (isDirty d (blank q)) removed v
-
-  -- "in `args` if and only if the parameter is dropped"; a place behind the arguments stays
-  abbrev pub argOr : ℕ → ℕ → ℕ → ℕ → ℕ
-  argOr q len i v = pick (ltb i len && isDirty d (dropped q i)) removed v
-
-  abbrev pub argsOr : ℕ → Args → Args
-  argsOr q x = record { len = x .len; a0 = argOr q (x .len) 0 (x .a0); a1 = argOr q (x .len) 1 (x .a1); a2 = argOr q (x .len) 2 (x .a2); a3 = argOr q (x .len) 3 (x .a3) }
+  abbrev pub varOr : ℕ → ℕ → Act → ℕ → ℕ → ℕ
+  varOr p n a i v = pick (givesWay p n a i v) removed v
 
   unfoldable pub closedNode : ℕ → ℕ → (ℕ → ℕ) → Node → Node
-  closedNode p n arc Absent = Absent
-  closedNode p n arc (Start to) = Start (arc to)
-  closedNode p n arc (Set v o a b to) = Set v o a b (arc to)
-  closedNode p n arc (Test o a b y k) = Test o a b (arc y) (arc k)
-  closedNode p n arc (Read v to) = Absent
-  closedNode p n arc (Call q xs to) = Call q (argsOr q xs) (arc to)
-  closedNode p n arc (Wait s to) = Wait s (arc to)
-  closedNode p n arc (Signal s to) = Signal s (arc to)
-  closedNode p n arc (Send q v to) = Send q (queueOr q v) (arc to)
-  closedNode p n arc (Recv q v to) = Recv q (queueOr q v) (arc to)
-  closedNode p n arc (Assert v to) = Assert (useOr p n v) (arc to)
-  closedNode p n arc (Out v to) = Out (useOr p n v) (arc to)
-  closedNode p n arc Return = Return
+  closedNode p n arc x = mapNode arc (varOr p n (act x)) x
 
   -- a node that is not kept leaves its number empty
   unfoldable pub closedSlot : ℕ → List (ℕ × ℕ) → ℕ → Slot → Slot

@@ -8,7 +8,7 @@ use mathlib.Core.List.{List, [], _∷_}
 use lib.ListN.{length, getD}
 use Rattle.table.specs.Mask.{bit, maskOf}
 use Rattle.table.specs.MaskLaws.{bit-maskOf}
-use Rattle.table.specs.Table.{nodeAt, procAt, queueAt, noSlot, noQueue, outside, keeping}
+use Rattle.table.specs.Table.{nodeAt, procAt, queueAt, noSlot, noQueue, outside, parts}
 use Rattle.table.specs.declared.Node.the-variants.{Absent}
 use Rattle.table.specs.declared.Slot.{Slot}
 use Rattle.table.specs.declared.Queue.{Queue}
@@ -66,7 +66,7 @@ module _ (t : Table) where
 
   -- a closed node is the closing of the open one
   pub close-node : (p n : ℕ) → nodeAt (closeTable t) p n ≡ closedSlot t (dirty t) p (unkeptArcs t (dirty t) p) n (record { node = nodeAt t p n }) .node
-  unfolding closedProc closedSlot kept keeping
+  unfolding closedProc closedSlot kept parts
   close-node p n = ap (λ (q : Proc). getD (q .slots) n noSlot .node) (close-proc p)
       ∙ ap (λ (x : Slot). x .node) (map-at (closedSlot t (dirty t) p (unkeptArcs t (dirty t) p)) n (procAt t p .slots) noSlot noSlot (λ _. refl))
 

@@ -5,16 +5,16 @@ use mathlib.Core.Path.{_∙_, ap}
 use lib.ListN.{length}
 use lib.Pow.{pow-mono}
 use native.Mathlib.Nat.{lt-of-lt-of-le}
+use Rattle.table.specs.Cases.{cases}
 use Rattle.table.specs.MaskLaws.{maskOf-lt}
-use Rattle.table.specs.Table.{nodeAt, procAt, arcTo, arcNo}
+use Rattle.table.specs.Table.{nodeAt, procAt, Exit, ends, by, either, act, firstArc, secondArc, arcTo, arcNo, parts}
+use Rattle.table.specs.NodeLaws.{mapExit, mapped}
 use Rattle.table.specs.declared.Node.{Node}
-use Rattle.table.specs.declared.Node.the-variants.{Absent, Start, Set, Test, Read, Call, Wait, Signal, Send, Recv, Assert, Out, Return}
 use Rattle.table.specs.declared.Proc.{Proc}
 use Rattle.table.specs.declared.Table.{Table}
 use Rattle.table.specs.Shape.{Shaped}
-use Rattle.closing.specs.ReachLaws.{cases}
 use Rattle.closing.specs.Closing.{dirty, kept}
-use Rattle.closing.specs.Close.{unkeptArcs, keptAmong, newArc, closedNode, closedProc, closedWith, closeTable}
+use Rattle.closing.specs.Close.{unkeptArcs, keptAmong, newArc, varOr, closedNode, closedProc, closedWith, closeTable}
 use Rattle.closing.specs.CloseLaws.{mapFrom-length, close-proc, kept-node, unkept-node}
 
 module _ (t : Table) (s : Shaped t) (few : (p : ℕ) → procAt t p .params ≤ 4) where
@@ -25,24 +25,17 @@ module _ (t : Table) (s : Shaped t) (few : (p : ℕ) → procAt t p .params ≤ 
   unfolding newArc keptAmong
   new-low p m = maskOf-lt 32 _
 
+  low-exit : (f : ℕ → ℕ) → ((m : ℕ) → f m < 2 ^ 32) → (e : Exit) → (firstArc (mapExit f e) < 2 ^ 32) × (secondArc (mapExit f e) < 2 ^ 32)
+  low-exit f h ends = (omega arith, omega arith)
+  low-exit f h (by m) = (h m, omega arith)
+  low-exit f h (either y n) = (h y, h n)
+
   low-node : (p n : ℕ) (f : ℕ → ℕ) → ((m : ℕ) → f m < 2 ^ 32) → (x : Node) → Low (closedNode t (dirty t) p n f x)
-  unfolding closedNode arcTo arcNo
-  low-node p n f h Absent = (omega arith, omega arith)
-  low-node p n f h (Start to) = (h to, omega arith)
-  low-node p n f h (Set v o a b to) = (h to, omega arith)
-  low-node p n f h (Test o a b y z) = (h y, h z)
-  low-node p n f h (Read v to) = (omega arith, omega arith)
-  low-node p n f h (Call q xs to) = (h to, omega arith)
-  low-node p n f h (Wait i to) = (h to, omega arith)
-  low-node p n f h (Signal i to) = (h to, omega arith)
-  low-node p n f h (Send q v to) = (h to, omega arith)
-  low-node p n f h (Recv q v to) = (h to, omega arith)
-  low-node p n f h (Assert v to) = (h to, omega arith)
-  low-node p n f h (Out v to) = (h to, omega arith)
-  low-node p n f h Return = (omega arith, omega arith)
+  unfolding closedNode
+  low-node p n f h x = rw (mapped f (varOr t (dirty t) p n (act x)) x .exit) (low-exit f h (parts x .exit))
 
   low-arcs : (p n : ℕ) → Low (nodeAt (closeTable t) p n)
-  unfolding arcTo arcNo
+  unfolding parts
   low-arcs p n = cases (kept (dirty t) p n (nodeAt t p n))
       (λ k. rw (kept-node t p n k) (low-node p n _ (new-low p) (nodeAt t p n)))
       (λ k. rw (unkept-node t p n k) (omega arith, omega arith))

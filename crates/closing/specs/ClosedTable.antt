@@ -5,46 +5,44 @@ use mathlib.Core.Bool.{true, false}
 use mathlib.Core.Logic.{_≢_, _↔_}
 use lib.ListN.{length}
 use Rattle.table.specs.Mask.{bit, members}
-use Rattle.table.specs.Table.{noTable, queueAt, procAt, nodeAt, removed, argAt}
-use Rattle.table.specs.declared.Operand.{Operand}
-use Rattle.table.specs.declared.Op.{Op}
-use Rattle.table.specs.declared.Args.{Args}
+use Rattle.table.specs.Table.{noTable, queueAt, procAt, nodeAt, removed, Act, alone, waits, signals, sends, receives, calls, returns, act, mapNode}
 use Rattle.table.specs.declared.Node.{Node}
-use Rattle.table.specs.declared.Node.the-variants.{Absent, Start, Set, Test, Call, Wait, Signal, Send, Recv, Assert, Out, Return}
+use Rattle.table.specs.declared.Node.the-variants.{Absent}
 use Rattle.table.specs.declared.Table.{Table}
 use Rattle.text.specs.Writer.{fault}
 use Rattle.closing.specs.declared.Closing.{Closing}
-use Rattle.closing.specs.Dirty.{useAt, dropped, blank, Dirty, Unkept, Leads}
+use Rattle.closing.specs.Dirty.{dirtyBefore, dropped, blank, Dirty, Unkept, Leads}
 
 -- "From each arc of a kept node, the new arc lists exactly the kept nodes reached through nodes that are not kept": arc m of procedure p becomes m′.
 -- "One target: a plain arc. Two or more: a toss, value i choosing the i-th from 0 .. None: `none`": an arc is the set of its targets, and their number says which it is.
 abbrev pub NewArc : Table → ℕ → ℕ → ℕ → Type 0
 NewArc t p m m′ = (k : ℕ) → (bit k m′ ≡ true) ↔ (Leads t p (members m) k × (Unkept t p k → ⊥))
 
--- "`-` stands as described": variable v becomes w, which is `-` if P holds, and v if not
+-- "`-` stands as described": what lets variable v give way to it at place i of a node, n of procedure p, by what the node does
+abbrev pub GivesWay : Table → ℕ → ℕ → Act → ℕ → ℕ → Type 0
+-- "in `send` and `recv` if and only if the queue is blank,
+GivesWay t p n (sends q w) i v = Dirty t (blank q)
+GivesWay t p n (receives q w) i v = Dirty t (blank q)
+-- in `args` if and only if the parameter is dropped"; of the four places those behind the arguments stay
+GivesWay t p n (calls q xs) i v = (i < xs .len) × Dirty t (dropped q i)
+-- "a `-` in `assert` or `out` is written if and only if that use is dirty": of the nodes that act alone no other has such a place,
+GivesWay t p n alone i v = Dirty t (dirtyBefore p n v)
+-- nor have these
+GivesWay t p n (waits s) i v = ⊥
+GivesWay t p n (signals s) i v = ⊥
+GivesWay t p n returns i v = ⊥
+
+-- variable v becomes w, which is `-` if P holds, and v if not
 abbrev pub Marked : Type 0 → ℕ → ℕ → Type 0
 Marked P v w = (P → w ≡ removed) × ((P → ⊥) → w ≡ v)
 
--- the arguments of a call to q: "in `args` if and only if the parameter is dropped"; of the four places those behind the arguments stay
-pub record NewArgs (t : Table) (q : ℕ) (xs ys : Args) : Type 0 where
-  pub len : ys .len ≡ xs .len
-  pub arg : (i : ℕ) → i < 4 → Marked ((i < xs .len) × Dirty t (dropped q i)) (argAt xs i) (argAt ys i)
-
--- What a kept node, n of procedure p, becomes: the same line, but for its arcs and for `-`.
-pub data Becomes (t : Table) (p n : ℕ) : Node → Node → Type 0 where
-  start : {m m′ : ℕ} → NewArc t p m m′ → Becomes t p n (Start m) (Start m′)
-  setNode : {v m m′ : ℕ} {o : Op} {a b : Operand} → NewArc t p m m′ → Becomes t p n (Set v o a b m) (Set v o a b m′)
-  test : {y y′ m m′ : ℕ} {o : Op} {a b : Operand} → NewArc t p y y′ → NewArc t p m m′ → Becomes t p n (Test o a b y m) (Test o a b y′ m′)
-  call : {q m m′ : ℕ} {xs ys : Args} → NewArgs t q xs ys → NewArc t p m m′ → Becomes t p n (Call q xs m) (Call q ys m′)
-  wait : {s m m′ : ℕ} → NewArc t p m m′ → Becomes t p n (Wait s m) (Wait s m′)
-  signal : {s m m′ : ℕ} → NewArc t p m m′ → Becomes t p n (Signal s m) (Signal s m′)
-  -- "in `send` and `recv` if and only if the queue is blank"
-  send : {q v w m m′ : ℕ} → Marked (Dirty t (blank q)) v w → NewArc t p m m′ → Becomes t p n (Send q v m) (Send q w m′)
-  recv : {q v w m m′ : ℕ} → Marked (Dirty t (blank q)) v w → NewArc t p m m′ → Becomes t p n (Recv q v m) (Recv q w m′)
-  -- "a `-` in `assert` or `out` is written if and only if that use is dirty"
-  assert : {v w m m′ : ℕ} → Marked (Dirty t (useAt p n v)) v w → NewArc t p m m′ → Becomes t p n (Assert v m) (Assert w m′)
-  out : {v w m m′ : ℕ} → Marked (Dirty t (useAt p n v)) v w → NewArc t p m m′ → Becomes t p n (Out v m) (Out w m′)
-  return : Becomes t p n Return Return
+-- What a kept node x, n of procedure p, becomes: the same line, but for its arcs and for `-`, both of which are determined.
+pub record Becomes (t : Table) (p n : ℕ) (x y : Node) : Type 0 where
+  pub arc : ℕ → ℕ
+  pub var : ℕ → ℕ → ℕ
+  pub new-arcs : (m : ℕ) → NewArc t p m (arc m)
+  pub marks : (i v : ℕ) → Marked (GivesWay t p n (act x) i v) v (var i v)
+  pub same-line : y ≡ mapNode arc var x
 
 -- c is the closed table of t.
 pub record ClosedTable (t c : Table) : Type 0 where

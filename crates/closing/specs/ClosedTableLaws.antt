@@ -10,24 +10,22 @@ use lib.Dec.{ltb}
 use lib.Pow.{pow-mono}
 use lib.Seq.{ext-getD}
 use borrow.Author.Tests.{ltb-true, lt-ltb}
+use Rattle.table.specs.Cases.{cases}
 use Rattle.table.specs.Mask.{pick, bit}
 use Rattle.table.specs.MaskLaws.{bit-maskOf-above, bit-ext}
-use Rattle.table.specs.Table.{noSlot, noQueue, outside, queueAt, procAt, nodeAt, removed, argAt, keeping}
-use Rattle.table.specs.declared.Args.{Args}
+use Rattle.table.specs.Table.{noSlot, noQueue, outside, queueAt, procAt, nodeAt, removed, Act, alone, waits, signals, sends, receives, calls, returns, act, mapNode}
 use Rattle.table.specs.declared.Node.{Node}
-use Rattle.table.specs.declared.Node.the-variants.{Absent, Start, Set, Test, Read, Call, Wait, Signal, Send, Recv, Assert, Out, Return}
 use Rattle.table.specs.declared.Proc.{Proc}
 use Rattle.table.specs.declared.Table.{Table}
 use Rattle.text.specs.NumberLaws.{byOrder, and-left, and-right}
 use Rattle.text.specs.Writer.{fault}
 use Rattle.closing.specs.declared.Closing.{Closing}
-use Rattle.closing.specs.ReachLaws.{cases}
-use Rattle.closing.specs.Dirty.{useAt, dropped, blank, Dirty, top, passed}
-use Rattle.closing.specs.ClosedTable.{NewArc, Marked, NewArgs, Becomes, start, setNode, test, call, wait, signal, send, recv, assert, out, return, ClosedTable, Answers}
+use Rattle.closing.specs.Dirty.{dirtyBefore, dropped, blank, Dirty}
+use Rattle.closing.specs.ClosedTable.{NewArc, GivesWay, Marked, Becomes, ClosedTable, Answers}
 use Rattle.closing.specs.Closing.{dirty, isDirty, kept}
-use Rattle.closing.specs.DirtyLaws.{dirty-is}
+use Rattle.closing.specs.DirtyLaws.{dropped-low, dirty-is}
 use Rattle.closing.specs.KeptLaws.{same-test, unkept-is, kept-is}
-use Rattle.closing.specs.Close.{unkeptArcs, newArc, argsOr, closedNode, closedProc, closedQueue, closedWith, closeTable, answer, close}
+use Rattle.closing.specs.Close.{unkeptArcs, newArc, givesWay, varOr, closedNode, closedProc, closedQueue, closedWith, closeTable, answer, close}
 use Rattle.closing.specs.ArcLaws.{arc-is}
 use Rattle.closing.specs.CloseLaws.{map-at, mapFrom-length, close-proc, close-params, close-vars, close-nodes, close-drop, close-cap, kept-node, unkept-node, accepted}
 
@@ -55,31 +53,6 @@ mask-only : {P : ℕ → Type 0} (a b : ℕ) → ((k : ℕ) → (bit k a ≡ tru
 mask-only a b f g = same-bits a b (λ k. same-test _ _ (f k) (g k))
 
 module _ (t : Table) where
-  -- ---- arguments
-
-  -- the test of place i
-  arg-test : (q len i : ℕ) → (ltb i len && isDirty (dirty t) (dropped q i) ≡ true) ↔ ((i < len) × Dirty t (dropped q i))
-  arg-test q len i = (
-    λ e. (ltb-true i len (and-left (ltb i len) _ e), dirty-is t (dropped q i) .0 (and-right (ltb i len) _ e)),
-    λ h. rw (lt-ltb i len (h .0), dirty-is t (dropped q i) .1 (h .1)),
-  )
-
-  args-become : (q : ℕ) (xs : Args) → NewArgs t q xs (argsOr t (dirty t) q xs)
-  args-become q xs = record { len = refl; arg = at }
-    where
-      at : (i : ℕ) → i < 4 → Marked ((i < xs .len) × Dirty t (dropped q i)) (argAt xs i) (argAt (argsOr t (dirty t) q xs) i)
-      at zero l = marked _ (arg-test q (xs .len) 0) (xs .a0)
-      at (suc zero) l = marked _ (arg-test q (xs .len) 1) (xs .a1)
-      at (suc (suc zero)) l = marked _ (arg-test q (xs .len) 2) (xs .a2)
-      at (suc (suc (suc zero))) l = marked _ (arg-test q (xs .len) 3) (xs .a3)
-      at (suc (suc (suc (suc i)))) l = absurd (omega arith)
-
-  args-only : (q : ℕ) (xs ys zs : Args) → NewArgs t q xs ys → NewArgs t q xs zs → ys ≡ zs
-  args-only q xs ys zs f g = λ ι. record { len = (f .len ∙ sym (g .len)) ι; a0 = at 0 (omega arith) ι; a1 = at 1 (omega arith) ι; a2 = at 2 (omega arith) ι; a3 = at 3 (omega arith) ι }
-    where
-      at : (i : ℕ) → i < 4 → argAt ys i ≡ argAt zs i
-      at i l = marked-only _ (arg-test q (xs .len) i) (f .arg i l) (g .arg i l)
-
   -- ---- nodes
 
   -- an arc has one new arc
@@ -87,41 +60,36 @@ module _ (t : Table) where
   arc-only p m a b f g = mask-only a b f g
 
   module _ (p n : ℕ) where
-    becomes : (x : Node) → kept (dirty t) p n x ≡ true → Becomes t p n x (closedNode t (dirty t) p n (newArc t (dirty t) p (unkeptArcs t (dirty t) p)) x)
-    unfolding kept keeping closedNode
-    becomes Absent k = absurd (false≢true k)
-    becomes (Start to) k = start (arc-is t p to)
-    becomes (Set v o a b to) k = setNode (arc-is t p to)
-    becomes (Test o a b y m) k = test (arc-is t p y) (arc-is t p m)
-    becomes (Read v to) k = absurd (false≢true k)
-    becomes (Call q xs to) k = call (args-become q xs) (arc-is t p to)
-    becomes (Wait s to) k = wait (arc-is t p to)
-    becomes (Signal s to) k = signal (arc-is t p to)
-    becomes (Send q v to) k = send (marked _ (dirty-is t (blank q)) v) (arc-is t p to)
-    becomes (Recv q v to) k = recv (marked _ (dirty-is t (blank q)) v) (arc-is t p to)
-    becomes (Assert v to) k = assert (marked _ (dirty-is t (useAt p n v)) v) (arc-is t p to)
-    becomes (Out v to) k = out (marked _ (dirty-is t (useAt p n v)) v) (arc-is t p to)
-    becomes Return k = return
+    -- what lets a variable give way is tested
+    gives-way : (a : Act) (i v : ℕ) → (givesWay t (dirty t) p n a i v ≡ true) ↔ GivesWay t p n a i v
+    gives-way (sends q w) i v = dirty-is t (blank q)
+    gives-way (receives q w) i v = dirty-is t (blank q)
+    gives-way (calls q xs) i v = (
+      λ e. (ltb-true i (xs .len) (and-left (ltb i (xs .len)) _ e), dirty-is t (dropped q i) .0 (and-right (ltb i (xs .len)) _ e)),
+      λ h. rw (lt-ltb i (xs .len) (h .0), dirty-is t (dropped q i) .1 (h .1)),
+    )
+    gives-way alone i v = dirty-is t (dirtyBefore p n v)
+    gives-way (waits s) i v = (λ e. absurd (false≢true e), λ h. absurd h)
+    gives-way (signals s) i v = (λ e. absurd (false≢true e), λ h. absurd h)
+    gives-way returns i v = (λ e. absurd (false≢true e), λ h. absurd h)
+
+    becomes : (x : Node) → Becomes t p n x (closedNode t (dirty t) p n (newArc t (dirty t) p (unkeptArcs t (dirty t) p)) x)
+    unfolding closedNode
+    becomes x = record {
+      arc = newArc t (dirty t) p (unkeptArcs t (dirty t) p);
+      var = varOr t (dirty t) p n (act x);
+      new-arcs = arc-is t p;
+      marks = λ i v. marked _ (gives-way (act x) i v) v;
+      same-line = refl;
+    }
 
     becomes-only : {x y z : Node} → Becomes t p n x y → Becomes t p n x z → y ≡ z
-    becomes-only (start f) (start g) = ap Start (arc-only p _ _ _ f g)
-    becomes-only (setNode {v = v} {o = o} {a = a} {b = b} f) (setNode g) = ap (Set v o a b) (arc-only p _ _ _ f g)
-    becomes-only (test {o = o} {a = a} {b = b} f f′) (test g g′) = ap₂ (Test o a b) (arc-only p _ _ _ f g) (arc-only p _ _ _ f′ g′)
-    becomes-only (call {q = q} h f) (call j g) = ap₂ (Call q) (args-only q _ _ _ h j) (arc-only p _ _ _ f g)
-    becomes-only (wait {s = s} f) (wait g) = ap (Wait s) (arc-only p _ _ _ f g)
-    becomes-only (signal {s = s} f) (signal g) = ap (Signal s) (arc-only p _ _ _ f g)
-    becomes-only (send {q = q} h f) (send j g) = ap₂ (Send q) (marked-only _ (dirty-is t (blank q)) h j) (arc-only p _ _ _ f g)
-    becomes-only (recv {q = q} h f) (recv j g) = ap₂ (Recv q) (marked-only _ (dirty-is t (blank q)) h j) (arc-only p _ _ _ f g)
-    becomes-only (assert {v = v} h f) (assert j g) = ap₂ Assert (marked-only _ (dirty-is t (useAt p n v)) h j) (arc-only p _ _ _ f g)
-    becomes-only (out {v = v} h f) (out j g) = ap₂ Out (marked-only _ (dirty-is t (useAt p n v)) h j) (arc-only p _ _ _ f g)
-    becomes-only return return = refl
+    becomes-only {x} a b =
+        a .same-line
+        ∙ (λ ι. mapNode (λ m. arc-only p m _ _ (a .new-arcs m) (b .new-arcs m) ι) (λ i v. marked-only _ (gives-way (act x) i v) (a .marks i v) (b .marks i v) ι) x)
+        ∙ sym (b .same-line)
 
   -- ---- `drop` and `blank`
-
-  -- only a parameter is dropped
-  dropped-below : (p i : ℕ) → Dirty t (dropped p i) → i < procAt t p .params
-  dropped-below p i (top k l j e) = l
-  dropped-below p i (passed r n u to xs l e m d) = l
 
   drop-above : (p i : ℕ) → procAt t p .params ≤ i → bit i (procAt (closeTable t) p .drop) ≡ false
   unfolding closedProc
@@ -130,7 +98,7 @@ module _ (t : Table) where
   drop-is : (p i : ℕ) → (bit i (procAt (closeTable t) p .drop) ≡ true) ↔ Dirty t (dropped p i)
   drop-is p i = byOrder i (procAt t p .params)
       (λ l. rw (close-drop t p i l) (dirty-is t (dropped p i)))
-      (λ l. (λ e. absurd (false≢true (sym (drop-above p i l) ∙ e)), λ d. absurd (omega (arith, dropped-below p i d))))
+      (λ l. (λ e. absurd (false≢true (sym (drop-above p i l) ∙ e)), λ d. absurd (omega (arith, dropped-low t p i d))))
 
   blank-is : (q : ℕ) → q < length (t .queue) → (queueAt (closeTable t) q .blank ≡ true) ↔ Dirty t (blank q)
   unfolding closeTable closedWith
@@ -142,7 +110,7 @@ module _ (t : Table) where
   unfolding closeTable closedWith closedProc
   closed-table = record {
     closed = refl;
-    kept = λ p n f. let k = kept-is t p n .1 f in rw (kept-node t p n k) (becomes p n (nodeAt t p n) k);
+    kept = λ p n f. let k = kept-is t p n .1 f in rw (kept-node t p n k) (becomes p n (nodeAt t p n));
     unkept = λ p n u. unkept-node t p n (unkept-is t p n .1 u);
     trap = refl;
     tasks = refl;

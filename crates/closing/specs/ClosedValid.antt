@@ -2,15 +2,17 @@
 use Prim.Native.Nat.{ℕ, zero, suc, _<_, _≤_}
 use native.Mathlib.Omega.{arith}
 use mathlib.Core.Path.{_≡_, refl, sym, _∙_, ap, subst}
-use mathlib.Core.Bool.{Bool, true, false, true≢false, false≢true}
+use mathlib.Core.Bool.{Bool, true, false, _&&_, true≢false, false≢true}
 use mathlib.Core.List.{List, [], _∷_, _++_}
 use mathlib.Core.Logic.{_⊎_, inl, inr}
 use lib.ListN.{drop, List·getD-eq-default}
-use lib.Dec.{eqb}
+use lib.Dec.{eqb, ltb}
 use borrow.Author.Tests.{eqb-true, ne-eqb, lt-ltb}
+use Rattle.table.specs.Cases.{cases}
 use Rattle.table.specs.Mask.{pick, bit, membersFrom, members, maskOf}
 use Rattle.table.specs.MaskLaws.{bit-maskOf-above, members-is}
-use Rattle.table.specs.Table.{noSlot, noQueue, outside, taskAt, queueAt, procAt, nodeAt, removed, argPlaces, argAt, arcTo, arcNo, arcs, keeping, isAbsent}
+use Rattle.table.specs.Table.{noSlot, noQueue, outside, taskAt, queueAt, procAt, nodeAt, removed, argPlaces, argAt, Keeping, always, ifClean, never, absent, calls, uses, keeping, act, noNode, isAbsent, arcs, parts, mapArgs, mapNode}
+use Rattle.table.specs.NodeLaws.{mapped}
 use Rattle.table.specs.declared.Args.{Args}
 use Rattle.table.specs.declared.Node.{Node}
 use Rattle.table.specs.declared.Node.the-variants.{Absent, Start, Set, Test, Read, Call, Wait, Signal, Send, Recv, Assert, Out, Return}
@@ -23,12 +25,12 @@ use Rattle.text.specs.Reader.{allBelow, isRemoved, iff, countRight, removedRigh
 use Rattle.text.specs.Writer.{scope, every, isZero, slotEmpty, queueEmpty, procEmpty, argsEmpty, procTidy, tidy, fault}
 use Rattle.text.specs.Right.{Within}
 use Rattle.text.specs.Valid.{Named, Arc, NodeValid, ProcValid, Lined, Valid}
+use Rattle.text.specs.PartsLaws.{parts-of}
 use Rattle.text.specs.LinedLaws.{arcs-within}
 use Rattle.text.specs.ValidLaws.{below-all, all-below, all-behind, behind-all, tidy-parts, far-empty, valid-of, of-valid, absent-is, outside-absent, inside-of, start-at, named-open}
-use Rattle.closing.specs.ReachLaws.{cases}
-use Rattle.closing.specs.Dirty.{Fact, useAt, dropped, blank, Dirty, top, sent, Leads, target, through}
-use Rattle.closing.specs.Closing.{dirty, isDirty, kept}
-use Rattle.closing.specs.Close.{unkeptArcs, newArc, queueOr, argOr, argsOr, closedNode, closedProc, closedQueue, closedWith, closeTable}
+use Rattle.closing.specs.Dirty.{Fact, dirtyBefore, dropped, blank, Dirty, top, sent, Leads, target, through}
+use Rattle.closing.specs.Closing.{dirty, isDirty, keptBy, kept}
+use Rattle.closing.specs.Close.{unkeptArcs, newArc, varOr, closedNode, closedProc, closedQueue, closedWith, closeTable}
 use Rattle.closing.specs.ListLaws.{All, all-nil, all-append}
 use Rattle.closing.specs.DirtyLaws.{dirty-is}
 use Rattle.closing.specs.KeptLaws.{kept-is}
@@ -45,21 +47,20 @@ mark-named : (c : Scope) (b : Bool) (x : ℕ) → c .closed ≡ true → x < c .
 mark-named c true x o l = (λ e. o, λ f. absurd (f refl))
 mark-named c false x o l = (λ e. o, λ f. l)
 
--- the arguments of a call to q: each place by itself, and those behind them as before
-module _ (t : Table) (d : List Fact) (q : ℕ) where
-  arg-at : (xs : Args) (i : ℕ) → i < 4 → argAt (argsOr t d q xs) i ≡ argOr t d q (xs .len) i (argAt xs i)
-  arg-at xs zero l = refl
-  arg-at xs (suc zero) l = refl
-  arg-at xs (suc (suc zero)) l = refl
-  arg-at xs (suc (suc (suc zero))) l = refl
-  arg-at xs (suc (suc (suc (suc i)))) l = absurd (omega arith)
+-- arguments: each place by itself, and those behind them as before
+pub arg-at : (f : ℕ → ℕ → ℕ) (xs : Args) (i : ℕ) → i < 4 → argAt (mapArgs f xs) i ≡ f i (argAt xs i)
+arg-at f xs zero l = refl
+arg-at f xs (suc zero) l = refl
+arg-at f xs (suc (suc zero)) l = refl
+arg-at f xs (suc (suc (suc zero))) l = refl
+arg-at f xs (suc (suc (suc (suc i)))) l = absurd (omega arith)
 
-  args-behind : (len a0 a1 a2 a3 : ℕ) → drop len (argPlaces (argsOr t d q (record { len = len; a0 = a0; a1 = a1; a2 = a2; a3 = a3 }))) ≡ drop len (a0 ∷ a1 ∷ a2 ∷ a3 ∷ [])
-  args-behind zero a0 a1 a2 a3 = refl
-  args-behind (suc zero) a0 a1 a2 a3 = refl
-  args-behind (suc (suc zero)) a0 a1 a2 a3 = refl
-  args-behind (suc (suc (suc zero))) a0 a1 a2 a3 = refl
-  args-behind (suc (suc (suc (suc len)))) a0 a1 a2 a3 = refl
+args-behind : (f : ℕ → Bool) (len a0 a1 a2 a3 : ℕ) → drop len (argPlaces (mapArgs (λ i v. pick (ltb i len && f i) removed v) (record { len = len; a0 = a0; a1 = a1; a2 = a2; a3 = a3 }))) ≡ drop len (a0 ∷ a1 ∷ a2 ∷ a3 ∷ [])
+args-behind f zero a0 a1 a2 a3 = refl
+args-behind f (suc zero) a0 a1 a2 a3 = refl
+args-behind f (suc (suc zero)) a0 a1 a2 a3 = refl
+args-behind f (suc (suc (suc zero))) a0 a1 a2 a3 = refl
+args-behind f (suc (suc (suc (suc len)))) a0 a1 a2 a3 = refl
 
 module _ (t : Table) (z : fault t ≡ 0) (o : t .closed ≡ false) where
   v : Valid t
@@ -74,8 +75,7 @@ module _ (t : Table) (z : fault t ≡ 0) (o : t .closed ≡ false) where
   -- ---- queues: a declared one has its place in the list, and only a declared one is sent to
 
   blank-in : (q : ℕ) → Dirty t (blank q) → q < t .queues
-  unfolding isAbsent
-  blank-in q (sent p n x to e d) = let h = rw e at (node-valid p n (rw e)) in h .1
+  blank-in q (sent p n x e d) = (rw e at (parts-of t z p n .act)) .0
 
   not-blank : (q : ℕ) → t .queues ≤ q → isDirty (dirty t) (blank q) ≡ false
   not-blank q l = cases (isDirty (dirty t) (blank q)) (λ e. absurd (omega (arith, blank-in q (dirty-is t (blank q) .0 e)))) (λ e. e)
@@ -100,7 +100,7 @@ module _ (t : Table) (z : fault t ≡ 0) (o : t .closed ≡ false) where
   none P = all-nil P
 
   targets : (p n : ℕ) → Within 1 (procAt t p .nodes) (arcs (nodeAt t p n))
-  unfolding arcTo arcNo
+  unfolding parts
   targets p n = cases (isAbsent (nodeAt t p n))
       (λ e. rw (absent-is (nodeAt t p n) e) (all-append _ (members 0) (members 0) (none _) (none _)))
       (λ e. arcs-within (scope t (procAt t p)) n (nodeAt t p n) (node-valid p n e))
@@ -137,7 +137,7 @@ module _ (t : Table) (z : fault t ≡ 0) (o : t .closed ≡ false) where
     behind : argsEmpty y ≡ true
 
   absent-right : (p n : ℕ) → 0 < n → Right p n Absent
-  unfolding countRight removedRight argsEmpty arcTo arcNo
+  unfolding parts
   absent-right p n l = record { valid = (l, refl); counts = refl; leads = all-append (Stays p) (members 0) (members 0) (none (Stays p)) (none (Stays p)); removals = refl; behind = refl }
 
   module _ (p n : ℕ) (inside : p < t .procs) where
@@ -153,43 +153,47 @@ module _ (t : Table) (z : fault t ≡ 0) (o : t .closed ≡ false) where
     mark-at : (f : Fact) (x : ℕ) → Named s x → Named (shut p) (pick (isDirty (dirty t) f) removed x)
     mark-at f x h = mark-named (shut p) (isDirty (dirty t) f) x refl (named x h)
 
-    queue-right : (q x : ℕ) → Named s x → iff (isRemoved (queueOr t (dirty t) q x)) (queueAt c q .blank) ≡ true
+    queue-right : (q x : ℕ) → Named s x → iff (isRemoved (pick (isDirty (dirty t) (blank q)) removed x)) (queueAt c q .blank) ≡ true
     queue-right q x h = rw (ap (λ (y : Queue). y .blank) (queue-at q)) (mark-right (isDirty (dirty t) (blank q)) x (low x h))
 
-    call-right : (q : ℕ) (xs : Args) (to : ℕ) → NodeValid s n (Call q xs to) → eqb (xs .len) (procAt t q .params) ≡ true → argsEmpty (Call q xs to) ≡ true → Right p n (Call q (argsOr t (dirty t) q xs) (arc p to))
-    unfolding countRight removedRight argsEmpty arcTo arcNo
+    -- the arguments of a call to q
+    abbrev passes : ℕ → Args → ℕ → ℕ → ℕ
+    passes q xs = varOr t (dirty t) p n (calls q xs)
+
+    call-right : (q : ℕ) (xs : Args) (to : ℕ) → NodeValid s n (Call q xs to) → eqb (xs .len) (procAt t q .params) ≡ true → argsEmpty (Call q xs to) ≡ true → Right p n (Call q (mapArgs (passes q xs) xs) (arc p to))
+    unfolding parts
     call-right q xs to h k e =
         let len : xs .len ≡ procAt t q .params = eqb-true (xs .len) (procAt t q .params) k in
-        let arg : (i : ℕ) → i < xs .len → argAt (argsOr t (dirty t) q xs) i ≡ pick (isDirty (dirty t) (dropped q i)) removed (argAt xs i) =
-        λ i l. arg-at t (dirty t) q xs i (omega (arith, v .lines .proc q (h .1) .params)) ∙ rw (lt-ltb i (xs .len) l)
+        let arg : (i : ℕ) → i < xs .len → argAt (mapArgs (passes q xs) xs) i ≡ pick (isDirty (dirty t) (dropped q i)) removed (argAt xs i) =
+        λ i l. arg-at (passes q xs) xs i (omega (arith, v .lines .proc q (h .1) .params)) ∙ rw (lt-ltb i (xs .len) l)
         in
         record {
           valid = (h .0, h .1, λ i l u. rw (arg i l) (mark-at (dropped q i) (argAt xs i) (h .2 i l u)), arc-valid p to (h .3));
           counts = rw (close-params t q) k;
           leads = one p to (h .3);
           removals = all-below (xs .len) _ (λ i l. rw (arg i l, close-drop t q i (omega arith)) (mark-right (isDirty (dirty t) (dropped q i)) (argAt xs i) (low (argAt xs i) (h .2 i l (omega (arith, v .lines .proc q (h .1) .params))))));
-          behind = rw (args-behind t (dirty t) q (xs .len) (xs .a0) (xs .a1) (xs .a2) (xs .a3)) e;
+          behind = rw (args-behind (λ i. isDirty (dirty t) (dropped q i)) (xs .len) (xs .a0) (xs .a1) (xs .a2) (xs .a3)) e;
         }
 
-    node-right : (x : Node) → NodeValid s n x → countRight t x ≡ true → argsEmpty x ≡ true → Right p n (closedNode t (dirty t) p n (arc p) x)
-    unfolding countRight removedRight argsEmpty arcTo arcNo closedNode
-    node-right Absent h k e = absent-right p n (h .0)
-    node-right (Start to) h k e = record { valid = (h .0, arc-valid p to (h .1)); counts = refl; leads = one p to (h .1); removals = refl; behind = refl }
-    node-right (Set x i a b to) h k e = record { valid = (h .0, h .1, h .2, h .3, arc-valid p to (h .4)); counts = refl; leads = one p to (h .4); removals = refl; behind = refl }
-    node-right (Test i a b y m) h k e = record { valid = (h .0, h .1, h .2, h .3, arc-valid p y (h .4), arc-valid p m (h .5)); counts = refl; leads = all-append (Stays p) (members (arc p y)) (members (arc p m)) (stays p y (h .4)) (stays p m (h .5)); removals = refl; behind = refl }
-    node-right (Read x to) h k e = absent-right p n (h .0)
-    node-right (Call q xs to) h k e = call-right q xs to h k e
-    node-right (Wait i to) h k e = record { valid = (h .0, h .1, arc-valid p to (h .2)); counts = refl; leads = one p to (h .2); removals = refl; behind = refl }
-    node-right (Signal i to) h k e = record { valid = (h .0, h .1, arc-valid p to (h .2)); counts = refl; leads = one p to (h .2); removals = refl; behind = refl }
-    node-right (Send q x to) h k e = record { valid = (h .0, h .1, mark-at (blank q) x (h .2), arc-valid p to (h .3)); counts = refl; leads = one p to (h .3); removals = queue-right q x (h .2); behind = refl }
-    node-right (Recv q x to) h k e = record { valid = (h .0, h .1, mark-at (blank q) x (h .2), arc-valid p to (h .3)); counts = refl; leads = one p to (h .3); removals = queue-right q x (h .2); behind = refl }
-    node-right (Assert x to) h k e = record { valid = (h .0, mark-at (useAt p n x) x (h .1), arc-valid p to (h .2)); counts = refl; leads = one p to (h .2); removals = refl; behind = refl }
-    node-right (Out x to) h k e = record { valid = (h .0, mark-at (useAt p n x) x (h .1), arc-valid p to (h .2)); counts = refl; leads = one p to (h .2); removals = refl; behind = refl }
-    node-right Return h k e = record { valid = h; counts = refl; leads = all-append (Stays p) (members 0) (members 0) (none (Stays p)) (none (Stays p)); removals = refl; behind = refl }
+    node-right : (x : Node) → kept (dirty t) p n x ≡ true → NodeValid s n x → countRight t x ≡ true → argsEmpty x ≡ true → Right p n (closedNode t (dirty t) p n (arc p) x)
+    unfolding parts closedNode mapNode kept
+    node-right Absent y h k e = absurd (false≢true y)
+    node-right (Start to) y h k e = record { valid = (h .0, arc-valid p to (h .1)); counts = refl; leads = one p to (h .1); removals = refl; behind = refl }
+    node-right (Set x i a b to) y h k e = record { valid = (h .0, h .1, h .2, h .3, arc-valid p to (h .4)); counts = refl; leads = one p to (h .4); removals = refl; behind = refl }
+    node-right (Test i a b r m) y h k e = record { valid = (h .0, h .1, h .2, h .3, arc-valid p r (h .4), arc-valid p m (h .5)); counts = refl; leads = all-append (Stays p) (members (arc p r)) (members (arc p m)) (stays p r (h .4)) (stays p m (h .5)); removals = refl; behind = refl }
+    node-right (Read x to) y h k e = absurd (false≢true y)
+    node-right (Call q xs to) y h k e = call-right q xs to h k e
+    node-right (Wait i to) y h k e = record { valid = (h .0, h .1, arc-valid p to (h .2)); counts = refl; leads = one p to (h .2); removals = refl; behind = refl }
+    node-right (Signal i to) y h k e = record { valid = (h .0, h .1, arc-valid p to (h .2)); counts = refl; leads = one p to (h .2); removals = refl; behind = refl }
+    node-right (Send q x to) y h k e = record { valid = (h .0, h .1, mark-at (blank q) x (h .2), arc-valid p to (h .3)); counts = refl; leads = one p to (h .3); removals = queue-right q x (h .2); behind = refl }
+    node-right (Recv q x to) y h k e = record { valid = (h .0, h .1, mark-at (blank q) x (h .2), arc-valid p to (h .3)); counts = refl; leads = one p to (h .3); removals = queue-right q x (h .2); behind = refl }
+    node-right (Assert x to) y h k e = record { valid = (h .0, mark-at (dirtyBefore p n x) x (h .1), arc-valid p to (h .2)); counts = refl; leads = one p to (h .2); removals = refl; behind = refl }
+    node-right (Out x to) y h k e = record { valid = (h .0, mark-at (dirtyBefore p n x) x (h .1), arc-valid p to (h .2)); counts = refl; leads = one p to (h .2); removals = refl; behind = refl }
+    node-right Return y h k e = record { valid = h; counts = refl; leads = all-append (Stays p) (members 0) (members 0) (none (Stays p)) (none (Stays p)); removals = refl; behind = refl }
 
   -- node 0 is a start, and so kept
   unkept-later : (p n : ℕ) → p < t .procs → kept (dirty t) p n (nodeAt t p n) ≡ false → 0 < n
-  unfolding kept keeping
+  unfolding kept parts
   unkept-later p zero l e = absurd (false≢true (sym e ∙ rw (start-at t v p l .1)))
   unkept-later p (suc n) l e = omega arith
 
@@ -204,28 +208,19 @@ module _ (t : Table) (z : fault t ≡ 0) (o : t .closed ≡ false) where
   right-at p n l j =
       let m : n < procAt t p .nodes = rw (close-nodes t p) at j in
       cases (kept (dirty t) p n (nodeAt t p n))
-      (λ k. rw (kept-node t p n k) (node-right p n l (nodeAt t p n) (v .lines .proc p l .node n m) (v .counts p n l m) (args-empty p n l m)))
+      (λ k. rw (kept-node t p n k) (node-right p n l (nodeAt t p n) k (v .lines .proc p l .node n m) (v .counts p n l m) (args-empty p n l m)))
       (λ k. rw (unkept-node t p n k) (absent-right p n (unkept-later p n l k)))
 
   -- a kept node stands in the closed table
   present : (p n : ℕ) → Stays p n → isAbsent (nodeAt c p n) ≡ false
-  unfolding kept keeping closedNode isAbsent
-  present p n k = rw (kept-node t p n k) (go (nodeAt t p n) k)
+  unfolding kept closedNode
+  present p n k = rw (kept-node t p n k, mapped (arc p) (varOr t (dirty t) p n (act (nodeAt t p n))) (nodeAt t p n) .keeping) (go (keeping (nodeAt t p n)) k)
     where
-      go : (x : Node) → kept (dirty t) p n x ≡ true → isAbsent (closedNode t (dirty t) p n (arc p) x) ≡ false
-      go Absent k = absurd (false≢true k)
-      go (Start a) k = refl
-      go (Set w i a b e) k = refl
-      go (Test i a b y e) k = refl
-      go (Read w a) k = absurd (false≢true k)
-      go (Call q xs a) k = refl
-      go (Wait i a) k = refl
-      go (Signal i a) k = refl
-      go (Send q w a) k = refl
-      go (Recv q w a) k = refl
-      go (Assert w a) k = refl
-      go (Out w a) k = refl
-      go Return k = refl
+      go : (b : Keeping) → keptBy (dirty t) b p n (uses (nodeAt t p n)) ≡ true → noNode b ≡ false
+      go always e = refl
+      go ifClean e = refl
+      go never e = refl
+      go absent e = absurd (false≢true e)
 
   -- ---- lines
 
@@ -271,7 +266,7 @@ module _ (t : Table) (z : fault t ≡ 0) (o : t .closed ≡ false) where
   -- ---- unused places
 
   absent-at : (p n : ℕ) → (t .procs ≤ p) ⊎ (procAt t p .nodes ≤ n) → isAbsent (nodeAt c p n) ≡ true
-  unfolding kept keeping isAbsent
+  unfolding kept parts
   absent-at p n h = rw (unkept-node t p n (rw (outside-absent t z p n h)))
 
   queues-empty : every queueEmpty (drop (t .queues) (c .queue)) ≡ true

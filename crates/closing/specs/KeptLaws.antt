@@ -5,10 +5,10 @@ use mathlib.Core.Logic.{_↔_}
 use mathlib.Core.Bool.{Bool, true, false, true≢false, false≢true}
 use mathlib.Core.List.{List, [], _∷_, List·Memᴰ, List·Memᴰ·head, List·Memᴰ·tail}
 use borrow.Author.Tests.{not-false}
-use Rattle.table.specs.Table.{nodeAt, uses, Keeping, always, never, ifClean, keeping}
+use Rattle.table.specs.Cases.{cases}
+use Rattle.table.specs.Table.{nodeAt, uses, Keeping, always, ifClean, never, absent, keeping}
 use Rattle.table.specs.declared.Table.{Table}
-use Rattle.closing.specs.ReachLaws.{cases}
-use Rattle.closing.specs.Dirty.{Fact, useAt, Unkept, never-kept, dirty-use}
+use Rattle.closing.specs.Dirty.{Fact, dirtyBefore, Unkept, no-node, a-read, dirty-use}
 use Rattle.closing.specs.Closing.{dirty, isDirty, anyDirty, keptBy, kept}
 use Rattle.closing.specs.DirtyLaws.{dirty-is}
 
@@ -20,18 +20,18 @@ same-test false false f g = refl
 
 module _ (d : List Fact) (p n : ℕ) where
   -- one of some uses is dirty: which
-  any-out : (us : List ℕ) → anyDirty d p n us ≡ true → (u : ℕ) × List·Memᴰ u us × (isDirty d (useAt p n u) ≡ true)
+  any-out : (us : List ℕ) → anyDirty d p n us ≡ true → (u : ℕ) × List·Memᴰ u us × (isDirty d (dirtyBefore p n u) ≡ true)
   unfolding anyDirty
   any-out [] h = absurd (false≢true h)
-  any-out (u ∷ us) h = cases (isDirty d (useAt p n u))
+  any-out (u ∷ us) h = cases (isDirty d (dirtyBefore p n u))
       (λ e. (u, List·Memᴰ·head refl, e))
       (λ e. let r = any-out us (rw e at h) in (r .0, List·Memᴰ·tail (r .1), r .2))
 
   -- and back
-  any-in : (u : ℕ) (us : List ℕ) → List·Memᴰ u us → isDirty d (useAt p n u) ≡ true → anyDirty d p n us ≡ true
+  any-in : (u : ℕ) (us : List ℕ) → List·Memᴰ u us → isDirty d (dirtyBefore p n u) ≡ true → anyDirty d p n us ≡ true
   unfolding anyDirty
   any-in u us (List·Memᴰ·head e) h = rw (← e, h)
-  any-in u us (List·Memᴰ·tail {x = w} {xs = r} m) h = cases (isDirty d (useAt p n w))
+  any-in u us (List·Memᴰ·tail {x = w} {xs = r} m) h = cases (isDirty d (dirtyBefore p n w))
       (λ e. rw e)
       (λ e. rw e (any-in u r m h))
 
@@ -42,12 +42,14 @@ unkept-is t p n = (out (keeping (nodeAt t p n)) refl, back)
   where
     out : (k : Keeping) → keeping (nodeAt t p n) ≡ k → keptBy (dirty t) k p n (uses (nodeAt t p n)) ≡ false → Unkept t p n
     out always e h = absurd (true≢false h)
-    out never e h = never-kept e
-    out ifClean e h = let r = any-out (dirty t) p n (uses (nodeAt t p n)) (not-false _ h) in dirty-use (r .0) e (r .1) (dirty-is t (useAt p n (r .0)) .0 (r .2))
+    out never e h = a-read e
+    out absent e h = no-node e
+    out ifClean e h = let r = any-out (dirty t) p n (uses (nodeAt t p n)) (not-false _ h) in dirty-use (r .0) e (r .1) (dirty-is t (dirtyBefore p n (r .0)) .0 (r .2))
 
     back : Unkept t p n → keptBy (dirty t) (keeping (nodeAt t p n)) p n (uses (nodeAt t p n)) ≡ false
-    back (never-kept e) = rw e
-    back (dirty-use u e m h) = rw (e, any-in (dirty t) p n u (uses (nodeAt t p n)) m (dirty-is t (useAt p n u) .1 h))
+    back (a-read e) = rw e
+    back (no-node e) = rw e
+    back (dirty-use u e m h) = rw (e, any-in (dirty t) p n u (uses (nodeAt t p n)) m (dirty-is t (dirtyBefore p n u) .1 h))
 
 -- and kept if and only if it is not one of those
 pub kept-is : (t : Table) (p n : ℕ) → (kept (dirty t) p n (nodeAt t p n) ≡ true) ↔ (Unkept t p n → ⊥)

@@ -1,5 +1,3 @@
-pub mod Reach
-pub mod ReachLaws
 pub mod Dirty
 pub mod ClosedTable
 pub mod Closing

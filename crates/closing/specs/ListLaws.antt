@@ -5,8 +5,8 @@ use mathlib.Core.Path.{refl}
 use mathlib.Core.List.{List, [], _∷_, _++_, map, List·Memᴰ, List·Memᴰ·head, List·Memᴰ·tail, List·Memᴰ·not-nil, Memᴰ·append-left, Memᴰ·append-right}
 use lib.Dec.{eqb}
 use borrow.Author.Tests.{eqb-true, eqb-false}
-use Rattle.closing.specs.ReachLaws.{cases}
 use Rattle.closing.specs.Closing.{forEach, upTo}
+use Rattle.table.specs.Cases.{cases}
 
 -- ---- every element of a list has P
 module _ {A : Type 0} (P : A → Type 0) where

@@ -3,10 +3,12 @@ use table::Args;
 use table::Node;
 use table::Operand;
 ghost use mathlib.Core.Path.{_≡_};
-ghost use mathlib.Core.Bool.{true, _||_};
+ghost use mathlib.Core.Bool.{true, not, _||_};
+ghost use mathlib.Core.List.{_++_};
 ghost use Prim.Native.Nat.{_<_, _^_, _%_};
 ghost use Rattle.table.specs.Mask.{bit};
-ghost use Rattle.flow.specs.Flow.{low, operandDirty, operandsDirty, afterSet, oneFlow, plainFlow, settingFlow, testFlow, argBit, passedBits, callFlow, sentBit, sendFlow, noFlow, flowOf, usesOf, plainPass, setPass, passOf, afterPass, cleanBy, keptWith};
+ghost use Rattle.table.specs.Table.{operandUses, parts};
+ghost use Rattle.flow.specs.Flow.{low, anyOf, afterSet, oneFlow, plainFlow, settingFlow, testFlow, argBit, passedBits, callFlow, sentBit, sendFlow, firstTo, flowOf, usesOf, plainPass, setPass, passOf, afterPass, keptWith};
 
 // Where the dirty variables of a node go: `out` to two nodes of its procedure, `add` to one more cell. Of 265 cells the
 // first 256 are the nodes', 8 are the procedures' dropped parameters, and the last, 264, is the blank queues.
@@ -40,7 +42,7 @@ pub fn target(to: u32) -> usize
 }
 
 fn operand_dirty(o: Operand, i: u32) -> bool
-    ensures { λ r. ⌜ r ≡ operandDirty o i ⌝ }
+    ensures { λ r. ⌜ r ≡ anyOf (operandUses o) i ⌝ }
 {
     match o {
         Operand::Var(v) => has(i, v),
@@ -50,7 +52,7 @@ fn operand_dirty(o: Operand, i: u32) -> bool
 
 // Whether a `set` or a `test` has a dirty use.
 fn operands_dirty(a: Operand, b: Operand, i: u32) -> bool
-    ensures { λ r. ⌜ r ≡ operandsDirty a b i ⌝ }
+    ensures { λ r. ⌜ r ≡ anyOf (operandUses a ++ operandUses b) i ⌝ }
 {
     let x = operand_dirty(a, i);
     let y = operand_dirty(b, i);
@@ -81,13 +83,6 @@ fn one_flow(to: u32, out: u32, extra: usize, add: u32) -> Flow
         extra,
         add,
     }
-}
-
-// A node that sets nothing.
-fn plain_flow(to: u32, i: u32) -> Flow
-    ensures { λ r. ⌜ r ≡ plainFlow to i ⌝ }
-{
-    one_flow(to, i, 264, 0)
 }
 
 // A node that sets a variable, dirty or clean.
@@ -160,13 +155,58 @@ fn send_flow(q: u8, v: u8, to: u32, i: u32) -> Flow
     one_flow(to, i, 264, m)
 }
 
-// A node without an arc: what is dirty stays where it is.
-fn no_flow(n: usize, i: u32) -> Flow
-    ensures { λ r. ⌜ r ≡ noFlow n i ⌝ }
+// The first target of a node; one without an arc, at place n, stays where it is.
+pub fn first_of(x: Node, n: usize) -> usize
+    ensures { λ r. ⌜ r ≡ firstTo n (parts x .exit) ⌝ }
+{
+    match x {
+        Node::Absent => n,
+        Node::Start { to } => target(to),
+        Node::Set {
+            var: _,
+            op: _,
+            a: _,
+            b: _,
+            to,
+        } => target(to),
+        Node::Test {
+            op: _,
+            a: _,
+            b: _,
+            yes,
+            no: _,
+        } => target(yes),
+        Node::Read { var: _, to } => target(to),
+        Node::Call {
+            callee: _,
+            args: _,
+            to,
+        } => target(to),
+        Node::Wait { sem: _, to } => target(to),
+        Node::Signal { sem: _, to } => target(to),
+        Node::Send {
+            queue: _,
+            var: _,
+            to,
+        } => target(to),
+        Node::Recv {
+            queue: _,
+            var: _,
+            to,
+        } => target(to),
+        Node::Assert { var: _, to } => target(to),
+        Node::Out { var: _, to } => target(to),
+        Node::Return => n,
+    }
+}
+
+// What is dirty goes on to node k, and no more.
+fn plain_flow(k: usize, i: u32) -> Flow
+    ensures { λ r. ⌜ r ≡ plainFlow k i ⌝ }
 {
     Flow {
-        first: n,
-        second: n,
+        first: k,
+        second: k,
         out: i,
         extra: 264,
         add: 0,
@@ -178,8 +218,6 @@ pub fn flow_of(x: Node, n: usize, i: u32, b: u32) -> Flow
     ensures { λ r. ⌜ r ≡ flowOf x n i b ⌝ }
 {
     match x {
-        Node::Absent => no_flow(n, i),
-        Node::Start { to } => plain_flow(to, i),
         Node::Set {
             var,
             op: _,
@@ -199,16 +237,15 @@ pub fn flow_of(x: Node, n: usize, i: u32, b: u32) -> Flow
         } => test_flow(yes, no, i),
         Node::Read { var, to } => setting_flow(var, to, i, true),
         Node::Call { callee, args, to } => call_flow(callee, args, to, i),
-        Node::Wait { sem: _, to } => plain_flow(to, i),
-        Node::Signal { sem: _, to } => plain_flow(to, i),
         Node::Send { queue, var, to } => send_flow(queue, var, to, i),
         Node::Recv { queue, var, to } => {
             let blank = has(b, queue);
             setting_flow(var, to, i, blank)
         }
-        Node::Assert { var: _, to } => plain_flow(to, i),
-        Node::Out { var: _, to } => plain_flow(to, i),
-        Node::Return => no_flow(n, i),
+        _ => {
+            let k = first_of(x, n);
+            plain_flow(k, i)
+        }
     }
 }
 
@@ -241,14 +278,6 @@ fn plain_pass(to: usize) -> Pass
     }
 }
 
-// The target of an arc, of a node that sets nothing.
-fn arc_pass(to: u32) -> Pass
-    ensures { λ r. ⌜ r ≡ plainPass (low to) ⌝ }
-{
-    let k = target(to);
-    plain_pass(k)
-}
-
 fn set_pass(var: u8, a: Operand, b: Operand, to: u32) -> Pass
     ensures { λ r. ⌜ r ≡ setPass var a b to ⌝ }
 {
@@ -268,8 +297,6 @@ pub fn pass_of(x: Node, n: usize) -> Pass
     ensures { λ r. ⌜ r ≡ passOf x n ⌝ }
 {
     match x {
-        Node::Absent => plain_pass(n),
-        Node::Start { to } => arc_pass(to),
         Node::Set {
             var,
             op: _,
@@ -290,8 +317,6 @@ pub fn pass_of(x: Node, n: usize) -> Pass
             args: _,
             to: _,
         } => plain_pass(32),
-        Node::Wait { sem: _, to } => arc_pass(to),
-        Node::Signal { sem: _, to } => arc_pass(to),
         Node::Send {
             queue: _,
             var: _,
@@ -302,9 +327,10 @@ pub fn pass_of(x: Node, n: usize) -> Pass
             var: _,
             to: _,
         } => plain_pass(32),
-        Node::Assert { var: _, to } => arc_pass(to),
-        Node::Out { var: _, to } => arc_pass(to),
-        Node::Return => plain_pass(n),
+        _ => {
+            let k = first_of(x, n);
+            plain_pass(k)
+        }
     }
 }
 
@@ -317,7 +343,7 @@ pub fn after_pass(s: Pass, i: u32) -> u32
 
 // Whether a `set` or a `test` has no dirty use.
 fn operands_clean(a: Operand, b: Operand, i: u32) -> bool
-    ensures { λ r. ⌜ r ≡ cleanBy a b i ⌝ }
+    ensures { λ r. ⌜ r ≡ not (anyOf (operandUses a ++ operandUses b) i) ⌝ }
 {
     !operands_dirty(a, b, i)
 }
@@ -328,7 +354,6 @@ pub fn kept_node(x: Node, i: u32) -> bool
 {
     match x {
         Node::Absent => false,
-        Node::Start { to: _ } => true,
         Node::Set {
             var: _,
             op: _,
@@ -344,25 +369,6 @@ pub fn kept_node(x: Node, i: u32) -> bool
             no: _,
         } => operands_clean(a, b, i),
         Node::Read { var: _, to: _ } => false,
-        Node::Call {
-            callee: _,
-            args: _,
-            to: _,
-        } => true,
-        Node::Wait { sem: _, to: _ } => true,
-        Node::Signal { sem: _, to: _ } => true,
-        Node::Send {
-            queue: _,
-            var: _,
-            to: _,
-        } => true,
-        Node::Recv {
-            queue: _,
-            var: _,
-            to: _,
-        } => true,
-        Node::Assert { var: _, to: _ } => true,
-        Node::Out { var: _, to: _ } => true,
-        Node::Return => true,
+        _ => true,
     }
 }

@@ -1,6 +1,5 @@
-use Prim.Native.Nat.{ℕ, _*_, _-_, _≤_}
+use Prim.Native.Nat.{_*_, _-_, _≤_}
 use mathlib.Core.Path.{_≡_, refl, ap}
-use lib.Dec.{eqb}
 use Rattle.table.specs.Mask.{maskOf}
 use Rattle.masks.specs.Bits.{mask-next}
 use Rattle.analysis.specs.Sources.{readIn, recvIn}
@@ -29,8 +28,11 @@ mul-y c = search needs
 element-copy-out-y : tie.Need-element-copy-out-y Inv-loop μ-loop
 element-copy-out-y c = search needs
 
-source-requires : tie.Need-source-requires Inv-loop μ-loop
-source-requires c κs = search needs
+is-read-requires : tie.Need-is-read-requires Inv-loop μ-loop
+is-read-requires c κs = search needs
+
+is-recv-requires : tie.Need-is-recv-requires Inv-loop μ-loop
+is-recv-requires c κs = search needs
 
 with-requires : tie.Need-with-requires Inv-loop μ-loop
 with-requires c κs = search needs
@@ -60,7 +62,7 @@ element-write-sets : tie.Need-element-write-sets Inv-loop μ-loop
 element-write-sets c = search needs
 
 cast-tos : tie.Need-cast-tos Inv-loop μ-loop
-cast-tos c = omega (arith, pass-small _ _ (c .before .pass-of .ensures) (c .before .before .before .before .before .before .before .loop .inv .0))
+cast-tos c = omega (arith, pass-small _ _ (c .before .pass-of .ensures) (c .before .before .before .before .before .before .before .before .loop .inv .0))
 
 element-write-tos : tie.Need-element-write-tos Inv-loop μ-loop
 element-write-tos c = search needs
@@ -73,10 +75,9 @@ loop-less c = search needs
 
 loop-again : tie.Need-loop-again Inv-loop μ-loop
 loop-again c =
-    let h = c .before .before .before .before .before .before .before .loop in
-    let e = c .before .pass-of .ensures in
-    let k = c .before .before .before .before .source .ensures in (
-      omega (arith, c .before .before .before .before .before .before .loop-test .taken),
+    let h = c .before .before .before .before .before .before .before .before .loop in
+    let e = c .before .pass-of .ensures in (
+      omega (arith, c .before .before .before .before .before .before .before .loop-test .taken),
       (
         stored-next _ _ (h .n) _ (h .inv .1 .0) (ap (λ (y : Pass). y .uses) e),
         (
@@ -84,8 +85,8 @@ loop-again c =
           (
             stored-next _ _ (h .n) _ (h .inv .1 .1 .1 .0) (ap (λ (y : Pass). y .to) e),
             (
-              mask-next _ (h .n) (h .reads) _ (h .inv .1 .1 .1 .1 .0) (ap (λ (j : ℕ). eqb j 1) k) (c .before .before .before .with .ensures),
-              mask-next _ (h .n) (h .recvs) _ (h .inv .1 .1 .1 .1 .1) (ap (λ (j : ℕ). eqb j 2) k) (c .before .before .with2 .ensures),
+              mask-next _ (h .n) (h .reads) _ (h .inv .1 .1 .1 .1 .0) (c .before .before .before .before .before .is-read .ensures) (c .before .before .before .with .ensures),
+              mask-next _ (h .n) (h .recvs) _ (h .inv .1 .1 .1 .1 .1) (c .before .before .before .before .is-recv .ensures) (c .before .before .with2 .ensures),
             ),
           ),
         ),
@@ -107,7 +108,8 @@ plan-spec =
     loop-holds
     mul-y
     element-copy-out-y
-    source-requires
+    is-read-requires
+    is-recv-requires
     with-requires
     with-requires-2
     pass-of-requires

@@ -1,4 +1,6 @@
-use Rattle.flow.specs.Flow.{operandDirty}
+use Rattle.flow.specs.Flow.{anyOf}
+use Rattle.flow.specs.FlowLaws.{or-false}
+use Rattle.table.specs.Table.{operandUses}
 use Rattle.table.specs.declared.Operand.{Operand}
 use mathlib.Core.Path.{sym, _∙_, ap}
 use borrow.Author.Needs.{needs}
@@ -15,7 +17,7 @@ enum-told : tie.Need-enum-told
 enum-told c = search needs
 
 returns : tie.Need-returns
-returns c = let a = c .before .before .before .before .args in c .has .ensures ∙ ap (λ (o : Operand). operandDirty o (a .i)) (sym (c .before .before .o .given .1))
+returns c = let a = c .before .before .before .before .args in c .has .ensures ∙ sym (or-false _) ∙ ap (λ (o : Operand). anyOf (operandUses o) (a .i)) (sym (c .before .before .o .given .1))
 
 returns-2 : tie.Need-returns-2
 returns-2 c = search needs

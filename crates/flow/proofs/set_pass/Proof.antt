@@ -1,3 +1,4 @@
+use Rattle.flow.specs.FlowLaws.{mask-both}
 use borrow.Author.Needs.{needs}
 use Rattle.flow.proofs.set_pass.Statement.{statement}
 use Rattle.flow.proofs.set_pass.Tie as tie
@@ -15,7 +16,7 @@ target-requires : tie.Need-target-requires
 target-requires c κs = search needs
 
 returns : tie.Need-returns
-returns c = cc
+returns c = let a = c .before .before .before .before .args in let m = mask-both (a .a) (a .b) in cc
 
 pub set-pass-spec : {M : Type 1} → statement M
 set-pass-spec =
