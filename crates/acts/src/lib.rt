@@ -116,136 +116,88 @@ pub fn pass<'a>(x: Node, vars: &'a [i32; 16], values: &'a [i32], used: usize) ->
     }
 }
 
-pub fn arc_to(x: Node) -> u32
-    ensures { λ r. ⌜ r ≡ arcTo x ⌝ }
+// How a node goes on: by its arc, of a test the one at `yes`; a test's arc at `no`, 0 for every other node; how many frames it closes.
+pub struct Leaving {
+    pub to: u32,
+    pub no: u32,
+    pub back: u8,
+}
+
+fn leave(x: Node) -> Leaving
+    ensures { λ r. ⌜ (r .to ≡ arcTo x) × ((r .no ≡ arcNo x) × (r .back ≡ backOf x)) ⌝ }
 {
     match x {
-        Node::Absent => 0,
-        Node::Start { to } => to,
+        Node::Absent => Leaving {
+            to: 0,
+            no: 0,
+            back: 0,
+        },
+        Node::Start { to } => Leaving { to, no: 0, back: 0 },
         Node::Set {
             var: _,
             op: _,
             a: _,
             b: _,
             to,
-        } => to,
+        } => Leaving { to, no: 0, back: 0 },
         Node::Test {
             op: _,
             a: _,
             b: _,
             yes,
-            no: _,
-        } => yes,
-        Node::Read { var: _, to } => to,
+            no,
+        } => Leaving {
+            to: yes,
+            no,
+            back: 0,
+        },
+        Node::Read { var: _, to } => Leaving { to, no: 0, back: 0 },
         Node::Call {
             callee: _,
             args: _,
             to,
-        } => to,
-        Node::Wait { sem: _, to } => to,
-        Node::Signal { sem: _, to } => to,
+        } => Leaving { to, no: 0, back: 0 },
+        Node::Wait { sem: _, to } => Leaving { to, no: 0, back: 0 },
+        Node::Signal { sem: _, to } => Leaving { to, no: 0, back: 0 },
         Node::Send {
             queue: _,
             var: _,
             to,
-        } => to,
+        } => Leaving { to, no: 0, back: 0 },
         Node::Recv {
             queue: _,
             var: _,
             to,
-        } => to,
-        Node::Assert { var: _, to } => to,
-        Node::Out { var: _, to } => to,
-        Node::Return => 0,
+        } => Leaving { to, no: 0, back: 0 },
+        Node::Assert { var: _, to } => Leaving { to, no: 0, back: 0 },
+        Node::Out { var: _, to } => Leaving { to, no: 0, back: 0 },
+        Node::Return => Leaving {
+            to: 0,
+            no: 0,
+            back: 1,
+        },
     }
+}
+
+pub fn arc_to(x: Node) -> u32
+    ensures { λ r. ⌜ r ≡ arcTo x ⌝ }
+{
+    let l = leave(x);
+    l.to
 }
 
 // A test's arc at `no`; 0 for every other node.
 pub fn arc_no(x: Node) -> u32
     ensures { λ r. ⌜ r ≡ arcNo x ⌝ }
 {
-    match x {
-        Node::Absent => 0,
-        Node::Start { to: _ } => 0,
-        Node::Set {
-            var: _,
-            op: _,
-            a: _,
-            b: _,
-            to: _,
-        } => 0,
-        Node::Test {
-            op: _,
-            a: _,
-            b: _,
-            yes: _,
-            no,
-        } => no,
-        Node::Read { var: _, to: _ } => 0,
-        Node::Call {
-            callee: _,
-            args: _,
-            to: _,
-        } => 0,
-        Node::Wait { sem: _, to: _ } => 0,
-        Node::Signal { sem: _, to: _ } => 0,
-        Node::Send {
-            queue: _,
-            var: _,
-            to: _,
-        } => 0,
-        Node::Recv {
-            queue: _,
-            var: _,
-            to: _,
-        } => 0,
-        Node::Assert { var: _, to: _ } => 0,
-        Node::Out { var: _, to: _ } => 0,
-        Node::Return => 0,
-    }
+    let l = leave(x);
+    l.no
 }
 
 // How many frames a node closes.
 pub fn closes(x: Node) -> u8
     ensures { λ r. ⌜ r ≡ backOf x ⌝ }
 {
-    match x {
-        Node::Absent => 0,
-        Node::Start { to: _ } => 0,
-        Node::Set {
-            var: _,
-            op: _,
-            a: _,
-            b: _,
-            to: _,
-        } => 0,
-        Node::Test {
-            op: _,
-            a: _,
-            b: _,
-            yes: _,
-            no: _,
-        } => 0,
-        Node::Read { var: _, to: _ } => 0,
-        Node::Call {
-            callee: _,
-            args: _,
-            to: _,
-        } => 0,
-        Node::Wait { sem: _, to: _ } => 0,
-        Node::Signal { sem: _, to: _ } => 0,
-        Node::Send {
-            queue: _,
-            var: _,
-            to: _,
-        } => 0,
-        Node::Recv {
-            queue: _,
-            var: _,
-            to: _,
-        } => 0,
-        Node::Assert { var: _, to: _ } => 0,
-        Node::Out { var: _, to: _ } => 0,
-        Node::Return => 1,
-    }
+    let l = leave(x);
+    l.back
 }

@@ -9,8 +9,8 @@ use lib.ListN.{length, getD, drop, length-drop}
 use lib.Seq.{drop-cons}
 use lib.Dec.{ltb}
 use borrow.Author.Tests.{ne-eqb}
+use Rattle.table.specs.Cases.{cases}
 use Rattle.table.specs.Mask.{pick, bit, membersFrom, members}
-use Rattle.text.specs.NumberLaws.{cases}
 use Rattle.text.specs.Reader.{concatFrom}
 use Rattle.put.specs.Put.{Put}
 use Rattle.put.specs.PutLaws.{put-after, put-more}

@@ -11,6 +11,7 @@ use Rattle.table.specs.declared.Node.{Node}
 use Rattle.table.specs.declared.Node.the-variants.{Absent, Start, Set, Test, Read, Call, Wait, Signal, Send, Recv, Assert, Out, Return}
 use Rattle.table.specs.declared.Slot.{Slot}
 use Rattle.decoding.specs.declared.Opcode.{Opcode}
+use Rattle.decoding.specs.declared.Decoded.{Decoded}
 use Rattle.decoding.specs.declared.OpcodeSlot.{OpcodeSlot}
 use Rattle.decoding.specs.declared.Opcode.the-variants.{Absent as AbsentCode, Start as StartCode, Set as SetCode, Test as TestCode, Read as ReadCode, Call as CallCode, Wait as WaitCode, Signal as SignalCode, Send as SendCode, Recv as RecvCode, Assert as AssertCode, Out as OutCode, Return as ReturnCode}
 
@@ -29,54 +30,36 @@ constOf (Const c) = c
 abbrev pub operandOf : ℕ → ℤ → Operand
 operandOf v c = pick (leb 16 v) (Const c) (Var v)
 
-unfoldable pub opcodeOf : Node → Opcode
-opcodeOf Absent = AbsentCode
-opcodeOf (Start to) = StartCode
-opcodeOf (Set v o a b to) = SetCode o
-opcodeOf (Test o a b y n) = TestCode o
-opcodeOf (Read v to) = ReadCode
-opcodeOf (Call q xs to) = CallCode
-opcodeOf (Wait i to) = WaitCode
-opcodeOf (Signal i to) = SignalCode
-opcodeOf (Send q v to) = SendCode
-opcodeOf (Recv q v to) = RecvCode
-opcodeOf (Assert v to) = AssertCode
-opcodeOf (Out v to) = OutCode
-opcodeOf Return = ReturnCode
-
 -- eight places, of which a node fills at most the first six
 abbrev pub eight : ℕ → ℕ → ℕ → ℕ → ℕ → ℕ → List ℕ
 eight a b c d e f = a ∷ b ∷ c ∷ d ∷ e ∷ f ∷ 0 ∷ 0 ∷ []
 
-unfoldable pub numbersOf : Node → List ℕ
-numbersOf Absent = eight 0 0 0 0 0 0
-numbersOf (Start to) = eight 0 0 0 0 0 0
-numbersOf (Set v o a b to) = eight v (varOf a) (varOf b) 0 0 0
-numbersOf (Test o a b y n) = eight (varOf a) (varOf b) 0 0 0 0
-numbersOf (Read v to) = eight v 0 0 0 0 0
-numbersOf (Call q xs to) = eight q (xs .len) (xs .a0) (xs .a1) (xs .a2) (xs .a3)
-numbersOf (Wait i to) = eight i 0 0 0 0 0
-numbersOf (Signal i to) = eight i 0 0 0 0 0
-numbersOf (Send q v to) = eight q v 0 0 0 0
-numbersOf (Recv q v to) = eight q v 0 0 0 0
-numbersOf (Assert v to) = eight v 0 0 0 0 0
-numbersOf (Out v to) = eight v 0 0 0 0 0
-numbersOf Return = eight 0 0 0 0 0 0
+abbrev pub codedAs : Opcode → List ℕ → Decoded
+codedAs k l = record { opcode = k; numbers = l; consts = pos 0 ∷ pos 0 ∷ [] }
 
-unfoldable pub constsOf : Node → List ℤ
-constsOf Absent = pos 0 ∷ pos 0 ∷ []
-constsOf (Start to) = pos 0 ∷ pos 0 ∷ []
-constsOf (Set v o a b to) = constOf a ∷ constOf b ∷ []
-constsOf (Test o a b y n) = constOf a ∷ constOf b ∷ []
-constsOf (Read v to) = pos 0 ∷ pos 0 ∷ []
-constsOf (Call q xs to) = pos 0 ∷ pos 0 ∷ []
-constsOf (Wait i to) = pos 0 ∷ pos 0 ∷ []
-constsOf (Signal i to) = pos 0 ∷ pos 0 ∷ []
-constsOf (Send q v to) = pos 0 ∷ pos 0 ∷ []
-constsOf (Recv q v to) = pos 0 ∷ pos 0 ∷ []
-constsOf (Assert v to) = pos 0 ∷ pos 0 ∷ []
-constsOf (Out v to) = pos 0 ∷ pos 0 ∷ []
-constsOf Return = pos 0 ∷ pos 0 ∷ []
+unfoldable pub decodedOf : Node → Decoded
+decodedOf Absent = codedAs AbsentCode (eight 0 0 0 0 0 0)
+decodedOf (Start to) = codedAs StartCode (eight 0 0 0 0 0 0)
+decodedOf (Set v o a b to) = record { opcode = SetCode o; numbers = eight v (varOf a) (varOf b) 0 0 0; consts = constOf a ∷ constOf b ∷ [] }
+decodedOf (Test o a b y n) = record { opcode = TestCode o; numbers = eight (varOf a) (varOf b) 0 0 0 0; consts = constOf a ∷ constOf b ∷ [] }
+decodedOf (Read v to) = codedAs ReadCode (eight v 0 0 0 0 0)
+decodedOf (Call q xs to) = codedAs CallCode (eight q (xs .len) (xs .a0) (xs .a1) (xs .a2) (xs .a3))
+decodedOf (Wait i to) = codedAs WaitCode (eight i 0 0 0 0 0)
+decodedOf (Signal i to) = codedAs SignalCode (eight i 0 0 0 0 0)
+decodedOf (Send q v to) = codedAs SendCode (eight q v 0 0 0 0)
+decodedOf (Recv q v to) = codedAs RecvCode (eight q v 0 0 0 0)
+decodedOf (Assert v to) = codedAs AssertCode (eight v 0 0 0 0 0)
+decodedOf (Out v to) = codedAs OutCode (eight v 0 0 0 0 0)
+decodedOf Return = codedAs ReturnCode (eight 0 0 0 0 0 0)
+
+abbrev pub opcodeOf : Node → Opcode
+opcodeOf x = decodedOf x .opcode
+
+abbrev pub numbersOf : Node → List ℕ
+numbersOf x = decodedOf x .numbers
+
+abbrev pub constsOf : Node → List ℤ
+constsOf x = decodedOf x .consts
 
 -- ---- the nodes of a row
 

@@ -1,6 +1,6 @@
 // Nodes decoded for a run: opcodes, numbers and constants, which stand in arrays of their own, so that a step loads only what it needs.
 ghost use mathlib.Core.Path.{_≡_};
-ghost use Rattle.decoding.specs.Decoding.{varOf, constOf, opcodeOf, numbersOf, constsOf, opcodesOf, numberRows, constRows};
+ghost use Rattle.decoding.specs.Decoding.{varOf, constOf, codedAs, decodedOf, opcodesOf, numberRows, constRows};
 use table::Node;
 use table::Op;
 use table::Operand;
@@ -50,70 +50,49 @@ fn constant(o: Operand) -> i32
 
 // ---- a node
 
-fn opcode_of(x: Node) -> Opcode
-    ensures { λ r. ⌜ r ≡ opcodeOf x ⌝ }
+// A node's opcode; its numbers but for its arcs, in the order in which its line has them, operands by `var`, a call's arguments behind their
+// count; the constants of a set's or a test's operands, 0 for every other node.
+pub struct Decoded {
+    pub opcode: Opcode,
+    pub numbers: [u8; 8],
+    pub consts: [i32; 2],
+}
+
+fn coded(opcode: Opcode, numbers: [u8; 8]) -> Decoded
+    ensures { λ r. ⌜ r ≡ codedAs opcode numbers ⌝ }
 {
-    match x {
-        Node::Absent => Opcode::Absent,
-        Node::Start { to: _ } => Opcode::Start,
-        Node::Set {
-            var: _,
-            op,
-            a: _,
-            b: _,
-            to: _,
-        } => Opcode::Set(op),
-        Node::Test {
-            op,
-            a: _,
-            b: _,
-            yes: _,
-            no: _,
-        } => Opcode::Test(op),
-        Node::Read { var: _, to: _ } => Opcode::Read,
-        Node::Call {
-            callee: _,
-            args: _,
-            to: _,
-        } => Opcode::Call,
-        Node::Wait { sem: _, to: _ } => Opcode::Wait,
-        Node::Signal { sem: _, to: _ } => Opcode::Signal,
-        Node::Send {
-            queue: _,
-            var: _,
-            to: _,
-        } => Opcode::Send,
-        Node::Recv {
-            queue: _,
-            var: _,
-            to: _,
-        } => Opcode::Recv,
-        Node::Assert { var: _, to: _ } => Opcode::Assert,
-        Node::Out { var: _, to: _ } => Opcode::Out,
-        Node::Return => Opcode::Return,
+    Decoded {
+        opcode,
+        numbers,
+        consts: [0, 0],
     }
 }
 
-// A node's numbers but for its arcs, in the order in which its line has them, operands by `var`; a call's arguments stand behind their count.
-fn numbers_of(x: Node) -> [u8; 8]
-    ensures { λ r. ⌜ r ≡ numbersOf x ⌝ }
+fn decode(x: Node) -> Decoded
+    ensures { λ r. ⌜ r ≡ decodedOf x ⌝ }
 {
     match x {
-        Node::Absent => [0, 0, 0, 0, 0, 0, 0, 0],
-        Node::Start { to: _ } => [0, 0, 0, 0, 0, 0, 0, 0],
+        Node::Absent => coded(Opcode::Absent, [0, 0, 0, 0, 0, 0, 0, 0]),
+        Node::Start { to: _ } => coded(Opcode::Start, [0, 0, 0, 0, 0, 0, 0, 0]),
         Node::Set {
             var: v,
-            op: _,
+            op,
             a,
             b,
             to: _,
         } => {
             let p = var(a);
             let q = var(b);
-            [v, p, q, 0, 0, 0, 0, 0]
+            let c = constant(a);
+            let d = constant(b);
+            Decoded {
+                opcode: Opcode::Set(op),
+                numbers: [v, p, q, 0, 0, 0, 0, 0],
+                consts: [c, d],
+            }
         }
         Node::Test {
-            op: _,
+            op,
             a,
             b,
             yes: _,
@@ -121,82 +100,38 @@ fn numbers_of(x: Node) -> [u8; 8]
         } => {
             let p = var(a);
             let q = var(b);
-            [p, q, 0, 0, 0, 0, 0, 0]
+            let c = constant(a);
+            let d = constant(b);
+            Decoded {
+                opcode: Opcode::Test(op),
+                numbers: [p, q, 0, 0, 0, 0, 0, 0],
+                consts: [c, d],
+            }
         }
-        Node::Read { var: v, to: _ } => [v, 0, 0, 0, 0, 0, 0, 0],
+        Node::Read { var: v, to: _ } => coded(Opcode::Read, [v, 0, 0, 0, 0, 0, 0, 0]),
         Node::Call {
             callee,
             args,
             to: _,
-        } => [callee, args.len, args.a0, args.a1, args.a2, args.a3, 0, 0],
-        Node::Wait { sem, to: _ } => [sem, 0, 0, 0, 0, 0, 0, 0],
-        Node::Signal { sem, to: _ } => [sem, 0, 0, 0, 0, 0, 0, 0],
+        } => coded(
+            Opcode::Call,
+            [callee, args.len, args.a0, args.a1, args.a2, args.a3, 0, 0],
+        ),
+        Node::Wait { sem, to: _ } => coded(Opcode::Wait, [sem, 0, 0, 0, 0, 0, 0, 0]),
+        Node::Signal { sem, to: _ } => coded(Opcode::Signal, [sem, 0, 0, 0, 0, 0, 0, 0]),
         Node::Send {
             queue,
             var: v,
             to: _,
-        } => [queue, v, 0, 0, 0, 0, 0, 0],
+        } => coded(Opcode::Send, [queue, v, 0, 0, 0, 0, 0, 0]),
         Node::Recv {
             queue,
             var: v,
             to: _,
-        } => [queue, v, 0, 0, 0, 0, 0, 0],
-        Node::Assert { var: v, to: _ } => [v, 0, 0, 0, 0, 0, 0, 0],
-        Node::Out { var: v, to: _ } => [v, 0, 0, 0, 0, 0, 0, 0],
-        Node::Return => [0, 0, 0, 0, 0, 0, 0, 0],
-    }
-}
-
-// The constants of a set's or a test's operands; 0 for every other node.
-fn consts_of(x: Node) -> [i32; 2]
-    ensures { λ r. ⌜ r ≡ constsOf x ⌝ }
-{
-    match x {
-        Node::Absent => [0, 0],
-        Node::Start { to: _ } => [0, 0],
-        Node::Set {
-            var: _,
-            op: _,
-            a,
-            b,
-            to: _,
-        } => {
-            let p = constant(a);
-            let q = constant(b);
-            [p, q]
-        }
-        Node::Test {
-            op: _,
-            a,
-            b,
-            yes: _,
-            no: _,
-        } => {
-            let p = constant(a);
-            let q = constant(b);
-            [p, q]
-        }
-        Node::Read { var: _, to: _ } => [0, 0],
-        Node::Call {
-            callee: _,
-            args: _,
-            to: _,
-        } => [0, 0],
-        Node::Wait { sem: _, to: _ } => [0, 0],
-        Node::Signal { sem: _, to: _ } => [0, 0],
-        Node::Send {
-            queue: _,
-            var: _,
-            to: _,
-        } => [0, 0],
-        Node::Recv {
-            queue: _,
-            var: _,
-            to: _,
-        } => [0, 0],
-        Node::Assert { var: _, to: _ } => [0, 0],
-        Node::Out { var: _, to: _ } => [0, 0],
-        Node::Return => [0, 0],
+        } => coded(Opcode::Recv, [queue, v, 0, 0, 0, 0, 0, 0]),
+        Node::Assert { var: v, to: _ } => coded(Opcode::Assert, [v, 0, 0, 0, 0, 0, 0, 0]),
+        Node::Out { var: v, to: _ } => coded(Opcode::Out, [v, 0, 0, 0, 0, 0, 0, 0]),
+        Node::Return => coded(Opcode::Return, [0, 0, 0, 0, 0, 0, 0, 0]),
     }
 }
 
@@ -213,7 +148,8 @@ pub fn opcodes(row: [Slot; 256]) -> [OpcodeSlot; 256]
     while a < 256 {
         let s = row[a];
         let x = s.node;
-        let k = opcode_of(x);
+        let d = decode(x);
+        let k = d.opcode;
         r[a] = OpcodeSlot { opcode: k };
         a = a + 1;
     }
@@ -229,7 +165,9 @@ pub fn numbers(row: [Slot; 256]) -> [[u8; 8]; 256]
     while a < 256 {
         let s = row[a];
         let x = s.node;
-        r[a] = numbers_of(x);
+        let d = decode(x);
+        let l = d.numbers;
+        r[a] = l;
         a = a + 1;
     }
     r
@@ -244,7 +182,9 @@ pub fn consts(row: [Slot; 256]) -> [[i32; 2]; 256]
     while a < 256 {
         let s = row[a];
         let x = s.node;
-        r[a] = consts_of(x);
+        let d = decode(x);
+        let l = d.consts;
+        r[a] = l;
         a = a + 1;
     }
     r

@@ -5,9 +5,8 @@ use mathlib.Core.List.{List, [], _++_}
 use lib.Dec.{eqb, ltb}
 use lib.ListN.{length, getD}
 use Rattle.table.specs.Mask.{pick, members}
-use Rattle.table.specs.Table.{procAt, noTask, noSlot, isAbsent}
+use Rattle.table.specs.Table.{procAt, noTask, noSlot, Exit, ends, by, either, parts, isAbsent}
 use Rattle.table.specs.declared.Node.{Node}
-use Rattle.table.specs.declared.Node.the-variants.{Absent, Start, Set, Test, Read, Call, Wait, Signal, Send, Recv, Assert, Out, Return}
 use Rattle.table.specs.declared.Slot.{Slot}
 use Rattle.table.specs.declared.Task.{Task}
 use Rattle.table.specs.declared.Proc.{Proc}
@@ -57,20 +56,13 @@ edgesText p n word toss ms = concatFrom (λ i. edgeText p n word toss i (getD ms
 unfoldable pub arcText : ℕ → ℕ → List ℕ → ℕ → List ℕ
 arcText p n word to = let ms = members to in pick (eqb (length ms) 0) (deadEnd p n word) (edgesText p n word (ltb 1 (length ms)) ms)
 
-unfoldable pub arcsText : ℕ → ℕ → Node → List ℕ
-arcsText p n Absent = []
-arcsText p n (Start to) = arcText p n [] to
-arcsText p n (Set v o a b to) = arcText p n [] to
-arcsText p n (Test o a b y z) = arcText p n (bytes " yes") y ++ arcText p n (bytes " no") z
-arcsText p n (Read v to) = arcText p n [] to
-arcsText p n (Call q x to) = arcText p n [] to
-arcsText p n (Wait s to) = arcText p n [] to
-arcsText p n (Signal s to) = arcText p n [] to
-arcsText p n (Send q v to) = arcText p n [] to
-arcsText p n (Recv q v to) = arcText p n [] to
-arcsText p n (Assert v to) = arcText p n [] to
-arcsText p n (Out v to) = arcText p n [] to
-arcsText p n Return = []
+abbrev pub exitText : ℕ → ℕ → Exit → List ℕ
+exitText p n ends = []
+exitText p n (by m) = arcText p n [] m
+exitText p n (either y z) = arcText p n (bytes " yes") y ++ arcText p n (bytes " no") z
+
+abbrev pub arcsText : ℕ → ℕ → Node → List ℕ
+arcsText p n x = exitText p n (parts x .exit)
 
 unfoldable pub nodeText : ℕ → ℕ → Bool → Node → List ℕ
 nodeText p n kept x = pick (isAbsent x) [] (boxText p n kept x ++ arcsText p n x)

@@ -5,6 +5,8 @@ pub mod Report
 pub mod Program
 pub mod Computing
 pub mod StepLaws
+pub mod ExecLaws
+pub mod RunLaws
 pub mod KeptLaws
 pub mod StopLaws
 pub mod ClosedRun

@@ -6,9 +6,8 @@ use lib.ListN.{length, getD, set, take, drop, replicate}
 use lib.Dec.{eqb, leb, ltb}
 use lib.IntN.{ℤ, pos}
 use Rattle.table.specs.Mask.{pick}
-use Rattle.table.specs.Table.{taskAt, queueAt, procAt, nodeAt}
+use Rattle.table.specs.Table.{taskAt, queueAt, procAt, nodeAt, Act, alone, waits, signals, sends, receives, calls, returns, act}
 use Rattle.table.specs.declared.Node.{Node}
-use Rattle.table.specs.declared.Node.the-variants.{Absent, Start, Set, Test, Read, Call, Wait, Signal, Send, Recv, Assert, Out, Return}
 use Rattle.table.specs.declared.Sem.{Sem}
 use Rattle.table.specs.declared.Table.{Table}
 use Rattle.text.specs.Reader.{allBelow, concatFrom}
@@ -35,6 +34,23 @@ noState = record {
   sems = replicate 8 0;
   queues = replicate 8 noEntries;
 }
+
+-- ---- setters: a state with another value of one field
+
+abbrev pub withDepth : State → List ℕ → State
+withDepth s l = record { depth = l; lost = s .lost; frames = s .frames; sems = s .sems; queues = s .queues }
+
+abbrev pub withLost : State → List Bool → State
+withLost s l = record { depth = s .depth; lost = l; frames = s .frames; sems = s .sems; queues = s .queues }
+
+abbrev pub withFrames : State → List Frame → State
+withFrames s l = record { depth = s .depth; lost = s .lost; frames = l; sems = s .sems; queues = s .queues }
+
+abbrev pub withSems : State → List ℕ → State
+withSems s l = record { depth = s .depth; lost = s .lost; frames = s .frames; sems = l; queues = s .queues }
+
+abbrev pub withQueues : State → List Entries → State
+withQueues s l = record { depth = s .depth; lost = s .lost; frames = s .frames; sems = s .sems; queues = l }
 
 -- ---- look-ups
 
@@ -71,24 +87,16 @@ standsBefore t s k = let f = topmost s k in nodeAt t (f .proc) (f .node)
 
 -- ---- the first state
 
--- "At first each task stands before node 0 of its top, one frame open, locals 0; semaphores have their counts, queues are empty"
 abbrev pub firstFrame : Table → ℕ → Frame
 firstFrame t i = record { proc = taskAt t i .top; node = 0; vars = noVars }
 
 abbrev pub firstFrames : Table → ℕ → List Frame
 firstFrames t i = pick (ltb i (t .tasks)) (firstFrame t i) noFrame ∷ replicate 7 noFrame
 
+-- "At first each task stands before node 0 of its top, one frame open, locals 0; semaphores have their counts, queues are empty"
 unfoldable pub firstState : Table → State
-firstState t = record {
-  depth = concatFrom (λ i. pick (ltb i (t .tasks)) 1 0 ∷ []) 4 0;
-  lost = replicate 4 false;
-  frames = concatFrom (firstFrames t) 4 0;
-  sems = map (λ (x : Sem). x .count) (t .sem);
-  queues = replicate 8 noEntries;
-}
-
-abbrev pub withFrames : State → List Frame → State
-withFrames s l = record { depth = s .depth; lost = s .lost; frames = l; sems = s .sems; queues = s .queues }
+firstState t =
+    withSems (withFrames (withDepth noState (concatFrom (λ i. pick (ltb i (t .tasks)) 1 0 ∷ []) 4 0)) (concatFrom (firstFrames t) 4 0)) (map (λ (x : Sem). x .count) (t .sem))
 
 -- "Open form: top parameters then take the first values of the input list"
 abbrev pub firstInputs : Table → ℕ → ℕ
@@ -116,23 +124,17 @@ begin t vs = takeInputs t (t .tasks) 0 (firstState t) vs
 
 -- ---- "Blocked: `wait` at 0, `signal` at 255, `send` to a full queue, `recv` from an empty one, `call` with 8 frames open, `return` of a task's first frame"
 
-unfoldable pub blockedAt : Table → State → ℕ → Node → Bool
-blockedAt t s k Absent = false
-blockedAt t s k (Start to) = false
-blockedAt t s k (Set v o a b to) = false
-blockedAt t s k (Test o a b y n) = false
-blockedAt t s k (Read v to) = false
-blockedAt t s k (Call q xs to) = leb 8 (openFrames s k)
-blockedAt t s k (Wait i to) = eqb (semCount (s .sems) i) 0
-blockedAt t s k (Signal i to) = leb 255 (semCount (s .sems) i)
-blockedAt t s k (Send q v to) = leb (queueAt t q .cap) (entriesAt (s .queues) q .len)
-blockedAt t s k (Recv q v to) = eqb (entriesAt (s .queues) q .len) 0
-blockedAt t s k (Assert v to) = false
-blockedAt t s k (Out v to) = false
-blockedAt t s k Return = leb (openFrames s k) 1
+unfoldable pub blockedAt : Table → State → ℕ → Act → Bool
+blockedAt t s k alone = false
+blockedAt t s k (waits i) = eqb (semCount (s .sems) i) 0
+blockedAt t s k (signals i) = leb 255 (semCount (s .sems) i)
+blockedAt t s k (sends q v) = leb (queueAt t q .cap) (entriesAt (s .queues) q .len)
+blockedAt t s k (receives q v) = eqb (entriesAt (s .queues) q .len) 0
+blockedAt t s k (calls q xs) = leb 8 (openFrames s k)
+blockedAt t s k returns = leb (openFrames s k) 1
 
 abbrev pub blocked : Table → State → ℕ → Bool
-blocked t s k = blockedAt t s k (standsBefore t s k)
+blocked t s k = blockedAt t s k (act (standsBefore t s k))
 
 -- "A standstill: every task stands before a blocked node (a lost task stands before none)"
 unfoldable pub standstill : Table → State → Bool

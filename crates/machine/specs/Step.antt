@@ -8,7 +8,7 @@ use lib.Dec.{eqb, ltb}
 use lib.IntN.{ℤ, pos, negsuc}
 use Rattle.table.specs.Mask.{pick, members}
 use Rattle.table.specs.Values.{apply, holds, eqZ}
-use Rattle.table.specs.Table.{nodeAt, argAt, arcTo, removed}
+use Rattle.table.specs.Table.{nodeAt, argAt, arcTo, removed, asserted}
 use Rattle.table.specs.declared.Operand.{Operand}
 use Rattle.table.specs.declared.Operand.the-variants.{Var, Const}
 use Rattle.table.specs.declared.Args.{Args}
@@ -20,7 +20,7 @@ use Rattle.closing.specs.Closing.{dirty, kept}
 use Rattle.machine.specs.declared.Frame.{Frame}
 use Rattle.machine.specs.declared.Entries.{Entries}
 use Rattle.machine.specs.declared.State.{State}
-use Rattle.machine.specs.State.{noFrame, openFrames, place, frameAt, topmost, semCount, entriesAt, varAt, standsBefore, isLost, blocked}
+use Rattle.machine.specs.State.{noFrame, withDepth, withLost, withFrames, withSems, withQueues, openFrames, place, frameAt, topmost, semCount, entriesAt, varAt, standsBefore, isLost, blocked}
 
 -- ---- the stops of a run, and document 01's number for each
 pub data Stop : Type 0 where
@@ -73,33 +73,48 @@ oldest e = getD (e .items) 0 (pos 0)
 abbrev pub shortened : Entries → Entries
 shortened e = record { len = e .len - 1; items = drop 1 (e .items) ++ (pos 0 ∷ []) }
 
--- ---- a node executed within its frame
+-- the variable's value, none of `-`
+abbrev pub valueOf : List ℤ → ℕ → Option ℤ
+valueOf l v = pick (eqb v removed) none (some (varAt l v))
 
-pub data Did : Type 0 where
-  stops : Stop → Did
-  -- it goes on by an arc, with the values left
-  goes : ℕ → Memory → List ℤ → Did
+-- parameter i of a call: "A dropped parameter starts as a local at 0"
+abbrev pub passedAt : List ℤ → Args → ℕ → ℤ
+passedAt l xs i = pick (ltb i (xs .len)) (varAt l (argAt xs i)) (pos 0)
+
+-- the frame that a call opens, before its procedure's start
+abbrev pub entering : List ℤ → ℕ → Args → Frame
+entering l q xs = record { proc = q; node = 0; vars = concatFrom (λ i. passedAt l xs i ∷ []) 16 0 }
+
+-- ---- what executing a node does
+
+pub data Does : Type 0 where
+  opens : Frame → Does
+  closes : Does
+  -- it goes on by an arc, with the memory, the values left and the value that the log shows
+  goes : ℕ → Memory → List ℤ → Option ℤ → Does
+  stops : Stop → Does
 
 -- "A read takes the next input value"
-abbrev pub readOf : ℕ → ℕ → Memory → List ℤ → Did
+abbrev pub readOf : ℕ → ℕ → Memory → List ℤ → Does
 readOf v to m [] = stops valuesSpent
-readOf v to m (x ∷ vs) = goes to (assign v x m) vs
+readOf v to m (x ∷ vs) = goes to (assign v x m) vs none
 
--- A call and a return are not executed within a frame, and no task stands before a place without a node.
-unfoldable pub exec : Node → Memory → List ℤ → Did
-exec Absent m vs = goes 0 m vs
-exec (Start to) m vs = goes to m vs
-exec (Set v o a b to) m vs = goes to (assign v (apply o (operandIn (m .vars) a) (operandIn (m .vars) b)) m) vs
-exec (Test o a b y n) m vs = goes (pick (holds (apply o (operandIn (m .vars) a) (operandIn (m .vars) b))) y n) m vs
-exec (Read v to) m vs = readOf v to m vs
-exec (Call q xs to) m vs = goes 0 m vs
-exec (Wait i to) m vs = goes to (withSem i (semCount (m .sems) i - 1) m) vs
-exec (Signal i to) m vs = goes to (withSem i (semCount (m .sems) i + 1) m) vs
-exec (Send q v to) m vs = goes to (withEntries q (appended (varAt (m .vars) v) (entriesAt (m .queues) q)) m) vs
-exec (Recv q v to) m vs = goes to (assign v (oldest (entriesAt (m .queues) q)) (withEntries q (shortened (entriesAt (m .queues) q)) m)) vs
-exec (Assert v to) m vs = goes to m vs
-exec (Out v to) m vs = goes to m vs
-exec Return m vs = goes 0 m vs
+-- a node executed in its frame's memory, with the values left, by task k of table t. A place without a node is never executed
+unfoldable pub exec : Table → ℕ → Node → Memory → List ℤ → Does
+exec t k Absent m vs = goes 0 m vs none
+exec t k (Start to) m vs = goes to m vs none
+exec t k (Set v o a b to) m vs = goes to (assign v (apply o (operandIn (m .vars) a) (operandIn (m .vars) b)) m) vs none
+exec t k (Test o a b y n) m vs = goes (pick (holds (apply o (operandIn (m .vars) a) (operandIn (m .vars) b))) y n) m vs none
+exec t k (Read v to) m vs = readOf v to m vs
+exec t k (Call q xs to) m vs = opens (entering (m .vars) q xs)
+exec t k (Wait i to) m vs = goes to (withSem i (semCount (m .sems) i - 1) m) vs none
+exec t k (Signal i to) m vs = goes to (withSem i (semCount (m .sems) i + 1) m) vs none
+exec t k (Send q v to) m vs = goes to (withEntries q (appended (varAt (m .vars) v) (entriesAt (m .queues) q)) m) vs none
+exec t k (Recv q v to) m vs = goes to (assign v (oldest (entriesAt (m .queues) q)) (withEntries q (shortened (entriesAt (m .queues) q)) m)) vs none
+-- "Flag 1 and the value for `assert` and `out` with a variable"
+exec t k (Assert v to) m vs = goes to m vs (valueOf (m .vars) v)
+exec t k (Out v to) m vs = goes to m vs (valueOf (m .vars) v)
+exec t k Return m vs = closes
 
 -- ---- arcs: "One target: a plain arc. Two or more: a toss, value i choosing the i-th from 0 .. None: `none`."
 
@@ -149,43 +164,34 @@ along k m (nowhere vs) = arrives none m vs []
 along k m (node n vs) = k n m vs
 along k m (bad c) = halts c
 
-abbrev pub onward : (ℕ → Memory → List ℤ → Walk) → Did → Walk
-onward k (stops c) = halts c
-onward k (goes arc m vs) = along k m (choose arc vs)
+-- calls and returns are always kept, so that no walk meets one: what stands here for them is never taken
+abbrev pub onward : (ℕ → Memory → List ℤ → Walk) → Memory → List ℤ → Does → Walk
+onward go m vs (opens f) = arrives none m vs []
+onward go m vs closes = arrives none m vs []
+onward go m vs (goes arc m′ ws o) = along go m′ (choose arc ws)
+onward go m vs (stops c) = halts c
 
 abbrev pub noting : ℕ → Walk → Walk
 noting n (halts c) = halts c
 noting n (arrives w m vs ns) = arrives w m vs (n ∷ ns)
 
--- from node n of procedure p, at most d dropped nodes: "14 before 15 at one node"
-unfoldable pub walk : Table → Kept → ℕ → ℕ → ℕ → Memory → List ℤ → Walk
-walk t keep p zero n m vs = elim (keep p n) [ true ↦ arrives (some n) m vs [] | false ↦ halts tooMany ]
-walk t keep p (suc d) n m vs = elim (keep p n) [
+-- task k from node n of procedure p, at most d dropped nodes: "14 before 15 at one node"
+unfoldable pub walk : Table → Kept → ℕ → ℕ → ℕ → ℕ → Memory → List ℤ → Walk
+walk t keep k p zero n m vs = elim (keep p n) [ true ↦ arrives (some n) m vs [] | false ↦ halts tooMany ]
+walk t keep k p (suc d) n m vs = elim (keep p n) [
   | true ↦ arrives (some n) m vs []
-  | false ↦ noting n (onward (λ n′ m′ ws. walk t keep p d n′ m′ ws) (exec (nodeAt t p n) m vs))
+  | false ↦ noting n (onward (λ n′ m′ ws. walk t keep k p d n′ m′ ws) m vs (exec t k (nodeAt t p n) m vs))
 ]
 
--- ---- how a node goes on: it opens a frame, closes one, or stays in its own
+-- ---- failed assertions: "An assertion with a variable fails if its value is 0; one with `-` never fails"
 
-pub data Flow : Type 0 where
-  calls : ℕ → Args → Flow
-  returns : Flow
-  stays : Flow
+abbrev pub fails : List ℤ → Option ℕ → Bool
+fails l none = false
+fails l (some v) = not (eqb v removed) && eqZ (varAt l v) (pos 0)
 
-unfoldable pub flow : Node → Flow
-flow Absent = stays
-flow (Start to) = stays
-flow (Set v o a b to) = stays
-flow (Test o a b y n) = stays
-flow (Read v to) = stays
-flow (Call q xs to) = calls q xs
-flow (Wait i to) = stays
-flow (Signal i to) = stays
-flow (Send q v to) = stays
-flow (Recv q v to) = stays
-flow (Assert v to) = stays
-flow (Out v to) = stays
-flow Return = returns
+-- the step of task k would fail an assertion
+abbrev pub failing : Table → State → ℕ → Bool
+failing t s k = fails (topmost s k .vars) (asserted (standsBefore t s k))
 
 -- ---- the log's entry
 
@@ -195,45 +201,6 @@ pub record Entry : Type 0 where
   pub node : ℕ
   pub value : Option ℤ  -- of an `assert` or `out` with a variable
 
-abbrev pub valueOf : List ℤ → ℕ → Option ℤ
-valueOf l v = pick (eqb v removed) none (some (varAt l v))
-
--- "Flag 1 and the value for `assert` and `out` with a variable"
-unfoldable pub shown : List ℤ → Node → Option ℤ
-shown l Absent = none
-shown l (Start to) = none
-shown l (Set v o a b to) = none
-shown l (Test o a b y n) = none
-shown l (Read v to) = none
-shown l (Call q xs to) = none
-shown l (Wait i to) = none
-shown l (Signal i to) = none
-shown l (Send q v to) = none
-shown l (Recv q v to) = none
-shown l (Assert v to) = valueOf l v
-shown l (Out v to) = valueOf l v
-shown l Return = none
-
--- "An assertion with a variable fails if its value is 0; one with `-` never fails"
-unfoldable pub fails : List ℤ → Node → Bool
-fails l Absent = false
-fails l (Start to) = false
-fails l (Set v o a b to) = false
-fails l (Test o a b y n) = false
-fails l (Read v to) = false
-fails l (Call q xs to) = false
-fails l (Wait i to) = false
-fails l (Signal i to) = false
-fails l (Send q v to) = false
-fails l (Recv q v to) = false
-fails l (Assert v to) = not (eqb v removed) && eqZ (varAt l v) (pos 0)
-fails l (Out v to) = false
-fails l Return = false
-
--- the step of task k would fail an assertion
-abbrev pub failing : Table → State → ℕ → Bool
-failing t s k = fails (topmost s k .vars) (standsBefore t s k)
-
 -- ---- one step
 
 pub data Step : Type 0 where
@@ -241,76 +208,55 @@ pub data Step : Type 0 where
   -- the log's entry, the dropped nodes executed, the state and the values left
   stepped : Entry → List ℕ → State → List ℤ → Step
 
+-- frame j of task k is f
+abbrev pub framed : State → ℕ → ℕ → Frame → State
+framed s k j f = withFrames s (set (s .frames) (place k j) f)
+
+-- with the semaphores and queues as nodes left them
+abbrev pub shared : State → Memory → State
+shared s m = withQueues (withSems s (m .sems)) (m .queues)
+
 -- task k in frame j, of procedure p, before the node met, or lost: "A closed step taking `none` completes and leaves the task lost"
 abbrev pub landed : State → ℕ → ℕ → ℕ → Option ℕ → Memory → State
-landed s k j p (some n) m = record {
-  depth = s .depth;
-  lost = s .lost;
-  frames = set (s .frames) (place k j) (record { proc = p; node = n; vars = m .vars });
-  sems = m .sems;
-  queues = m .queues;
-}
-landed s k j p none m = record {
-  depth = s .depth;
-  lost = set (s .lost) k true;
-  frames = set (s .frames) (place k j) (record { proc = p; node = 0; vars = m .vars });
-  sems = m .sems;
-  queues = m .queues;
-}
+landed s k j p (some n) m = framed (shared s m) k j (record { proc = p; node = n; vars = m .vars })
+landed s k j p none m = withLost (framed (shared s m) k j (record { proc = p; node = 0; vars = m .vars })) (set (s .lost) k true)
 
 abbrev pub settled : Entry → State → ℕ → ℕ → ℕ → Walk → Step
 settled e s k j p (halts c) = stopped c
 settled e s k j p (arrives w m vs ns) = stepped e ns (landed s k j p w m) vs
 
--- parameter i of a call: "A dropped parameter starts as a local at 0"
-abbrev pub passedAt : List ℤ → Args → ℕ → ℤ
-passedAt l xs i = pick (ltb i (xs .len)) (varAt l (argAt xs i)) (pos 0)
-
 -- "A call opens a frame; its step ends before the callee's start"
-abbrev pub entering : List ℤ → ℕ → Args → Frame
-entering l q xs = record { proc = q; node = 0; vars = concatFrom (λ i. passedAt l xs i ∷ []) 16 0 }
-
 abbrev pub called : State → ℕ → Frame → State
-called s k g = record {
-  depth = set (s .depth) k (openFrames s k + 1);
-  lost = s .lost;
-  frames = set (s .frames) (place k (openFrames s k)) g;
-  sems = s .sems;
-  queues = s .queues;
-}
+called s k f = framed (withDepth s (set (s .depth) k (openFrames s k + 1))) k (openFrames s k) f
 
 -- the topmost frame closed
 abbrev pub returned : State → ℕ → State
-returned s k = record {
-  depth = set (s .depth) k (openFrames s k - 1);
-  lost = s .lost;
-  frames = set (s .frames) (place k (openFrames s k - 1)) noFrame;
-  sems = s .sems;
-  queues = s .queues;
-}
+returned s k = framed (withDepth s (set (s .depth) k (openFrames s k - 1))) k (openFrames s k - 1) noFrame
 
 abbrev pub memory : State → Frame → Memory
 memory s f = record { vars = f .vars; sems = s .sems; queues = s .queues }
 
--- "A return closes the frame and goes on from the caller's call arc"
-abbrev pub resumed : Table → Kept → ℕ → Entry → State → ℕ → Frame → List ℤ → Step
-resumed t keep most e s k g vs =
-    settled e (returned s k) k (openFrames s k - 2) (g .proc)
-    (along (λ n m ws. walk t keep (g .proc) most n m ws) (memory s g) (choose (arcTo (nodeAt t (g .proc) (g .node))) vs))
+abbrev pub entryOf : ℕ → Frame → Option ℤ → Entry
+entryOf k f o = record { task = k; proc = f .proc; node = f .node; value = o }
 
-abbrev pub flowed : Table → Kept → ℕ → Entry → State → ℕ → Frame → Node → List ℤ → Flow → Step
-flowed t keep most e s k f x vs (calls q xs) = stepped e [] (called s k (entering (f .vars) q xs)) vs
-flowed t keep most e s k f x vs returns = resumed t keep most e s k (frameAt s k (openFrames s k - 2)) vs
-flowed t keep most e s k f x vs stays =
-    settled e s k (openFrames s k - 1) (f .proc) (onward (λ n m ws. walk t keep (f .proc) most n m ws) (exec x (memory s f) vs))
+module _ (t : Table) (keep : Kept) (most : ℕ) (s : State) (k : ℕ) where
+  -- on through dropped nodes of procedure p
+  abbrev pub dropping : ℕ → ℕ → Memory → List ℤ → Walk
+  dropping p n m vs = walk t keep k p most n m vs
 
-abbrev pub entryOf : ℕ → Frame → Node → Entry
-entryOf k f x = record { task = k; proc = f .proc; node = f .node; value = shown (f .vars) x }
+  -- "A return closes the frame and goes on from the caller's call arc"
+  abbrev pub resumed : Entry → Frame → List ℤ → Step
+  resumed e g vs = settled e (returned s k) k (openFrames s k - 2) (g .proc) (along (dropping (g .proc)) (memory s g) (choose (arcTo (nodeAt t (g .proc) (g .node))) vs))
 
--- "One step executes a kept node of one task; then dropped nodes are executed until a kept node is met."
-unfoldable pub stepOf : Table → Kept → ℕ → State → ℕ → List ℤ → Step
-stepOf t keep most s k vs =
-    flowed t keep most (entryOf k (topmost s k) (standsBefore t s k)) s k (topmost s k) (standsBefore t s k) vs (flow (standsBefore t s k))
+  abbrev pub stepAs : Frame → List ℤ → Does → Step
+  stepAs f vs (opens g) = stepped (entryOf k f none) [] (called s k g) vs
+  stepAs f vs closes = resumed (entryOf k f none) (frameAt s k (openFrames s k - 2)) vs
+  stepAs f vs (goes arc m ws o) = settled (entryOf k f o) s k (openFrames s k - 1) (f .proc) (along (dropping (f .proc)) m (choose arc ws))
+  stepAs f vs (stops c) = stopped c
+
+  -- "One step executes a kept node of one task; then dropped nodes are executed until a kept node is met."
+  unfoldable pub stepOf : List ℤ → Step
+  stepOf vs = let f = topmost s k in stepAs f vs (exec t k (standsBefore t s k) (memory s f) vs)
 
 -- what stops a task before its step: lost, then blocked
 unfoldable pub before : Table → State → ℕ → Option Stop

@@ -29,3 +29,18 @@ pub struct Running {
     pub stop: u8,
     pub state: State,
 }
+
+// Document 01's numbers of the stops of a run.
+pub const NO_SUCH_TASK: u8 = 10;
+
+pub const LOG_FULL: u8 = 11;
+
+pub const TASK_LOST: u8 = 12;
+
+pub const TASK_BLOCKED: u8 = 13;
+
+pub const TOO_MANY: u8 = 14;
+
+pub const VALUES_SPENT: u8 = 15;
+
+pub const BAD_TOSS: u8 = 16;

@@ -5,23 +5,24 @@ use mathlib.Core.Bool.{Bool, true, false}
 use mathlib.Core.List.{List, [], _∷_}
 use mathlib.Core.Option.{Option, none, some}
 use native.Mathlib.Omega.{arith}
-use lib.Dec.{ltb}
+use lib.Dec.{leb, ltb}
 use lib.ListN.{length, take, drop}
 use lib.Seq.{sets, length-sets}
 use lib.IntN.{ℤ}
 use borrow.Author.Tests.{leb-false, ltb-false}
 use Rattle.table.specs.Mask.{pick}
-use Rattle.table.specs.Table.{nodeAt, arcTo}
+use Rattle.table.specs.Table.{nodeAt, arcTo, act}
 use Rattle.table.specs.declared.Node.{Node}
-use Rattle.table.specs.declared.Node.the-variants.{Absent, Start, Set, Test, Read, Call, Wait, Signal, Send, Recv, Assert, Out, Return}
 use Rattle.table.specs.declared.Table.{Table}
 use Rattle.text.specs.Reader.{concatFrom}
 use Rattle.text.specs.Writer.{fault}
 use Rattle.machine.specs.declared.Frame.{Frame}
 use Rattle.machine.specs.declared.State.{State}
 use Rattle.machine.specs.State.{noState, openFrames, isLost, frameAt, topmost, blockedAt, blocked, standsBefore, firstState, firstInputs, withInputs, Begun, spent, begun, takeInputs, begin}
-use Rattle.machine.specs.Step.{taskLost, taskBlocked, unless, Kept, keptIn, Entry, Memory, Walk, halts, arrives, along, onward, walk, exec, choose, memory, returns, stays, flow, Step, stopped, stepped, landed, settled, returned, flowed, entryOf, stepOf, before, step}
-use Rattle.machine.specs.Run.{Ran, entryBytes, turn, runFrom, afterStep, runBegun, runChecked, run}
+use Rattle.machine.specs.Step.{taskLost, taskBlocked, Memory, Does, exec, choose, Kept, keptIn, Walk, halts, arrives, along, walk, Entry, Step, stopped, stepped, landed, settled, returned, memory, entryOf, stepAs, stepOf, before, unless, step}
+use Rattle.machine.specs.ExecLaws.{Executes, calling, returning, going, stopping, exec-view}
+use Rattle.machine.specs.Run.{Ran, entryBytes, turn, runBegun, runChecked, run}
+use Rattle.machine.specs.RunLaws.{runFrom, afterStep, run-end, run-next, run-begun}
 use Rattle.starts.specs.GoodLaws.{either}
 
 either-way : {A : Type 0} (P : A → Type 0) (b : Bool) {x y : A} → (b ≡ true → P x) → (b ≡ false → P y) → P (elim b [ true ↦ x | false ↦ y ])
@@ -55,36 +56,26 @@ returned-few : (s : State) (k : ℕ) → Few s → Few (returned s k)
 returned-few s k h = record { few = λ i. either (λ (n : ℕ). n ≤ 8) (s .depth) k i (openFrames s k - 1) 0 (omega (arith, h .few k)) (h .few i) }
 
 module _ (t : Table) (keep : Kept) (most : ℕ) where
-  stays-keeps : (e : Entry) (s : State) (k : ℕ) (f : Frame) (vs : List ℤ) (x : Node) → Few s → Keeps (flowed t keep most e s k f x vs stays)
-  stays-keeps e s k f vs x h =
-      settled-keeps e s k (openFrames s k - 1) (f .proc) (onward (λ n m ws. walk t keep (f .proc) most n m ws) (exec x (memory s f) vs)) h
-
-  returns-keeps : (e : Entry) (s : State) (k : ℕ) (f : Frame) (vs : List ℤ) (x : Node) → Few s → Keeps (flowed t keep most e s k f x vs returns)
-  returns-keeps e s k f vs x h =
+  does-keeps : (s : State) (k : ℕ) (f : Frame) (vs : List ℤ) (x : Node) (m : Memory) (d : Does) → Executes x m vs d → Few s → blockedAt t s k (act x) ≡ false → Keeps (stepAs t keep most s k f vs d)
+  unfolding blockedAt
+  does-keeps s k f vs x m d (calling q xs a e) h b =
+      let l : leb 8 (openFrames s k) ≡ false = rw a at b in
+      rw e (record { few = λ i. either (λ (n : ℕ). n ≤ 8) (s .depth) k i (openFrames s k + 1) 0 (omega (arith, leb-false 8 (openFrames s k) l)) (h .few i) })
+  does-keeps s k f vs x m d (returning a e) h b =
       let g = frameAt s k (openFrames s k - 2) in
-      settled-keeps e (returned s k) k (openFrames s k - 2) (g .proc)
-      (along (λ n m ws. walk t keep (g .proc) most n m ws) (memory s g) (choose (arcTo (nodeAt t (g .proc) (g .node))) vs)) (returned-few s k h)
-
-  flowed-keeps : (e : Entry) (s : State) (k : ℕ) (f : Frame) (vs : List ℤ) (x : Node) → Few s → blockedAt t s k x ≡ false → Keeps (flowed t keep most e s k f x vs (flow x))
-  unfolding flow blockedAt
-  flowed-keeps e s k f vs Absent h b = stays-keeps e s k f vs Absent h
-  flowed-keeps e s k f vs (Start to) h b = stays-keeps e s k f vs (Start to) h
-  flowed-keeps e s k f vs (Set v o x y to) h b = stays-keeps e s k f vs (Set v o x y to) h
-  flowed-keeps e s k f vs (Test o x y n m) h b = stays-keeps e s k f vs (Test o x y n m) h
-  flowed-keeps e s k f vs (Read v to) h b = stays-keeps e s k f vs (Read v to) h
-  flowed-keeps e s k f vs (Call q xs to) h b =
-      record { few = λ i. either (λ (n : ℕ). n ≤ 8) (s .depth) k i (openFrames s k + 1) 0 (omega (arith, leb-false 8 (openFrames s k) b)) (h .few i) }
-  flowed-keeps e s k f vs (Wait i to) h b = stays-keeps e s k f vs (Wait i to) h
-  flowed-keeps e s k f vs (Signal i to) h b = stays-keeps e s k f vs (Signal i to) h
-  flowed-keeps e s k f vs (Send q v to) h b = stays-keeps e s k f vs (Send q v to) h
-  flowed-keeps e s k f vs (Recv q v to) h b = stays-keeps e s k f vs (Recv q v to) h
-  flowed-keeps e s k f vs (Assert v to) h b = stays-keeps e s k f vs (Assert v to) h
-  flowed-keeps e s k f vs (Out v to) h b = stays-keeps e s k f vs (Out v to) h
-  flowed-keeps e s k f vs Return h b = returns-keeps e s k f vs Return h
+      rw e
+      (settled-keeps (entryOf k f none) (returned s k) k (openFrames s k - 2) (g .proc)
+      (along (λ n m ws. walk t keep k (g .proc) most n m ws) (memory s g) (choose (arcTo (nodeAt t (g .proc) (g .node))) vs)) (returned-few s k h))
+  does-keeps s k f vs x m d (going arc m′ ws o u e) h b =
+      rw e (settled-keeps (entryOf k f o) s k (openFrames s k - 1) (f .proc) (along (λ n m ws. walk t keep k (f .proc) most n m ws) m′ (choose arc ws)) h)
+  does-keeps s k f vs x m d (stopping c e) h b = rw e tt
 
   step-keeps : (s : State) (k : ℕ) (vs : List ℤ) → Few s → Keeps (step t keep most s k vs)
   unfolding step before stepOf
-  step-keeps s k vs h = go (isLost s k) (blocked t s k) (λ b. flowed-keeps (entryOf k (topmost s k) (standsBefore t s k)) s k (topmost s k) vs (standsBefore t s k) h b)
+  step-keeps s k vs h =
+      let f = topmost s k in
+      let x = standsBefore t s k in
+      go (isLost s k) (blocked t s k) (λ b. does-keeps s k f vs x (memory s f) (exec t k x (memory s f) vs) (exec-view t k (memory s f) x vs) h b)
     where
       go : (l b : Bool) → (b ≡ false → Keeps (stepOf t keep most s k vs)) → Keeps (unless (elim l [ true ↦ some taskLost | false ↦ pick b (some taskBlocked) none ]) (stepOf t keep most s k vs))
       go true b q = tt
@@ -93,18 +84,19 @@ module _ (t : Table) (keep : Kept) (most : ℕ) where
 
   module _ (all : List ℤ) where
     abbrev After : List ℕ → List ℕ → ℕ → State → List ℤ → List ℕ → Step → Type 0
-    After log₀ ks n s rest log r = Sound log₀ (afterStep t keep most all (λ i u v w. runFrom t keep most all ks i u v w) n s rest log r)
+    After log₀ ks n s rest log r = Sound log₀ (afterStep t keep most all ks n s rest log r)
 
     run-sound : (ks : List ℕ) (log₀ : List ℕ) (n : ℕ) (s : State) (rest : List ℤ) (log : List ℕ) → Few s → 8 * n ≤ length log₀ → length log ≡ length log₀
         → Sound log₀ (runFrom t keep most all ks n s rest log)
-    unfolding runFrom turn
-    run-sound [] log₀ n s rest log h g e = record { few = h; steps = g; size = e }
+    unfolding turn
+    run-sound [] log₀ n s rest log h g e = rw (run-end t keep most all n s rest log) (record { few = h; steps = g; size = e })
     run-sound (k ∷ ks) log₀ n s rest log h g e =
-        either-way (After log₀ ks n s rest log) (ltb k (t .tasks))
+        rw (run-next t keep most all k ks n s rest log)
+        (either-way (After log₀ ks n s rest log) (ltb k (t .tasks))
         (λ l. either-way (After log₀ ks n s rest log) (ltb (length log) (8 * n + 8))
         (λ m. halted)
         (λ m. go (step t keep most s k rest) (step-keeps s k rest h) (λ s′ r′ l′ q z. run-sound ks log₀ (suc n) s′ r′ l′ q (omega (arith, ltb-false (length log) (8 * n + 8) m)) z)))
-        (λ l. halted)
+        (λ l. halted))
       where
         halted : {stop used : ℕ} → Sound log₀ (record { answer = record { steps = n; used = used; stop = stop; state = s }; log = log })
         halted = record { few = h; steps = g; size = e }
@@ -155,7 +147,7 @@ none-few = record { few = go }
 module _ (t : Table) (ks : List ℕ) (vs : List ℤ) (most : ℕ) (log : List ℕ) where
   begun-sound : (b : Begun) → BegunFew b → Sound log (runBegun t ks vs most log b)
   begun-sound spent h = record { few = first-few t; steps = omega arith; size = refl }
-  begun-sound (begun s rest) h = run-sound t (keptIn t) most vs ks log 0 s rest log h (omega arith) refl
+  begun-sound (begun s rest) h = rw (run-begun t ks vs most log s rest) (run-sound t (keptIn t) most vs ks log 0 s rest log h (omega arith) refl)
 
   checked-sound : (n : ℕ) → Sound log (runChecked t ks vs most log n)
   unfolding begin

@@ -9,7 +9,7 @@ use lib.IntN.{ℤ, pos}
 use borrow.Author.Tests.{leb-true}
 use native.Mathlib.Omega.{arith}
 use Rattle.table.specs.Mask.{pick}
-use Rattle.table.specs.Table.{noSlot}
+use Rattle.table.specs.Table.{noSlot, act, parts}
 use Rattle.table.specs.Values.{apply, holds}
 use Rattle.table.specs.declared.Op.{Op}
 use Rattle.table.specs.declared.Operand.{Operand}
@@ -19,11 +19,10 @@ use Rattle.table.specs.declared.Node.the-variants.{Absent, Start, Set, Test, Re
 use Rattle.table.specs.declared.Slot.{Slot}
 use Rattle.machine.specs.State.{varAt}
 use Rattle.machine.specs.Step.{operandIn}
-use Rattle.decoding.specs.Decoding.{noOpcode, varOf, constOf, operandOf, opcodeOf, numbersOf, constsOf, opcodesOf, numberRows, constRows, bareOf, bare}
+use Rattle.decoding.specs.Decoding.{noOpcode, varOf, constOf, operandOf, decodedOf, opcodeOf, numbersOf, constsOf, opcodesOf, numberRows, constRows, bareOf, bare}
 use Rattle.decoding.specs.MapLaws.{map-at}
 use Rattle.decoding.specs.declared.OpcodeSlot.{OpcodeSlot}
 use Rattle.steps.specs.Cut.{goesTo}
-use Rattle.starts.specs.Ready.{Placed}
 use Rattle.straight.specs.Turns.{Columns, straight, triedTurn}
 
 -- the node at a place of a row, decoded
@@ -47,35 +46,23 @@ applied-same : (l : List ℤ) (o : Op) (a b : Operand) → length l ≡ 16
     → apply o (operandIn l (operandOf (varOf a) (constOf a))) (operandIn l (operandOf (varOf b) (constOf b))) ≡ apply o (operandIn l a) (operandIn l b)
 applied-same l o a b h = λ i. apply o (operand-same l a h i) (operand-same l b h i)
 
-module _ (j k : ℕ) (ts cs : List ℕ) (i f d : ℕ) (m : Columns) (h : length (getD (m .vars) f []) ≡ 16) where
-  pub bare-turn : (x : Node) → triedTurn (bare x) j k ts cs i f d m ≡ triedTurn x j k ts cs i f d m
-  unfolding triedTurn opcodeOf numbersOf constsOf bareOf
-  bare-turn Absent = refl
-  bare-turn (Start to) = refl
-  bare-turn (Set v o a b to) = ap (λ (z : ℤ). straight j (goesTo v z 0 0) f m) (applied-same (getD (m .vars) f []) o a b h)
-  bare-turn (Test o a b y n) = ap (λ (z : ℤ). straight (pick (holds z) j k) (goesTo 255 (pos 0) 0 0) f m) (applied-same (getD (m .vars) f []) o a b h)
-  bare-turn (Read v to) = refl
-  bare-turn (Call q xs to) = refl
-  bare-turn (Wait s to) = refl
-  bare-turn (Signal s to) = refl
-  bare-turn (Send q v to) = refl
-  bare-turn (Recv q v to) = refl
-  bare-turn (Assert v to) = refl
-  bare-turn (Out v to) = refl
-  bare-turn Return = refl
+-- it does what its node does, and names what that names
+pub record Bare (x : Node) : Type 0 where
+  pub turn : (j k : ℕ) (ts cs : List ℕ) (i f d : ℕ) (m : Columns) → length (getD (m .vars) f []) ≡ 16 → triedTurn (bare x) j k ts cs i f d m ≡ triedTurn x j k ts cs i f d m
+  pub acts : act (bare x) ≡ act x
 
-pub bare-placed : (x : Node) → Placed x → Placed (bare x)
-unfolding opcodeOf numbersOf constsOf bareOf
-bare-placed Absent h = h
-bare-placed (Start to) h = h
-bare-placed (Set v o a b to) h = h
-bare-placed (Test o a b y n) h = h
-bare-placed (Read v to) h = h
-bare-placed (Call q xs to) h = h
-bare-placed (Wait i to) h = h
-bare-placed (Signal i to) h = h
-bare-placed (Send q v to) h = h
-bare-placed (Recv q v to) h = h
-bare-placed (Assert v to) h = h
-bare-placed (Out v to) h = h
-bare-placed Return h = h
+pub bare-as : (x : Node) → Bare x
+unfolding triedTurn decodedOf bareOf parts
+bare-as Absent = record { turn = λ j k ts cs i f d m h. refl; acts = refl }
+bare-as (Start to) = record { turn = λ j k ts cs i f d m h. refl; acts = refl }
+bare-as (Set v o a b to) = record { turn = λ j k ts cs i f d m h. ap (λ (z : ℤ). straight j (goesTo v z 0 0) f m) (applied-same (getD (m .vars) f []) o a b h); acts = refl }
+bare-as (Test o a b y n) = record { turn = λ j k ts cs i f d m h. ap (λ (z : ℤ). straight (pick (holds z) j k) (goesTo 255 (pos 0) 0 0) f m) (applied-same (getD (m .vars) f []) o a b h); acts = refl }
+bare-as (Read v to) = record { turn = λ j k ts cs i f d m h. refl; acts = refl }
+bare-as (Call q xs to) = record { turn = λ j k ts cs i f d m h. refl; acts = refl }
+bare-as (Wait s to) = record { turn = λ j k ts cs i f d m h. refl; acts = refl }
+bare-as (Signal s to) = record { turn = λ j k ts cs i f d m h. refl; acts = refl }
+bare-as (Send q v to) = record { turn = λ j k ts cs i f d m h. refl; acts = refl }
+bare-as (Recv q v to) = record { turn = λ j k ts cs i f d m h. refl; acts = refl }
+bare-as (Assert v to) = record { turn = λ j k ts cs i f d m h. refl; acts = refl }
+bare-as (Out v to) = record { turn = λ j k ts cs i f d m h. refl; acts = refl }
+bare-as Return = record { turn = λ j k ts cs i f d m h. refl; acts = refl }

@@ -9,10 +9,10 @@ use lib.ListN.{length, getD, set, take, drop, length-set}
 use lib.Seq.{sets, set-getD}
 use lib.Dec.{eqb, leb}
 use lib.IntN.{ℤ, pos}
-use borrow.Author.Tests.{leb-false, eqb-true, eqb-false, eq-eqb}
-use Rattle.table.specs.Mask.{pick, bit, membersFrom, members}
+use borrow.Author.Tests.{leb-false, eqb-false, eq-eqb}
+use Rattle.table.specs.Mask.{pick, bit, members}
 use Rattle.table.specs.MaskLaws.{members-is}
-use Rattle.table.specs.Table.{noSlot, nodeAt, arcTo, arcNo}
+use Rattle.table.specs.Table.{noSlot, nodeAt, arcTo, arcNo, act, parts}
 use Rattle.table.specs.declared.Args.{Args}
 use Rattle.table.specs.declared.Node.{Node}
 use Rattle.table.specs.declared.Node.the-variants.{Absent, Start, Set, Test, Read, Call, Wait, Signal, Send, Recv, Assert, Out, Return}
@@ -22,11 +22,12 @@ use Rattle.machine.specs.declared.Frame.{Frame}
 use Rattle.machine.specs.declared.State.{State}
 use Rattle.table.specs.Values.{apply, holds}
 use Rattle.machine.specs.State.{varAt}
-use Rattle.machine.specs.Step.{Memory, operandIn, valueOf, keptIn, shown}
-use Rattle.machine.specs.Run.{word, flagged, runFrom}
+use Rattle.machine.specs.Step.{Memory, operandIn, valueOf, keptIn}
+use Rattle.machine.specs.Run.{word, flagged}
+use Rattle.machine.specs.RunLaws.{runFrom}
 use Rattle.tosses.specs.Tosses.{meeting, oneKept, directOf}
 use Rattle.tosses.specs.TossLaws.{Arrived, one-arrived}
-use Rattle.steps.specs.Cut.{showsTo, unless, goesTo, doesTo, stuckOf, actOf, triedOf, backOf, flagOf, bitsOf}
+use Rattle.steps.specs.Cut.{showsTo, unless, goesTo, doesTo, stuckBy, stuckOf, actOf, backBy, backOf, underOf}
 use Rattle.steps.specs.declared.Acted.{Acted}
 use Rattle.starts.specs.Ready.{Ready}
 use Rattle.starts.specs.Begins.{frameIn, Good}
@@ -37,8 +38,8 @@ use Rattle.straight.specs.declared.Tried.{Tried}
 use Rattle.straight.specs.Turns.{Columns, Turn, turn, left, doneAs, movedTo, free, straight, openedBy, calls, closedTo, placeBelow, returns, triedTurn, arcsOf, targetsOf}
 use Rattle.straight.specs.TurnLaws.{arcs-at, targets-at}
 use Rattle.runner.proofs.Walks.{met, metOf, heading, withVars}
-use Rattle.runner.proofs.Runs.{opens, logged-is, storedAs}
-use Rattle.runner.proofs.Turns.{ends-over, Standing, stays-here, placed, turn-walks, at-below}
+use Rattle.runner.proofs.Runs.{true-false, opensBy, shownBy, logged, restored, storedAs}
+use Rattle.runner.proofs.Turns.{ends-over, Standing, stays-here, sane, turn-walks}
 use Rattle.runner.proofs.Stores.{proc-in, node-in, vars-in, shape-after}
 
 -- ---- a state as columns, but for what is lost
@@ -86,253 +87,200 @@ module _ (arc keep : ℕ) (vs : List ℤ) (used : ℕ) (w : used ≤ length vs) 
   pub one-arrives : Arrived arc keep vs used (meeting keep j used)
   one-arrives = one-arrived arc keep vs used w j (o .one)
 
--- ---- a node that leads straight to a kept node: it isn't blocked, closes no frame, and uses no value
-
--- tried with no frame to return to and no value to read
-abbrev pub triedHere : Node → List ℤ → List ℕ → List ℕ → List ℕ → List (List ℤ) → Acted
-triedHere x l ss ls cs is = triedOf x 0 l 0 ss ls cs is [] 0
-
--- the kept node that it leads straight to, else 32
-abbrev straightTo : ℕ → Acted → ℕ
-straightTo keep o = pick (eqb (o .stop) 0) (directOf (o .arc) keep) 32
-
-abbrev usedTo : ℕ → Acted → Acted
-usedTo u r = record { stop = r .stop; var = r .var; value = r .value; used = u; arc = r .arc; how = r .how; at = r .at; count = r .count }
-
-pub record Plain (keep : ℕ) (x : Node) (to : ℕ) (l : List ℤ) (n : ℕ) (ss ls cs : List ℕ) (is : List (List ℤ)) (vs : List ℤ) (used : ℕ) : Type 0 where
-  pub free : stuckOf x n ss ls cs ≡ false
-  pub stays : opens x ≡ false
-  pub back : backOf x ≡ 0
-  pub on : triedHere x l ss ls cs is .stop ≡ 0
-  pub acts : actOf x to l ss ls is vs used ≡ usedTo used (triedHere x l ss ls cs is)
-
-module _ (keep back : ℕ) (l : List ℤ) (n : ℕ) (ss ls cs : List ℕ) (is : List (List ℤ)) (vs : List ℤ) (used : ℕ) where
-  abbrev Leads : Node → Type 0
-  Leads x = straightTo keep (triedHere x l ss ls cs is) ≡ 32 → ⊥
-
-  nowhere : (directOf 0 keep ≡ 32 → ⊥) → ⊥
-  unfolding membersFrom bit
-  nowhere h = h refl
-
-  shown-at : (to : ℕ) (z : Option ℤ) → showsTo used to z ≡ usedTo used (showsTo 0 to z)
-  shown-at to none = refl
-  shown-at to (some x) = refl
-
-  shown-on : (to : ℕ) (z : Option ℤ) → showsTo 0 to z .stop ≡ 0
-  shown-on to none = refl
-  shown-on to (some x) = refl
-
-  -- where it may be blocked
-  record Free (b : Bool) (v : ℕ) (x : ℤ) (to how at c : ℕ) : Type 0 where
-    pub free : b ≡ false
-    pub on : unless b 0 (doesTo v x 0 to how at c) .stop ≡ 0
-    pub acts : doesTo v x used to how at c ≡ usedTo used (unless b 0 (doesTo v x 0 to how at c))
-
-  freed : (b : Bool) (v : ℕ) (x : ℤ) (to how at c : ℕ) → (straightTo keep (unless b 0 (doesTo v x 0 to how at c)) ≡ 32 → ⊥) → Free b v x to how at c
-  freed true v x to how at c h = absurd (h refl)
-  freed false v x to how at c h = record { free = refl; on = refl; acts = refl }
-
-  pub plain : (x : Node) → Leads x → Plain keep x back l n ss ls cs is vs used
-  unfolding stuckOf actOf backOf opens
-  plain Absent h = absurd (nowhere h)
-  plain (Start to) h = record { free = refl; stays = refl; back = refl; on = refl; acts = refl }
-  plain (Set v o a b to) h = record { free = refl; stays = refl; back = refl; on = refl; acts = refl }
-  plain (Test o a b y z) h = record { free = refl; stays = refl; back = refl; on = refl; acts = refl }
-  plain (Read v to) h = absurd (h refl)
-  plain (Call q xs to) h = absurd (nowhere h)
-  plain (Wait i to) h = let f = freed (eqb (getD ss i 0) 0) 255 (pos 0) to 3 i (getD ss i 0 - 1) h in record { free = f .free; stays = refl; back = refl; on = f .on; acts = f .acts }
-  plain (Signal i to) h = let f = freed (leb 255 (getD ss i 0)) 255 (pos 0) to 3 i (getD ss i 0 + 1) h in record { free = f .free; stays = refl; back = refl; on = f .on; acts = f .acts }
-  plain (Send q v to) h = let f = freed (leb (getD cs q 0) (getD ls q 0)) 255 _ to 1 q (getD ls q 0 + 1) h in record { free = f .free; stays = refl; back = refl; on = f .on; acts = f .acts }
-  plain (Recv q v to) h = let f = freed (eqb (getD ls q 0) 0) v _ to 2 q (getD ls q 0 - 1) h in record { free = f .free; stays = refl; back = refl; on = f .on; acts = f .acts }
-  plain (Assert v to) h = record { free = refl; stays = refl; back = refl; on = shown-on to (valueOf l v); acts = shown-at to (valueOf l v) }
-  plain (Out v to) h = record { free = refl; stays = refl; back = refl; on = shown-on to (valueOf l v); acts = shown-at to (valueOf l v) }
-  plain Return h = absurd (h refl)
-
--- ---- how `direct` comes to its answer
+-- ---- a step tried at once
 
 unsame : {b : Bool} → b ≡ true → b ≡ false → ⊥
-unsame {b} e h = let z : _≡_ {A = Bool} true false = sym e ∙ h in let y : _≡_ {A = ℕ} 0 1 = cc in omega arith
+unsame {b} e h = true-false (sym e ∙ h)
 
--- nothing is changed, or the step is completed
-data Tells (m : Columns) (q : Turn) : Type 0 where
-  leaves : q ≡ left m → Tells m q
-  ends : q .answer .done ≡ true → Tells m q
+-- an answer by an arc
+abbrev pub onArc : ℕ → ℕ → Acted → Acted
+onArc used arc r = record { stop = r .stop; var = r .var; value = r .value; used = used; arc = arc; how = r .how; at = r .at; count = r .count }
 
-straight-tells : (j : ℕ) (o : Acted) (f : ℕ) (m : Columns) → Tells m (straight j o f m)
-unfolding straight
-straight-tells j o f m = go (free j o)
-  where
-    go : (b : Bool) → Tells m (pick b (turn (doneAs o) (movedTo j o f m)) (left m))
-    go true = ends refl
-    go false = leaves refl
+shown-on : (z : Option ℤ) → showsTo 0 0 z .stop ≡ 0
+shown-on none = refl
+shown-on (some x) = refl
 
-call-tells : (q : ℕ) (xs : Args) (i f d : ℕ) (m : Columns) → Tells m (calls q xs i f d m)
-unfolding calls
-call-tells q xs i f d m = go (leb 8 d)
-  where
-    go : (b : Bool) → Tells m (pick b (left m) (turn (doneAs (goesTo 255 (pos 0) 0 0)) (openedBy q xs i f d m)))
-    go true = leaves refl
-    go false = ends refl
+shown-at : (used to : ℕ) (z : Option ℤ) → showsTo used to z ≡ onArc used to (showsTo 0 0 z)
+shown-at used to none = refl
+shown-at used to (some x) = refl
 
-return-tells : (ts : List ℕ) (i f d : ℕ) (m : Columns) → Tells m (returns ts i f d m)
-unfolding returns
-return-tells ts i f d m = go (leb d 1) (eqb (getD ts (placeBelow f m) 0) 32)
-  where
-    go : (a b : Bool) → Tells m (pick a (left m) (pick b (left m) (turn (doneAs (goesTo 255 (pos 0) 0 0)) (closedTo (getD ts (placeBelow f m) 0) i f d m))))
-    go true b = leaves refl
-    go false true = leaves refl
-    go false false = ends refl
+module _ (kp : ℕ) (ts cs : List ℕ) (i f d : ℕ) (m : Columns) where
+  abbrev l : List ℤ
+  l = getD (m .vars) f []
 
-tells : (x : Node) (j k : ℕ) (ts cs : List ℕ) (i f d : ℕ) (m : Columns) → Tells m (triedTurn x j k ts cs i f d m)
-unfolding triedTurn
-tells Absent j k ts cs i f d m = leaves refl
-tells (Start to) j k ts cs i f d m = straight-tells _ _ f m
-tells (Set v o a b to) j k ts cs i f d m = straight-tells _ _ f m
-tells (Test o a b y n) j k ts cs i f d m = straight-tells _ _ f m
-tells (Read v to) j k ts cs i f d m = leaves refl
-tells (Call q xs to) j k ts cs i f d m = call-tells q xs i f d m
-tells (Wait s to) j k ts cs i f d m = straight-tells _ _ f m
-tells (Signal s to) j k ts cs i f d m = straight-tells _ _ f m
-tells (Send q v to) j k ts cs i f d m = straight-tells _ _ f m
-tells (Recv q v to) j k ts cs i f d m = straight-tells _ _ f m
-tells (Assert v to) j k ts cs i f d m = straight-tells _ _ f m
-tells (Out v to) j k ts cs i f d m = straight-tells _ _ f m
-tells Return j k ts cs i f d m = return-tells ts i f d m
+  abbrev Free : Node → Bool → Type 0
+  Free x b = stuckOf x d (m .sems) (m .lens) cs ≡ b
 
--- a step that is not completed changes nothing
-pub left-same : (x : Node) (j k : ℕ) (ts cs : List ℕ) (i f d : ℕ) (m : Columns) (e : Tried) (m′ : Columns) → turn e m′ ≡ triedTurn x j k ts cs i f d m → e .done ≡ false → m′ ≡ m
-left-same x j k ts cs i f d m e m′ h u = go (tells x j k ts cs i f d m)
-  where
-    go : Tells m (triedTurn x j k ts cs i f d m) → m′ ≡ m
-    go (leaves q) = ap (λ (r : Turn). r .after) (h ∙ q)
-    go (ends q) = absurd (unsame (ap (λ (r : Turn). r .answer .done) h ∙ q) u)
+  -- a node that may lead straight to kept node j: o is what it does, without its arc
+  pub record Aims (x : Node) (r : Turn) : Type 0 where
+    pub j : ℕ
+    pub arc : ℕ
+    pub o : Acted
+    pub leads : j ≡ directOf arc kp
+    pub still : opensBy (act x) ≡ false
+    pub back : backOf x ≡ 0
+    pub on : o .stop ≡ 0
+    pub acts : (a : ℕ) (vs : List ℤ) (used : ℕ) → actOf x a l (m .sems) (m .lens) (m .items) vs used ≡ onArc used arc o
+    pub is : r ≡ straight j (unless (stuckOf x d (m .sems) (m .lens) cs) 0 o) f m
 
--- a call that is not blocked is completed
-pub left-opens : (x : Node) (j k : ℕ) (ts cs : List ℕ) (i f d : ℕ) (m : Columns) (e : Tried) (m′ : Columns) → turn e m′ ≡ triedTurn x j k ts cs i f d m → e .done ≡ false
-    → stuckOf x d (m .sems) (m .lens) cs ≡ false → opens x ≡ false
-unfolding triedTurn calls stuckOf opens
-left-opens Absent j k ts cs i f d m e m′ h u b = refl
-left-opens (Start to) j k ts cs i f d m e m′ h u b = refl
-left-opens (Set v o a c to) j k ts cs i f d m e m′ h u b = refl
-left-opens (Test o a c y n) j k ts cs i f d m e m′ h u b = refl
-left-opens (Read v to) j k ts cs i f d m e m′ h u b = refl
-left-opens (Call q xs to) j k ts cs i f d m e m′ h u b =
-    let z : turn e m′ ≡ turn (doneAs (goesTo 255 (pos 0) 0 0)) (openedBy q xs i f d m) = h ∙ ap (λ (b : Bool). pick b (left m) (turn (doneAs (goesTo 255 (pos 0) 0 0)) (openedBy q xs i f d m))) b in
-    absurd (unsame (ap (λ (r : Turn). r .answer .done) z) u)
-left-opens (Wait s to) j k ts cs i f d m e m′ h u b = refl
-left-opens (Signal s to) j k ts cs i f d m e m′ h u b = refl
-left-opens (Send q v to) j k ts cs i f d m e m′ h u b = refl
-left-opens (Recv q v to) j k ts cs i f d m e m′ h u b = refl
-left-opens (Assert v to) j k ts cs i f d m e m′ h u b = refl
-left-opens (Out v to) j k ts cs i f d m e m′ h u b = refl
-left-opens Return j k ts cs i f d m e m′ h u b = refl
-
--- ---- a step that is completed
-
--- by a node whose arc leads straight to j
-pub record Ended (j : ℕ) (o : Acted) (f : ℕ) (m : Columns) (e : Tried) (m′ : Columns) : Type 0 where
-  pub on : o .stop ≡ 0
-  pub there : j ≡ 32 → ⊥
-  pub answer : e ≡ doneAs o
-  pub after : m′ ≡ movedTo j o f m
-
-straight-ends : (j : ℕ) (o : Acted) (f : ℕ) (m : Columns) (e : Tried) (m′ : Columns) → turn e m′ ≡ straight j o f m → e .done ≡ true → Ended j o f m e m′
-unfolding straight
-straight-ends j o f m e m′ h u = go (eqb (o .stop) 0) (eqb j 32) refl refl h
-  where
-    go : (a b : Bool) → eqb (o .stop) 0 ≡ a → eqb j 32 ≡ b → turn e m′ ≡ pick (pick a (pick b false true) false) (turn (doneAs o) (movedTo j o f m)) (left m) → Ended j o f m e m′
-    go true false x y z = record { on = eqb-true (o .stop) 0 x; there = eqb-false j 32 y; answer = ap (λ (r : Turn). r .answer) z; after = ap (λ (r : Turn). r .after) z }
-    go true true x y z = absurd (unsame u (ap (λ (r : Turn). r .answer .done) z))
-    go false b x y z = absurd (unsame u (ap (λ (r : Turn). r .answer .done) z))
-
--- what is done, with its arc
-pub record Led (x : Node) (kp : ℕ) (cs : List ℕ) (f : ℕ) (m : Columns) (e : Tried) (m′ : Columns) : Type 0 where
-  pub j : ℕ
-  pub ended : Ended j (triedHere x (getD (m .vars) f []) (m .sems) (m .lens) cs (m .items)) f m e m′
-  pub leads : j ≡ directOf (triedHere x (getD (m .vars) f []) (m .sems) (m .lens) cs (m .items) .arc) kp
-
-pub data Done (x : Node) (kp : ℕ) (ts cs : List ℕ) (i f d : ℕ) (m : Columns) (e : Tried) (m′ : Columns) : Type 0 where
-  led : Led x kp cs f m e m′ → Done x kp ts cs i f d m e m′
-  called : (q : ℕ) (xs : Args) (to : ℕ) → x ≡ Call q xs to → d < 8 → e ≡ doneAs (goesTo 255 (pos 0) 0 0) → m′ ≡ openedBy q xs i f d m → Done x kp ts cs i f d m e m′
-  returned : x ≡ Return → 1 < d → (getD ts (placeBelow f m) 0 ≡ 32 → ⊥) → e ≡ doneAs (goesTo 255 (pos 0) 0 0) → m′ ≡ closedTo (getD ts (placeBelow f m) 0) i f d m → Done x kp ts cs i f d m e m′
-
-shown-arc : (z : Option ℤ) (to : ℕ) → to ≡ showsTo 0 to z .arc
-shown-arc none to = refl
-shown-arc (some y) to = refl
-
-module _ {j f : ℕ} {m : Columns} {e : Tried} {m′ : Columns} where
-  -- blocked if b
-  freed-ends : (b : Bool) (v : ℕ) (y : ℤ) (to how at c : ℕ) → Ended j (unless b 0 (doesTo v y 0 0 how at c)) f m e m′
-      → Ended j (unless b 0 (doesTo v y 0 to how at c)) f m e m′ × (to ≡ unless b 0 (doesTo v y 0 to how at c) .arc)
-  freed-ends true v y to how at c h = absurd (let z : 13 ≡ 0 = h .on in omega arith)
-  freed-ends false v y to how at c h = (record { on = h .on; there = h .there; answer = h .answer; after = h .after }, refl)
-
-  shown-ends : (z : Option ℤ) (to : ℕ) → Ended j (showsTo 0 0 z) f m e m′ → Ended j (showsTo 0 to z) f m e m′
-  shown-ends none to h = record { on = h .on; there = h .there; answer = h .answer; after = h .after }
-  shown-ends (some y) to h = record { on = h .on; there = h .there; answer = h .answer; after = h .after }
-
-module _ (j kp : ℕ) (ts cs : List ℕ) (i f d : ℕ) (m : Columns) (e : Tried) (m′ : Columns) (u : e .done ≡ true) where
-  not-left : turn e m′ ≡ left m → ⊥
-  not-left h = unsame u (ap (λ (r : Turn). r .answer .done) h)
-
-  call-done : (q : ℕ) (xs : Args) (to : ℕ) → turn e m′ ≡ calls q xs i f d m → Done (Call q xs to) kp ts cs i f d m e m′
-  unfolding calls
-  call-done q xs to h = go (leb 8 d) refl h
-    where
-      go : (b : Bool) → leb 8 d ≡ b → turn e m′ ≡ pick b (left m) (turn (doneAs (goesTo 255 (pos 0) 0 0)) (openedBy q xs i f d m)) → Done (Call q xs to) kp ts cs i f d m e m′
-      go true y z = absurd (not-left z)
-      go false y z = called q xs to refl (leb-false 8 d y) (ap (λ (r : Turn). r .answer) z) (ap (λ (r : Turn). r .after) z)
-
-  return-done : turn e m′ ≡ returns ts i f d m → Done Return kp ts cs i f d m e m′
-  unfolding returns
-  return-done h = go (leb d 1) (eqb (getD ts (placeBelow f m) 0) 32) refl refl h
-    where
-      go : (a b : Bool) → leb d 1 ≡ a → eqb (getD ts (placeBelow f m) 0) 32 ≡ b
-          → turn e m′ ≡ pick a (left m) (pick b (left m) (turn (doneAs (goesTo 255 (pos 0) 0 0)) (closedTo (getD ts (placeBelow f m) 0) i f d m))) → Done Return kp ts cs i f d m e m′
-      go true b x y z = absurd (not-left z)
-      go false true x y z = absurd (not-left z)
-      go false false x y z = returned refl (leb-false d 1 x) (eqb-false (getD ts (placeBelow f m) 0) 32 y) (ap (λ (r : Turn). r .answer) z) (ap (λ (r : Turn). r .after) z)
-
-  freed-done : (x : Node) (b : Bool) (v : ℕ) (y : ℤ) (to how at c : ℕ) → triedHere x (getD (m .vars) f []) (m .sems) (m .lens) cs (m .items) ≡ unless b 0 (doesTo v y 0 to how at c)
-      → turn e m′ ≡ straight j (unless b 0 (doesTo v y 0 0 how at c)) f m → j ≡ directOf to kp → Done x kp ts cs i f d m e m′
-  freed-done x b v y to how at c o h k =
-      let z = freed-ends b v y to how at c (straight-ends j _ f m e m′ h u) in
-      led (record { j = j; ended = rw o (z .0); leads = rw o (k ∙ ap (λ (a : ℕ). directOf a kp) (z .1)) })
-
-  shown-done : (z : Option ℤ) (x : Node) (to : ℕ) → triedHere x (getD (m .vars) f []) (m .sems) (m .lens) cs (m .items) ≡ showsTo 0 to z → turn e m′ ≡ straight j (showsTo 0 0 z) f m → j ≡ directOf to kp
-      → Done x kp ts cs i f d m e m′
-  shown-done z x to o h k =
-      led (record { j = j; ended = rw o (shown-ends z to (straight-ends j (showsTo 0 0 z) f m e m′ h u)); leads = rw o (k ∙ ap (λ (a : ℕ). directOf a kp) (shown-arc z to)) })
+  -- how a step is tried
+  pub data Tries (x : Node) (r : Turn) : Type 0 where
+    leaves : opensBy (act x) ≡ false → r ≡ left m → Tries x r
+    aims : Aims x r → Tries x r
+    enters : (q : ℕ) (xs : Args) (to : ℕ) → x ≡ Call q xs to → r ≡ calls q xs i f d m → Tries x r
+    returning : x ≡ Return → r ≡ returns ts i f d m → Tries x r
 
   -- the target of the arm taken
-  arm-leads : (b : Bool) (k y n : ℕ) → j ≡ directOf y kp → k ≡ directOf n kp → pick b j k ≡ directOf (pick b y n) kp
-  arm-leads true k y n l l′ = l
-  arm-leads false k y n l l′ = l′
+  arm-leads : (b : Bool) (j k y n : ℕ) → j ≡ directOf y kp → k ≡ directOf n kp → pick b j k ≡ directOf (pick b y n) kp
+  arm-leads true j k y n e h = e
+  arm-leads false j k y n e h = h
 
-  -- an ended step, from what is done without its arc
-  pub done-by : (x : Node) (k : ℕ) → turn e m′ ≡ triedTurn x j k ts cs i f d m → j ≡ directOf (arcTo x) kp → k ≡ directOf (arcNo x) kp → Done x kp ts cs i f d m e m′
-  unfolding triedTurn stuckOf actOf arcTo arcNo
-  done-by Absent k h l l′ = absurd (not-left h)
-  done-by (Start to) k h l l′ = let z = straight-ends j (goesTo 255 (pos 0) 0 0) f m e m′ h u in led (record { j = j; ended = record { on = z .on; there = z .there; answer = z .answer; after = z .after }; leads = l })
-  done-by (Set v o a b to) k h l l′ = let z = straight-ends j (goesTo v (apply o (operandIn (getD (m .vars) f []) a) (operandIn (getD (m .vars) f []) b)) 0 0) f m e m′ h u in led (record { j = j; ended = record { on = z .on; there = z .there; answer = z .answer; after = z .after }; leads = l })
-  done-by (Test o a b y n) k h l l′ =
-      let yes = holds (apply o (operandIn (getD (m .vars) f []) a) (operandIn (getD (m .vars) f []) b)) in
-      let z = straight-ends (pick yes j k) (goesTo 255 (pos 0) 0 0) f m e m′ h u in
-      led (record { j = pick yes j k; ended = record { on = z .on; there = z .there; answer = z .answer; after = z .after }; leads = arm-leads yes k y n l l′ })
-  done-by (Read v to) k h l l′ = absurd (not-left h)
-  done-by (Call q xs to) k h l l′ = call-done q xs to h
-  done-by (Wait s to) k h l l′ = freed-done (Wait s to) (eqb (getD (m .sems) s 0) 0) 255 (pos 0) to 3 s (getD (m .sems) s 0 - 1) refl h l
-  done-by (Signal s to) k h l l′ = freed-done (Signal s to) (leb 255 (getD (m .sems) s 0)) 255 (pos 0) to 3 s (getD (m .sems) s 0 + 1) refl h l
-  done-by (Send q v to) k h l l′ = freed-done (Send q v to) (leb (getD cs q 0) (getD (m .lens) q 0)) 255 (varAt (getD (m .vars) f []) v) to 1 q (getD (m .lens) q 0 + 1) refl h l
-  done-by (Recv q v to) k h l l′ = freed-done (Recv q v to) (eqb (getD (m .lens) q 0) 0) v (getD (getD (m .items) q []) 0 (pos 0)) to 2 q (getD (m .lens) q 0 - 1) refl h l
-  done-by (Assert v to) k h l l′ = shown-done (valueOf (getD (m .vars) f []) v) (Assert v to) to refl h l
-  done-by (Out v to) k h l l′ = shown-done (valueOf (getD (m .vars) f []) v) (Out v to) to refl h l
-  done-by Return k h l l′ = return-done h
+  pub tries : (x : Node) (j k : ℕ) → j ≡ directOf (arcTo x) kp → k ≡ directOf (arcNo x) kp → Tries x (triedTurn x j k ts cs i f d m)
+  unfolding triedTurn stuckBy actOf backBy opensBy parts
+  tries Absent j k e h = leaves refl refl
+  tries (Start to) j k e h = aims (record { j = j; arc = to; o = goesTo 255 (pos 0) 0 0; leads = e; still = refl; back = refl; on = refl; acts = λ a vs u. refl; is = refl })
+  tries (Set v o a b to) j k e h = aims (record { j = j; arc = to; o = goesTo v (apply o (operandIn l a) (operandIn l b)) 0 0; leads = e; still = refl; back = refl; on = refl; acts = λ a vs u. refl; is = refl })
+  tries (Test o a b y n) j k e h =
+      let yes = holds (apply o (operandIn l a) (operandIn l b)) in
+      aims (record { j = pick yes j k; arc = pick yes y n; o = goesTo 255 (pos 0) 0 0; leads = arm-leads yes j k y n e h; still = refl; back = refl; on = refl; acts = λ a vs u. refl; is = refl })
+  tries (Read v to) j k e h = leaves refl refl
+  tries (Call q xs to) j k e h = enters q xs to refl refl
+  tries (Wait s to) j k e h = aims (record { j = j; arc = to; o = doesTo 255 (pos 0) 0 0 3 s (getD (m .sems) s 0 - 1); leads = e; still = refl; back = refl; on = refl; acts = λ a vs u. refl; is = refl })
+  tries (Signal s to) j k e h = aims (record { j = j; arc = to; o = doesTo 255 (pos 0) 0 0 3 s (getD (m .sems) s 0 + 1); leads = e; still = refl; back = refl; on = refl; acts = λ a vs u. refl; is = refl })
+  tries (Send q v to) j k e h = aims (record { j = j; arc = to; o = doesTo 255 (varAt l v) 0 0 1 q (getD (m .lens) q 0 + 1); leads = e; still = refl; back = refl; on = refl; acts = λ a vs u. refl; is = refl })
+  tries (Recv q v to) j k e h = aims (record { j = j; arc = to; o = doesTo v (getD (getD (m .items) q []) 0 (pos 0)) 0 0 2 q (getD (m .lens) q 0 - 1); leads = e; still = refl; back = refl; on = refl; acts = λ a vs u. refl; is = refl })
+  tries (Assert v to) j k e h = let z = valueOf l v in aims (record { j = j; arc = to; o = showsTo 0 0 z; leads = e; still = refl; back = refl; on = shown-on z; acts = λ a vs u. shown-at u to z; is = refl })
+  tries (Out v to) j k e h = let z = valueOf l v in aims (record { j = j; arc = to; o = showsTo 0 0 z; leads = e; still = refl; back = refl; on = shown-on z; acts = λ a vs u. shown-at u to z; is = refl })
+  tries Return j k e h = returning refl refl
+
+  -- nothing is changed, or the step is completed
+  data Tells (r : Turn) : Type 0 where
+    nothing : r ≡ left m → Tells r
+    ended : r .answer .done ≡ true → Tells r
+
+  straight-tells : (j : ℕ) (o : Acted) → Tells (straight j o f m)
+  unfolding straight
+  straight-tells j o = go (free j o)
+    where
+      go : (b : Bool) → Tells (pick b (turn (doneAs o) (movedTo j o f m)) (left m))
+      go true = ended refl
+      go false = nothing refl
+
+  call-tells : (q : ℕ) (xs : Args) → Tells (calls q xs i f d m)
+  unfolding calls
+  call-tells q xs = go (leb 8 d)
+    where
+      go : (b : Bool) → Tells (pick b (left m) (turn (doneAs (goesTo 255 (pos 0) 0 0)) (openedBy q xs i f d m)))
+      go true = nothing refl
+      go false = ended refl
+
+  return-tells : Tells (returns ts i f d m)
+  unfolding returns
+  return-tells = go (leb d 1) (eqb (getD ts (placeBelow f m) 0) 32)
+    where
+      go : (a b : Bool) → Tells (pick a (left m) (pick b (left m) (turn (doneAs (goesTo 255 (pos 0) 0 0)) (closedTo (getD ts (placeBelow f m) 0) i f d m))))
+      go true b = nothing refl
+      go false true = nothing refl
+      go false false = ended refl
+
+  tells : (x : Node) (r : Turn) → Tries x r → Tells r
+  tells x r (leaves o h) = nothing h
+  tells x r (aims w) = rw (w .is) (straight-tells (w .j) (unless (stuckOf x d (m .sems) (m .lens) cs) 0 (w .o)))
+  tells x r (enters q xs to c h) = rw h (call-tells q xs)
+  tells x r (returning c h) = rw h return-tells
+
+  module _ (x : Node) (e : Tried) (m′ : Columns) (way : Tries x (turn e m′)) where
+    -- a step that is not completed changes nothing
+    pub left-same : e .done ≡ false → m′ ≡ m
+    left-same u = go (tells x (turn e m′) way)
+      where
+        go : Tells (turn e m′) → m′ ≡ m
+        go (nothing h) = ap (λ (r : Turn). r .after) h
+        go (ended h) = absurd (unsame h u)
+
+    call-completed : (q : ℕ) (xs : Args) → leb 8 d ≡ false → turn e m′ ≡ calls q xs i f d m → e .done ≡ true
+    unfolding calls
+    call-completed q xs b h = ap (λ (r : Turn). r .answer .done) (h ∙ ap (λ (b : Bool). pick b (left m) (turn (doneAs (goesTo 255 (pos 0) 0 0)) (openedBy q xs i f d m))) b)
+
+    call-free : (q : ℕ) (xs : Args) (to : ℕ) → x ≡ Call q xs to → Free x false → leb 8 d ≡ false
+    unfolding stuckBy parts
+    call-free q xs to c b = rw c at b
+
+    return-still : x ≡ Return → opensBy (act x) ≡ false
+    unfolding opensBy parts
+    return-still c = rw c refl
+
+    -- a call that is not blocked is completed
+    pub left-still : e .done ≡ false → Free x false → opensBy (act x) ≡ false
+    left-still u b = go way
+      where
+        go : Tries x (turn e m′) → opensBy (act x) ≡ false
+        go (leaves o h) = o
+        go (aims w) = w .still
+        go (enters q xs to c h) = absurd (unsame (call-completed q xs (call-free q xs to c b) h) u)
+        go (returning c h) = return-still c
+
+    -- ---- a step that is completed
+
+    -- by a node whose arc leads straight to a kept node
+    pub record Led : Type 0 where
+      pub aim : Aims x (turn e m′)
+      pub free : Free x false
+      pub there : aim .j ≡ 32 → ⊥
+      pub answer : e ≡ doneAs (aim .o)
+      pub after : m′ ≡ movedTo (aim .j) (aim .o) f m
+
+    pub data Done : Type 0 where
+      led : Led → Done
+      called : (q : ℕ) (xs : Args) (to : ℕ) → x ≡ Call q xs to → d < 8 → e ≡ doneAs (goesTo 255 (pos 0) 0 0) → m′ ≡ openedBy q xs i f d m → Done
+      returned : x ≡ Return → 1 < d → (getD ts (placeBelow f m) 0 ≡ 32 → ⊥) → e ≡ doneAs (goesTo 255 (pos 0) 0 0) → m′ ≡ closedTo (getD ts (placeBelow f m) 0) i f d m → Done
+
+    module _ (u : e .done ≡ true) where
+      not-left : turn e m′ ≡ left m → ⊥
+      not-left h = unsame u (ap (λ (r : Turn). r .answer .done) h)
+
+      straight-done : Aims x (turn e m′) → Done
+      unfolding straight
+      straight-done w = go (stuckOf x d (m .sems) (m .lens) cs) (eqb (w .j) 32) refl refl (w .is)
+        where
+          go : (a b : Bool) → Free x a → eqb (w .j) 32 ≡ b → turn e m′ ≡ straight (w .j) (unless a 0 (w .o)) f m → Done
+          go true b y z h = absurd (not-left h)
+          go false true y z h = absurd (not-left (h ∙ rw (eq-eqb (w .o .stop) 0 (w .on), z) refl))
+          go false false y z h =
+              let k : turn e m′ ≡ turn (doneAs (w .o)) (movedTo (w .j) (w .o) f m) = h ∙ rw (eq-eqb (w .o .stop) 0 (w .on), z) refl in
+              led (record { aim = w; free = y; there = eqb-false (w .j) 32 z; answer = ap (λ (r : Turn). r .answer) k; after = ap (λ (r : Turn). r .after) k })
+
+      call-done : (q : ℕ) (xs : Args) (to : ℕ) → x ≡ Call q xs to → turn e m′ ≡ calls q xs i f d m → Done
+      unfolding calls
+      call-done q xs to c h = go (leb 8 d) refl h
+        where
+          go : (b : Bool) → leb 8 d ≡ b → turn e m′ ≡ pick b (left m) (turn (doneAs (goesTo 255 (pos 0) 0 0)) (openedBy q xs i f d m)) → Done
+          go true y z = absurd (not-left z)
+          go false y z = called q xs to c (leb-false 8 d y) (ap (λ (r : Turn). r .answer) z) (ap (λ (r : Turn). r .after) z)
+
+      return-done : x ≡ Return → turn e m′ ≡ returns ts i f d m → Done
+      unfolding returns
+      return-done c h = go (leb d 1) (eqb (getD ts (placeBelow f m) 0) 32) refl refl h
+        where
+          go : (a b : Bool) → leb d 1 ≡ a → eqb (getD ts (placeBelow f m) 0) 32 ≡ b
+              → turn e m′ ≡ pick a (left m) (pick b (left m) (turn (doneAs (goesTo 255 (pos 0) 0 0)) (closedTo (getD ts (placeBelow f m) 0) i f d m))) → Done
+          go true b x y z = absurd (not-left z)
+          go false true x y z = absurd (not-left z)
+          go false false x y z = returned c (leb-false d 1 x) (eqb-false (getD ts (placeBelow f m) 0) 32 y) (ap (λ (r : Turn). r .answer) z) (ap (λ (r : Turn). r .after) z)
+
+      pub done-by : Done
+      done-by = go way
+        where
+          go : Tries x (turn e m′) → Done
+          go (leaves o h) = absurd (not-left h)
+          go (aims w) = straight-done w
+          go (enters q xs to c h) = call-done q xs to c h
+          go (returning c h) = return-done c h
 
 -- ---- the turn of a node whose arc leads straight to a kept node
 
 module _ (t : Table) (keep : List ℕ) (ready : Ready t keep) (most : ℕ) (vs : List ℤ) (ks : List ℕ) (n : ℕ) (lost : List Bool) (m : Columns) (used : ℕ) (log : List ℕ)
-    (f : ℕ) (x : Node) (cs : List ℕ)
+    (f : ℕ) (x : Node) (ts cs : List ℕ)
     (st : Standing t keep ready most vs ks n (stateIn lost m) used log f x (m .lens) (m .items) cs)
     (shape : Shaped m) (w : used ≤ length vs) (e : Tried) (m′ : Columns) where
   abbrev s : State
@@ -341,43 +289,34 @@ module _ (t : Table) (keep : List ℕ) (ready : Ready t keep) (most : ℕ) (vs :
   abbrev i : ℕ
   i = getD ks 0 0
 
-  abbrev l : List ℤ
-  l = getD (m .vars) f []
+  abbrev d : ℕ
+  d = getD (m .depth) i 0
 
-  abbrev o : Acted
-  o = triedHere x l (m .sems) (m .lens) cs (m .items)
+  abbrev vars : List ℤ
+  vars = getD (m .vars) f []
 
-  abbrev kp : ℕ
-  kp = getD keep (getD (m .procs) f 0) 0
+  abbrev kept : ℕ
+  kept = getD keep (getD (m .procs) f 0) 0
 
-  module _ (h : Led x kp cs f m e m′) where
+  module _ (way : Tries kept ts cs i f d m x (turn e m′)) (h : Led kept ts cs i f d m x e m′ way) where
     abbrev j : ℕ
-    j = h .j
-
-    not-none : straightTo kp o ≡ 32 → ⊥
-    not-none z = h .ended .there (h .leads ∙ sym (ap (λ (b : Bool). pick b (directOf (o .arc) kp) 32) (eq-eqb (o .stop) 0 (h .ended .on))) ∙ z)
-
-    is-plain : (to : ℕ) → Plain kp x to l (getD (m .depth) i 0) (m .sems) (m .lens) cs (m .items) vs used
-    is-plain to = plain kp to l (getD (m .depth) i 0) (m .sems) (m .lens) cs (m .items) vs used x not-none
+    j = h .aim .j
 
     -- all that the node does
-    abbrev did-all : Acted
-    did-all = usedTo used o
+    abbrev o : Acted
+    o = onArc used (h .aim .arc) (h .aim .o)
 
-    target : OneKept (o .arc) kp j
-    target = rw (h .leads) (one-kept (o .arc) kp (members (o .arc)) refl (λ z. h .ended .there (h .leads ∙ z)))
+    target : OneKept (o .arc) kept j
+    target = rw (h .aim .leads) (one-kept (o .arc) kept (members (o .arc)) refl (λ z. h .there (h .aim .leads ∙ z)))
 
-    abbrev l′ : List ℤ
-    l′ = set l (o .var) (o .value)
+    abbrev vars′ : List ℤ
+    vars′ = set vars (o .var) (o .value)
 
     low : f < 32
     low = omega (arith, st .at, st .task, ready .tasks, st .good .bounded i (st .task), st .good .opened i (st .task))
 
-    long : length l ≡ 16
-    long = ap length (vars-in shape f) ∙ st .good .vars f low
-
-    long′ : length l′ ≡ 16
-    long′ = length-set l (o .var) (o .value) ∙ long
+    long : length vars′ ≡ 16
+    long = length-set vars (o .var) (o .value) ∙ ap length (vars-in shape f) ∙ st .good .vars f low
 
     inside : getD (m .procs) f 0 < 8
     inside = rw (proc-in shape f) (st .good .procs f)
@@ -388,55 +327,53 @@ module _ (t : Table) (keep : List ℕ) (ready : Ready t keep) (most : ℕ) (vs :
     abbrev call : ℕ
     call = arcTo (nodeAt t (top .proc) (top .node))
 
-    acts : did-all ≡ actOf x call (top .vars) (m .sems) (m .lens) (m .items) vs used
-    acts = sym (is-plain call .acts) ∙ ap (λ (l : List ℤ). actOf x call l (m .sems) (m .lens) (m .items) vs used) (vars-in shape f)
+    answers : o ≡ actOf x call (top .vars) (m .sems) (m .lens) (m .items) vs used
+    answers = sym (h .aim .acts call vs used) ∙ ap (λ (l : List ℤ). actOf x call l (m .sems) (m .lens) (m .items) vs used) (vars-in shape f)
 
-    ends-at : (mm : Memory) → met (heading t vs (top .proc) most (withVars mm l′) (o .arc) used) ≡ metOf vs (withVars mm l′) (meeting kp j used)
+    ends-at : (mm : Memory) → met (heading t i vs (top .proc) most (withVars mm vars′) (o .arc) used) ≡ metOf vs (withVars mm vars′) (meeting kept j used)
     ends-at mm =
-        ap (λ (p : ℕ). met (heading t vs p most (withVars mm l′) (o .arc) used)) (sym (proc-in shape f)) ∙
-        ends-over t keep ready most vs (getD (m .procs) f 0) most inside l′ long′ (o .arc) used (meeting kp j used) (one-arrives (o .arc) kp vs used w j target) (meeting kp j used) (target .kept) refl .is mm
+        ap (λ (p : ℕ). met (heading t i vs p most (withVars mm vars′) (o .arc) used)) (sym (proc-in shape f)) ∙
+        ends-over t keep ready most vs i (getD (m .procs) f 0) most inside vars′ long (o .arc) used (meeting kept j used) (one-arrives (o .arc) kept vs used w j target) (meeting kept j used) (target .kept) refl .is mm
 
-    shows : flagged (shown (top .vars) x) ≡ e .flag ∷ word (e .bits)
-    shows =
-        logged-is x call (top .vars) (m .sems) (m .lens) (m .items) vs used ∙
-        ap (λ (a : Acted). flagOf (a .how) ∷ word (bitsOf (a .how) (a .value))) (sym acts) ∙
-        sym (ap (λ (r : Tried). r .flag ∷ word (r .bits)) (h .ended .answer))
+    stays : f ≡ underOf f (backOf x) d
+    stays = stays-here t keep ready most vs ks n s used log f x (m .lens) (m .items) cs st (h .aim .back)
 
     module _ (log′ : List ℕ) (puts : log′ ≡ sets log (8 * n) (i ∷ getD (m .procs) f 0 ∷ getD (m .nodes) f 0 ∷ e .flag ∷ word (e .bits))) where
-      puts-is : log′ ≡ sets log (8 * n) (i ∷ top .proc ∷ top .node ∷ e .flag ∷ word (e .bits))
-      puts-is = puts ∙ (λ k. sets log (8 * n) (i ∷ proc-in shape f k ∷ node-in shape f k ∷ e .flag ∷ word (e .bits)))
+      puts-is : log′ ≡ sets log (8 * n) (i ∷ top .proc ∷ top .node ∷ flagged (shownBy o))
+      puts-is =
+          puts ∙ (λ k. sets log (8 * n) (i ∷ proc-in shape f k ∷ node-in shape f k ∷ h .answer k .flag ∷ word (h .answer k .bits))) ∙
+          ap (λ (l : List ℕ). sets log (8 * n) (i ∷ top .proc ∷ top .node ∷ l)) (logged o)
 
       abbrev fr : Frame
-      fr = record { proc = getD (m .procs) f 0; node = j; vars = l′ }
+      fr = record { proc = getD (m .procs) f 0; node = j; vars = vars′ }
 
       abbrev gone : Columns
       gone = movedTo j o f m
 
       frames-is : set (framesOf (m .procs) (m .nodes) (m .vars)) f fr ≡ framesOf (m .procs) (gone .nodes) (gone .vars)
-      frames-is = sym (frame-set (m .procs) (m .nodes) (m .vars) f (getD (m .procs) f 0) j l′) ∙ ap (λ (q : List ℕ). framesOf q (gone .nodes) (gone .vars)) (set-getD (m .procs) f 0)
+      frames-is = sym (frame-set (m .procs) (m .nodes) (m .vars) f (getD (m .procs) f 0) j vars′) ∙ ap (λ (q : List ℕ). framesOf q (gone .nodes) (gone .vars)) (set-getD (m .procs) f 0)
 
-      stored : storedAs s i f f (getD (m .depth) i 0 - backOf x) top (record { proc = top .proc; node = j; vars = l′ }) false (gone .sems) (queuesOf (gone .lens) (gone .items)) ≡ stateIn lost gone
+      stored : storedAs s i f f (d - backOf x) top (record { proc = top .proc; node = j; vars = vars′ }) false (gone .sems) (queuesOf (gone .lens) (gone .items)) ≡ stateIn lost gone
       stored =
-          let z : getD (m .depth) i 0 - backOf x ≡ getD (m .depth) i 0 = omega (arith, is-plain 0 .back) in
+          let z : d - backOf x ≡ d = omega (arith, h .aim .back) in
           let a = ap (set (m .depth) i) z ∙ set-getD (m .depth) i 0 in
           let b = ap (set lost i) (sym (st .here)) ∙ set-getD lost i false in
-          let c = (λ k. set (set-getD (framesOf (m .procs) (m .nodes) (m .vars)) f (record { proc = 0; node = 0; vars = [] }) k) f (record { proc = sym (proc-in shape f) k; node = j; vars = l′ })) ∙ frames-is in
-          λ k. record { depth = a k; lost = b k; frames = c k; sems = gone .sems; queues = queuesOf (gone .lens) (gone .items) }
+          let c = (λ k. set (set-getD (framesOf (m .procs) (m .nodes) (m .vars)) f (record { proc = 0; node = 0; vars = [] }) k) f (record { proc = sym (proc-in shape f) k; node = j; vars = vars′ })) ∙ frames-is in
+          λ k. restored s (a k) (b k) (c k) (gone .sems) (queuesOf (gone .lens) (gone .items))
 
       straight-ran : runFrom t (keptIn t) most vs ks n s (drop used vs) log ≡ runFrom t (keptIn t) most vs (take (length ks - 1) (drop 1 ks)) (n + 1) (stateIn lost gone) (drop used vs) log′
       straight-ran =
-          turn-walks t keep ready most vs ks n s used log f x (m .lens) (m .items) cs st (is-plain 0 .free) log′ (e .flag ∷ word (e .bits)) shows puts-is (is-plain 0 .stays) f
-          (stays-here t keep ready most vs ks n s used log f x (m .lens) (m .items) cs st (is-plain 0 .back)) did-all acts (is-plain 0 .on) l′ (ap (λ (l : List ℤ). set l (o .var) (o .value)) (vars-in shape f)) (meeting kp j used) l′ ends-at top (λ h. absurd (h (is-plain 0 .back))) refl refl ∙
+          turn-walks t keep ready most vs ks n s used log f x (m .lens) (m .items) cs st (h .free) (h .aim .still) f stays o answers (h .aim .on) vars′ (ap (λ (l : List ℤ). set l (o .var) (o .value)) (vars-in shape f)) (meeting kept j used) vars′ ends-at log′ puts-is top (λ b. absurd (b (h .aim .back))) refl refl ∙
           ap (λ (u : State). runFrom t (keptIn t) most vs (take (length ks - 1) (drop 1 ks)) (n + 1) u (drop used vs) log′) stored
 
       straight-shape : Shaped gone
       straight-shape =
-          let at-low : o .at < 8 = subst (λ (a : Acted). a .at < 8) (is-plain 0 .acts) (at-below x 0 l (m .sems) (m .lens) (m .items) vs used (placed t keep ready most vs ks n s used log f x (m .lens) (m .items) cs st)) in
+          let at-low : o .at < 8 = sane t keep ready most vs ks n s used log f x (m .lens) (m .items) cs st (h .free) (h .aim .still) f stays o answers .at in
           let z = shape-after shape (o .how) (o .at) (o .count) (o .value) at-low in
           record {
             procs = shape .procs;
             nodes = length-set (m .nodes) f j ∙ shape .nodes;
-            vars = length-set (m .vars) f l′ ∙ shape .vars;
+            vars = length-set (m .vars) f vars′ ∙ shape .vars;
             lens = z .lens;
             items = z .items;
             rows = z .rows;
@@ -444,9 +381,9 @@ module _ (t : Table) (keep : List ℕ) (ready : Ready t keep) (most : ℕ) (vs :
 
       pub goes-straight : Goes t most vs ks n s used log lost m′ log′
       goes-straight =
-          goes-as (h .ended .after)
+          goes-as (h .after)
           (record {
             ran = straight-ran;
-            good = good-frame (stateIn lost gone) f fr (st .good) (record { proc = inside; node = target .low; vars = long′ }) refl (sym frames-is);
+            good = good-frame (stateIn lost gone) f fr (st .good) (record { proc = inside; node = target .low; vars = long }) refl (sym frames-is);
             shape = straight-shape;
           })

@@ -10,7 +10,7 @@ use lib.Dec.{leb}
 use lib.IntN.{ℤ}
 use borrow.Author.Tests.{leb-true, leb-false}
 use Rattle.table.specs.Mask.{pick}
-use Rattle.table.specs.Table.{noSlot, nodeAt, arcTo, arcNo}
+use Rattle.table.specs.Table.{noSlot, nodeAt, arcTo, arcNo, act}
 use Rattle.table.specs.declared.Node.{Node}
 use Rattle.table.specs.declared.Slot.{Slot}
 use Rattle.table.specs.declared.Table.{Table}
@@ -18,8 +18,9 @@ use Rattle.machine.specs.declared.Frame.{Frame}
 use Rattle.machine.specs.declared.Running.{Running}
 use Rattle.machine.specs.declared.State.{State}
 use Rattle.machine.specs.State.{noVars, noFrame}
-use Rattle.machine.specs.Step.{Memory, keptIn, shown}
-use Rattle.machine.specs.Run.{word, flagged, Ran, runFrom}
+use Rattle.machine.specs.Step.{Memory, keptIn}
+use Rattle.machine.specs.Run.{word, flagged, Ran}
+use Rattle.machine.specs.RunLaws.{runFrom}
 use Rattle.tosses.specs.Tosses.{halting, arrivedOf, directOf}
 use Rattle.tosses.specs.TossLaws.{Arrived, arrived}
 use Rattle.steps.specs.Cut.{stopBefore, stuckOf, triedOf, passOf, backOf, actOf, flagOf, bitsOf, underOf}
@@ -28,18 +29,18 @@ use Rattle.tosses.specs.declared.Chosen.{Chosen}
 use Rattle.decoding.specs.Decoding.{bare}
 use Rattle.columns.specs.Columns.{framesOf, queuesOf, runningOf, capsOf}
 use Rattle.columns.specs.ColumnLaws.{caps-at}
-use Rattle.starts.specs.Ready.{Placed, Ready}
+use Rattle.starts.specs.Ready.{ActPlaced, Placed, Ready}
 use Rattle.starts.specs.Begins.{frameIn, Good}
 use Rattle.starts.specs.RowLaws.{Row}
 use Rattle.straight.specs.declared.Tried.{Tried}
-use Rattle.straight.specs.Turns.{Columns, columns, turn, triedTurn, Stood, Lands, landed, emptied, arcsOf}
+use Rattle.straight.specs.Turns.{Columns, columns, Turn, turn, triedTurn, Stood, Lands, landed, emptied, arcsOf}
 use Rattle.straight.specs.TurnLaws.{no-to, arcs-at}
-use Rattle.runner.proofs.Walks.{met, metOf, heading, withVars, tried-within, pass-within}
-use Rattle.runner.proofs.Runs.{opens, stopsAt, answered, at-end}
-use Rattle.runner.proofs.Turns.{within, at-below, Ends, ends-over, ends-spent, ends-halts, goes-on, stop-none, stop-full, stop-lost, Standing, node-is, placed, under-le, freed, acted, logs, stop-tried, stop-acting, stop-walking, whole, turn-walks, stored-good, under-less, back-below}
+use Rattle.runner.proofs.Walks.{met, metOf, heading, withVars}
+use Rattle.runner.proofs.Runs.{opensBy, shownBy, logged, restored, stopsAt, answered, at-end}
+use Rattle.runner.proofs.Turns.{back-below, under-le, under-less, Ends, ends-over, ends-spent, ends-halts, goes-within, goes-on, stop-none, stop-full, stop-lost, Standing, node-is, placed, freed, stop-tried, acted, tried-within, sane, stop-acting, stop-walking, whole, turn-walks, stored-good}
 use Rattle.runner.proofs.Stores.{proc-in, node-in, vars-in, shape-after, onTop, Closed, top-none, top-good, vars-still, frames-after, shape-closed}
-use Rattle.runner.proofs.Decoded.{bare-placed}
-use Rattle.runner.proofs.Directs.{LeadsStraight, stateIn, Shaped, Goes, left-same, left-opens, Done, led, called, returned, done-by, goes-straight}
+use Rattle.runner.proofs.Decoded.{bare-as}
+use Rattle.runner.proofs.Directs.{LeadsStraight, stateIn, Shaped, Goes, Tries, tries, left-same, left-still, Done, led, called, returned, done-by, goes-straight}
 use Rattle.runner.proofs.Returns.{goes-call, goes-return}
 
 -- what a run goes by: the table, its nodes in a row, their arcs and where these lead straight to, where the tests' arcs at `no` do, the kept nodes,
@@ -92,9 +93,9 @@ withCols v m = record { ks = v .ks; lost = v .lost; cols = m; used = v .used; at
 abbrev pub stepped : Here → List Bool → Columns → ℕ → List ℕ → Here
 stepped v lost m used log = record { ks = rest v; lost = lost; cols = m; used = used; at = v .at + 8; log = log }
 
--- the walk over dropped nodes: with k more allowed, it goes on by an arc, on the variables w if far
-pub record Walking (t : Table) (vs : List ℤ) (p most : ℕ) (l₀ : List ℤ) (o : Acted) (far : Bool) (w : List ℤ) (arc us k : ℕ) : Type 0 where
-  pub is : (mm : Memory) → met (heading t vs p most (withVars mm l₀) (o .arc) (o .used)) ≡ met (heading t vs p k (withVars mm (pick far w l₀)) arc us)
+-- the walk of task i over dropped nodes: with k more allowed, it goes on by an arc, on the variables w if far
+pub record Walking (t : Table) (i : ℕ) (vs : List ℤ) (p most : ℕ) (l₀ : List ℤ) (o : Acted) (far : Bool) (w : List ℤ) (arc us k : ℕ) : Type 0 where
+  pub is : (mm : Memory) → met (heading t i vs p most (withVars mm l₀) (o .arc) (o .used)) ≡ met (heading t i vs p k (withVars mm (pick far w l₀)) arc us)
   pub within : us ≤ length vs
   pub long : length (pick far w l₀) ≡ 16
 
@@ -184,7 +185,7 @@ module _ (S : Setting) (whole-run : Ran) (size : ℕ) where
     -- and a call is blocked
     pub record Waits (v : Here) (f : ℕ) (x : Node) : Type 0 where
       pub stands : Stands v f x
-      pub calls : stuckOf x (depthIn v) (v .cols .sems) (v .cols .lens) (S .cs) ≡ false → opens x ≡ false
+      pub calls : stuckOf x (depthIn v) (v .cols .sems) (v .cols .lens) (S .cs) ≡ false → opensBy (act x) ≡ false
 
     module _ (v : Here) (f : ℕ) (x : Node) (st : Stands v f x) where
       abbrev h : Held v
@@ -239,7 +240,7 @@ module _ (S : Setting) (whole-run : Ran) (size : ℕ) where
 
       pub stood : Stood (bare x) i f d (m .procs) (m .nodes) (m .vars) (m .items)
       stood = record {
-        placed = bare-placed x x-placed;
+        placed = subst ActPlaced (sym (bare-as x .acts)) x-placed;
         task = task-low;
         frame = f-low;
         above = λ l. omega (arith, l, st .at, task-low, opened);
@@ -277,30 +278,34 @@ module _ (S : Setting) (whole-run : Ran) (size : ℕ) where
       pub a-low : a < 256
       a-low = omega (arith, proc-lt f, node-lt f)
 
-      module _ (e : Tried) (m′ : Columns) (tries : turn e m′ ≡ triedTurn x (getD (S .ts) a 0) (getD (S .ns) a 0) (S .ts) (S .cs) i f d m) where
+      place-of : a / 32 ≡ getD (m .procs) f 0
+      place-of = omega (arith, node-lt f)
+
+      leads-to : (g : Node → ℕ) (l : List ℕ) → LeadsStraight g (S .row) (S .keep) l → getD l a 0 ≡ directOf (g x) kp
+      leads-to g l t = t a a-low ∙ (λ j. directOf (ap g (sym (st .node)) j) (getD (S .keep) (place-of j) 0))
+
+      module _ (e : Tried) (m′ : Columns) (tried : turn e m′ ≡ triedTurn x (getD (S .ts) a 0) (getD (S .ns) a 0) (S .ts) (S .cs) i f d m) where
+        way : Tries kp (S .ts) (S .cs) i f d m x (turn e m′)
+        way = subst (λ (r : Turn). Tries kp (S .ts) (S .cs) i f d m x r) (sym tried)
+            (tries kp (S .ts) (S .cs) i f d m x (getD (S .ts) a 0) (getD (S .ns) a 0) (leads-to arcTo (S .ts) (K .targeted)) (leads-to arcNo (S .ns) (K .targeted-no)))
+
         pub cols-left : e .done ≡ false → m ≡ m′
-        cols-left u = sym (left-same x (getD (S .ts) a 0) (getD (S .ns) a 0) (S .ts) (S .cs) i f d m e m′ tries u)
+        cols-left u = sym (left-same kp (S .ts) (S .cs) i f d m x e m′ way u)
 
         pub waits-left : e .done ≡ false → Waits (withCols v m′) f x
         waits-left u =
             subst (λ (m : Columns). Waits (withCols v m) f x) (cols-left u)
-            (record { stands = st; calls = left-opens x (getD (S .ts) a 0) (getD (S .ns) a 0) (S .ts) (S .cs) i f d m e m′ tries u })
+            (record { stands = st; calls = left-still kp (S .ts) (S .cs) i f d m x e m′ way u })
 
         module _ (u : e .done ≡ true) (log′ : List ℕ) (puts : log′ ≡ sets (v .log) (v .at) (i ∷ getD (m .procs) f 0 ∷ getD (m .nodes) f 0 ∷ e .flag ∷ word (e .bits))) where
           puts-n : log′ ≡ sets (v .log) (8 * h .n) (i ∷ getD (m .procs) f 0 ∷ getD (m .nodes) f 0 ∷ e .flag ∷ word (e .bits))
           puts-n = puts ∙ ap (λ (j : ℕ). sets (v .log) j (i ∷ getD (m .procs) f 0 ∷ getD (m .nodes) f 0 ∷ e .flag ∷ word (e .bits))) (h .at-n)
 
-          place-of : a / 32 ≡ getD (m .procs) f 0
-          place-of = omega (arith, node-lt f)
-
-          leads-to : (g : Node → ℕ) (l : List ℕ) → LeadsStraight g (S .row) (S .keep) l → getD l a 0 ≡ directOf (g x) kp
-          leads-to g l t = t a a-low ∙ (λ j. directOf (ap g (sym (st .node)) j) (getD (S .keep) (place-of j) 0))
-
           goes : Goes (S .t) (S .most) (S .vs) (v .ks) (h .n) (state v) (v .used) (v .log) (v .lost) m′ log′
-          goes = go (done-by (getD (S .ts) a 0) kp (S .ts) (S .cs) i f d m e m′ u x (getD (S .ns) a 0) tries (leads-to arcTo (S .ts) (K .targeted)) (leads-to arcNo (S .ns) (K .targeted-no)))
+          goes = go (done-by kp (S .ts) (S .cs) i f d m x e m′ way u)
             where
-              go : Done x kp (S .ts) (S .cs) i f d m e m′ → Goes (S .t) (S .most) (S .vs) (v .ks) (h .n) (state v) (v .used) (v .log) (v .lost) m′ log′
-              go (led z) = goes-straight (S .t) (S .keep) (K .ready) (S .most) (S .vs) (v .ks) (h .n) (v .lost) m (v .used) (v .log) f x (S .cs) is-standing (h .shape) (h .within) e m′ z log′ puts-n
+              go : Done kp (S .ts) (S .cs) i f d m x e m′ way → Goes (S .t) (S .most) (S .vs) (v .ks) (h .n) (state v) (v .used) (v .log) (v .lost) m′ log′
+              go (led z) = goes-straight (S .t) (S .keep) (K .ready) (S .most) (S .vs) (v .ks) (h .n) (v .lost) m (v .used) (v .log) f x (S .ts) (S .cs) is-standing (h .shape) (h .within) e m′ way z log′ puts-n
               go (called q xs to c l ans aft) = goes-call (S .t) (S .keep) (K .ready) (S .most) (S .vs) (v .ks) (h .n) (v .lost) m (v .used) (v .log) f x (S .cs) is-standing (h .shape) e m′ ans log′ puts-n q xs to c l aft
               go (returned c l there ans aft) = goes-return (S .t) (S .keep) (K .ready) (S .most) (S .vs) (v .ks) (h .n) (v .lost) m (v .used) (v .log) f x (S .cs) is-standing (h .shape) e m′ ans log′ puts-n (h .within) (S .row) (K .rowed) (S .ts) (K .targeted) c l there aft
 
@@ -352,31 +357,21 @@ module _ (S : Setting) (whole-run : Ran) (size : ℕ) where
         abbrev sd : Standing (S .t) (S .keep) (K .ready) (S .most) (S .vs) (v .ks) (hd .n) (state v) (v .used) (v .log) f x (cols .lens) (cols .items) (S .cs)
         sd = is-standing v f x st
 
-        tries-in : o ≡ triedOf x (getD (S .arcs) q 0) (fr .vars) dep (cols .sems) (cols .lens) (S .cs) (cols .items) (S .vs) (v .used)
-        tries-in = tries ∙ ap (λ (l : List ℤ). triedOf x (getD (S .arcs) q 0) l dep (cols .sems) (cols .lens) (S .cs) (cols .items) (S .vs) (v .used)) (vars-in (hd .shape) g)
+        tries-in : o ≡ triedOf x (arcTo (nodeAt (S .t) (fr .proc) (fr .node))) (fr .vars) dep (cols .sems) (cols .lens) (S .cs) (cols .items) (S .vs) (v .used)
+        tries-in = tries ∙ (λ i. triedOf x (on-call i) (vars-in (hd .shape) g i) dep (cols .sems) (cols .lens) (S .cs) (cols .items) (S .vs) (v .used))
 
         pub acts-within : o .used ≤ length (S .vs)
-        acts-within = rw tries (tried-within x (getD (S .arcs) q 0) (getD (cols .vars) g []) dep (cols .sems) (cols .lens) (S .cs) (cols .items) (S .vs) (v .used) (hd .within))
-
-        -- what the log says of it
-        abbrev tail : List ℕ
-        tail = flagOf (o .how) ∷ word (bitsOf (o .how) (o .value))
-
-        abbrev logged : List ℕ
-        logged = sets (v .log) (8 * hd .n) (task v ∷ frameIn (state v .frames) f .proc ∷ frameIn (state v .frames) f .node ∷ tail)
+        acts-within = tried-within (S .t) (S .keep) (K .ready) (S .most) (S .vs) (v .ks) (hd .n) (state v) (v .used) (v .log) f x (cols .lens) (cols .items) (S .cs) sd g o tries-in (hd .good .vars g g-low) (hd .within)
 
         module _ (free : stuckOf x dep (cols .sems) (cols .lens) (S .cs) ≡ false) where
           did : o ≡ actOf x (arcTo (nodeAt (S .t) (fr .proc) (fr .node))) (fr .vars) (cols .sems) (cols .lens) (cols .items) (S .vs) (v .used)
-          did = acted (S .t) (S .keep) (K .ready) (S .most) (S .vs) (v .ks) (hd .n) (state v) (v .used) (v .log) f x (cols .lens) (cols .items) (S .cs) sd g (getD (S .arcs) q 0) o (λ _. on-call) tries-in free
-
-          shows : flagged (shown (frameIn (state v .frames) f .vars) x) ≡ tail
-          shows = logs (S .t) (S .keep) (K .ready) (S .most) (S .vs) (v .ks) (hd .n) (state v) (v .used) (v .log) f x (cols .lens) (cols .items) (S .cs) sd g (getD (S .arcs) q 0) o (λ _. on-call) tries-in free g-next
+          did = acted (S .t) (S .keep) (K .ready) (S .most) (S .vs) (v .ks) (hd .n) (state v) (v .used) (v .log) f x (cols .lens) (cols .items) (S .cs) sd g o tries-in free
 
           stop-as : (o .stop ≡ 0 → ⊥) → runFrom (S .t) (keptIn (S .t)) (S .most) (S .vs) (v .ks) (hd .n) (state v) (drop (v .used) (S .vs)) (v .log) ≡ stopsAt (S .t) (S .most) (S .vs) (hd .n) (state v) (v .used) (v .log) (o .stop)
-          stop-as u = stop-acting (S .t) (S .keep) (K .ready) (S .most) (S .vs) (v .ks) (hd .n) (state v) (v .used) (v .log) f x (cols .lens) (cols .items) (S .cs) sd free logged tail shows refl (wt .calls free) g g-next o did u
+          stop-as u = stop-acting (S .t) (S .keep) (K .ready) (S .most) (S .vs) (v .ks) (hd .n) (state v) (v .used) (v .log) f x (cols .lens) (cols .items) (S .cs) sd free (wt .calls free) g g-next o did u
 
         pub stop-act : (o .stop ≡ 0 → ⊥) → Stopped v (o .stop)
-        stop-act u = stops v hd (o .stop) (stop-tried (S .t) (S .keep) (K .ready) (S .most) (S .vs) (v .ks) (hd .n) (state v) (v .used) (v .log) f x (cols .lens) (cols .items) (S .cs) sd g (getD (S .arcs) q 0) o (λ _. on-call) tries-in (λ b. stop-as b u))
+        stop-act u = stops v hd (o .stop) (stop-tried (S .t) (S .keep) (K .ready) (S .most) (S .vs) (v .ks) (hd .n) (state v) (v .used) (v .log) f x (cols .lens) (cols .items) (S .cs) sd g o tries-in (λ b. stop-as b u))
 
         -- ---- then dropped nodes are executed
 
@@ -384,7 +379,7 @@ module _ (S : Setting) (whole-run : Ran) (size : ℕ) where
         l₀ = set (getD (cols .vars) g []) (o .var) (o .value)
 
         abbrev Walks : Bool → List ℤ → ℕ → ℕ → ℕ → Type 0
-        Walks far w arc us k = Walking (S .t) (S .vs) p (S .most) l₀ o far w arc us k
+        Walks far w arc us k = Walking (S .t) (task v) (S .vs) p (S .most) l₀ o far w arc us k
 
         pub walk-starts : (w : List ℤ) → Walks false w (o .arc) (o .used) (S .most)
         walk-starts w = record { is = λ mm. refl; within = acts-within; long = length-set (getD (cols .vars) g []) (o .var) (o .value) ∙ vars-long v f x st g g-low }
@@ -406,45 +401,45 @@ module _ (S : Setting) (whole-run : Ran) (size : ℕ) where
                 let n : getD (S .row) a noSlot .node ≡ nodeAt (S .t) p (y .node) = ap (λ (i : ℕ). getD (S .row) i noSlot .node) at ∙ K .rowed .nodes p (y .node) p-low (arrives .sound .place) in
                 passes ∙ (λ i. passOf (n i) (ahead i) (S .vs) (y .used))
 
-            pub ends-stopped : (z r : Chosen) → y .over ≡ false → (k ≡ 0 → ⊥) → (mv .stop ≡ 0 → ⊥) → r ≡ halting (mv .stop) (y .used) → z ≡ r → Ends (S .t) (S .keep) (K .ready) (S .most) (S .vs) p k l arc us z
-            ends-stopped z r b c u e i = ends-halts (S .t) (S .keep) (K .ready) (S .most) (S .vs) p k p-low l (wk .long) arc us y arrives z r mv b c passes-in u e i
+            pub ends-stopped : (z r : Chosen) → y .over ≡ false → (k ≡ 0 → ⊥) → (mv .stop ≡ 0 → ⊥) → r ≡ halting (mv .stop) (y .used) → z ≡ r → Ends (S .t) (S .keep) (K .ready) (S .most) (S .vs) (task v) p k l arc us z
+            ends-stopped z r b c u e i = ends-halts (S .t) (S .keep) (K .ready) (S .most) (S .vs) (task v) p k p-low l (wk .long) arc us y arrives z r mv b c passes-in u e i
 
             pub walk-next : (w″ : List ℤ) → w″ ≡ set w′ (mv .var) (mv .value) → y .over ≡ false → (k ≡ 0 → ⊥) → mv .stop ≡ 0 → Walks true w″ (mv .arc) (mv .used) (k - 1)
             walk-next w″ e b c u =
                 let z : w″ ≡ set l (mv .var) (mv .value) = e ∙ ap (λ (l : List ℤ). set l (mv .var) (mv .value)) ahead in
                 record {
-                  is = λ mm. wk .is mm ∙ goes-on (S .t) (S .keep) (K .ready) (S .most) (S .vs) p k p-low l (wk .long) arc us y arrives mv b c passes-in u mm ∙ ap (λ (l : List ℤ). met (heading (S .t) (S .vs) p (k - 1) (withVars mm l) (mv .arc) (mv .used))) (sym z);
-                  within = rw passes (pass-within (getD (S .row) a noSlot .node) w′ (S .vs) (y .used) (arrives .sound .within));
+                  is = λ mm. wk .is mm ∙ goes-on (S .t) (S .keep) (K .ready) (S .most) (S .vs) (task v) p k p-low l (wk .long) arc us y arrives mv b c passes-in u mm ∙ ap (λ (l : List ℤ). met (heading (S .t) (task v) (S .vs) p (k - 1) (withVars mm l) (mv .arc) (mv .used))) (sym z);
+                  within = goes-within (S .t) (S .keep) (K .ready) (S .most) (S .vs) (task v) p k p-low l (wk .long) arc us y arrives mv b passes-in;
                   long = ap length z ∙ length-set l (mv .var) (mv .value) ∙ wk .long;
                 }
 
-          pub ends-met : (z : Chosen) → y .over ≡ true → z ≡ y → Ends (S .t) (S .keep) (K .ready) (S .most) (S .vs) p k l arc us z
-          ends-met z b e = ends-over (S .t) (S .keep) (K .ready) (S .most) (S .vs) p k p-low l (wk .long) arc us y arrives z b e
+          pub ends-met : (z : Chosen) → y .over ≡ true → z ≡ y → Ends (S .t) (S .keep) (K .ready) (S .most) (S .vs) (task v) p k l arc us z
+          ends-met z b e = ends-over (S .t) (S .keep) (K .ready) (S .most) (S .vs) (task v) p k p-low l (wk .long) arc us y arrives z b e
 
-          pub ends-out : (z r : Chosen) → y .over ≡ false → k ≡ 0 → r ≡ halting 14 (y .used) → z ≡ r → Ends (S .t) (S .keep) (K .ready) (S .most) (S .vs) p k l arc us z
-          ends-out z r b c e i = ends-spent (S .t) (S .keep) (K .ready) (S .most) (S .vs) p k p-low l (wk .long) arc us y arrives z r b c e i
+          pub ends-out : (z r : Chosen) → y .over ≡ false → k ≡ 0 → r ≡ halting 14 (y .used) → z ≡ r → Ends (S .t) (S .keep) (K .ready) (S .most) (S .vs) (task v) p k l arc us z
+          ends-out z r b c e i = ends-spent (S .t) (S .keep) (K .ready) (S .most) (S .vs) (task v) p k p-low l (wk .long) arc us y arrives z r b c e i
 
           -- the walk is over
-          module _ (on : o .stop ≡ 0) (z : Chosen) (ends : Ends (S .t) (S .keep) (K .ready) (S .most) (S .vs) p k l arc us z) where
+          module _ (on : o .stop ≡ 0) (z : Chosen) (ends : Ends (S .t) (S .keep) (K .ready) (S .most) (S .vs) (task v) p k l arc us z) where
             free-act : stuckOf x dep (cols .sems) (cols .lens) (S .cs) ≡ false
-            free-act = freed (S .t) (S .keep) (K .ready) (S .most) (S .vs) (v .ks) (hd .n) (state v) (v .used) (v .log) f x (cols .lens) (cols .items) (S .cs) sd g (getD (S .arcs) q 0) o (λ _. on-call) tries-in on
+            free-act = freed (S .t) (S .keep) (K .ready) (S .most) (S .vs) (v .ks) (hd .n) (state v) (v .used) (v .log) f x (cols .lens) (cols .items) (S .cs) sd g o tries-in on
 
-            walked : (mm : Memory) → met (heading (S .t) (S .vs) (fr .proc) (S .most) (withVars mm (set (fr .vars) (o .var) (o .value))) (o .arc) (o .used)) ≡ metOf (S .vs) (withVars mm l) z
+            walked : (mm : Memory) → met (heading (S .t) (task v) (S .vs) (fr .proc) (S .most) (withVars mm (set (fr .vars) (o .var) (o .value))) (o .arc) (o .used)) ≡ metOf (S .vs) (withVars mm l) z
             walked mm =
-                (λ i. met (heading (S .t) (S .vs) (sym (proc-in (hd .shape) g) i) (S .most) (withVars mm (set (sym (vars-in (hd .shape) g) i) (o .var) (o .value))) (o .arc) (o .used))) ∙
+                (λ i. met (heading (S .t) (task v) (S .vs) (sym (proc-in (hd .shape) g) i) (S .most) (withVars mm (set (sym (vars-in (hd .shape) g) i) (o .var) (o .value))) (o .arc) (o .used))) ∙
                 wk .is mm ∙ ends .is mm
 
             pub stop-walk : (z .stop ≡ 0 → ⊥) → Stopped v (z .stop)
-            stop-walk u = stops v hd (z .stop) (stop-walking (S .t) (S .keep) (K .ready) (S .most) (S .vs) (v .ks) (hd .n) (state v) (v .used) (v .log) f x (cols .lens) (cols .items) (S .cs) sd free-act logged tail (shows free-act) refl (wt .calls free-act) g g-next o (did free-act) on (set (fr .vars) (o .var) (o .value)) refl z l walked u)
+            stop-walk u = stops v hd (z .stop) (stop-walking (S .t) (S .keep) (K .ready) (S .most) (S .vs) (v .ks) (hd .n) (state v) (v .used) (v .log) f x (cols .lens) (cols .items) (S .cs) sd free-act (wt .calls free-act) g g-next o (did free-act) on (set (fr .vars) (o .var) (o .value)) refl z l walked u)
 
             back-lt : back ≤ dep - 1
-            back-lt = rw back-is (back-below x dep (cols .sems) (cols .lens) (S .cs) free-act)
+            back-lt = rw back-is (back-below (act x) dep (cols .sems) (cols .lens) (S .cs) free-act)
 
             apart : (back ≡ 0 → ⊥) → g ≡ f → ⊥
             apart b e = omega (arith, b, e, g-is, back-lt, opened v f x st, st .at, under-less f back dep (omega (arith, back-lt, opened v f x st)) (omega (arith, st .at)))
 
             pub at-lt : o .at < 8
-            at-lt = rw (did free-act) (at-below x (arcTo (nodeAt (S .t) (fr .proc) (fr .node))) (fr .vars) (cols .sems) (cols .lens) (cols .items) (S .vs) (v .used) (x-placed v f x st))
+            at-lt = sane (S .t) (S .keep) (K .ready) (S .most) (S .vs) (v .ks) (hd .n) (state v) (v .used) (v .log) f x (cols .lens) (cols .items) (S .cs) sd free-act (wt .calls free-act) g g-next o (did free-act) .at
 
             abbrev shut : Closed (cols .procs) (cols .nodes) (cols .vars) (cols .depth) f (task v) back (emptied f back 0 0 (cols .procs)) (emptied f back 0 0 (cols .nodes)) (emptied f back noVars [] (cols .vars)) (set (cols .depth) (task v) (dep - back))
             shut = record { procs = refl; nodes = refl; vars = refl; depth = refl }
@@ -467,9 +462,9 @@ module _ (S : Setting) (whole-run : Ran) (size : ℕ) where
             -- the step is completed
             module _ (on-walk : z .stop ≡ 0) (far′ : Bool) (w′ : List ℤ) (kept : pick far′ w′ l₀ ≡ l) (m′ : Columns)
                 (after : m′ ≡ landed (task v) f g back o (z .node) (pick far′ w′ (set (getD (emptied f back noVars [] (cols .vars)) g []) (o .var) (o .value))) cols)
-                (log′ : List ℕ) (puts : log′ ≡ sets (v .log) (v .at) (task v ∷ getD (cols .procs) f 0 ∷ getD (cols .nodes) f 0 ∷ tail)) where
-              puts-in : log′ ≡ logged
-              puts-in = puts ∙ (λ i. sets (v .log) (hd .at-n i) (task v ∷ proc-in (hd .shape) f i ∷ node-in (hd .shape) f i ∷ tail))
+                (log′ : List ℕ) (puts : log′ ≡ sets (v .log) (v .at) (task v ∷ getD (cols .procs) f 0 ∷ getD (cols .nodes) f 0 ∷ flagOf (o .how) ∷ word (bitsOf (o .how) (o .value)))) where
+              puts-in : log′ ≡ sets (v .log) (8 * hd .n) (task v ∷ frameIn (state v .frames) f .proc ∷ frameIn (state v .frames) f .node ∷ flagged (shownBy o))
+              puts-in = puts ∙ (λ i. sets (v .log) (hd .at-n i) (task v ∷ proc-in (hd .shape) f i ∷ node-in (hd .shape) f i ∷ logged o i))
 
               abbrev gone : Columns
               gone = landed (task v) f g back o (z .node) l cols
@@ -483,25 +478,25 @@ module _ (S : Setting) (whole-run : Ran) (size : ℕ) where
               abbrev lost′ : List Bool
               lost′ = set (v .lost) (task v) (z .lost)
 
-              stored : whole (S .t) (S .keep) (K .ready) (S .most) (S .vs) (v .ks) (hd .n) (state v) (v .used) (v .log) f x (cols .lens) (cols .items) (S .cs) sd free-act log′ tail (shows free-act) puts-in (wt .calls free-act) g g-next o (did free-act) on (set (fr .vars) (o .var) (o .value)) refl z l walked top ≡ stateIn lost′ gone
+              stored : whole (S .t) (S .keep) (K .ready) (S .most) (S .vs) (v .ks) (hd .n) (state v) (v .used) (v .log) f x (cols .lens) (cols .items) (S .cs) sd free-act (wt .calls free-act) g g-next o (did free-act) on (set (fr .vars) (o .var) (o .value)) refl z l walked top ≡ stateIn lost′ gone
               stored =
                   let a = frames-after (cols .procs) (cols .nodes) (cols .vars) (cols .depth) f (task v) back g apart shut (z .node) l in
                   let b : set (set (state v .frames) f top) g (record { proc = fr .proc; node = z .node; vars = l }) ≡ framesOf (gone .procs) (gone .nodes) (gone .vars) =
                   ap (λ (p : ℕ). set (set (state v .frames) f top) g (record { proc = p; node = z .node; vars = l })) (sym (proc-in (hd .shape) g)) ∙ sym a in
-                  λ i. record { depth = set (cols .depth) (task v) (dep - sym back-is i); lost = lost′; frames = b i; sems = gone .sems; queues = queuesOf (gone .lens) (gone .items) }
+                  λ i. restored (state v) (set (cols .depth) (task v) (dep - sym back-is i)) lost′ (b i) (gone .sems) (queuesOf (gone .lens) (gone .items))
 
               top-blank : (backOf x ≡ 0 → ⊥) → top ≡ noFrame
               top-blank b = top-none (cols .procs) (cols .nodes) (cols .vars) (cols .depth) f (task v) back (λ e. b (sym back-is ∙ e))
 
               land-ran : runFrom (S .t) (keptIn (S .t)) (S .most) (S .vs) (v .ks) (hd .n) (state v) (drop (v .used) (S .vs)) (v .log) ≡ runFrom (S .t) (keptIn (S .t)) (S .most) (S .vs) (rest v) (hd .n + 1) (stateIn lost′ gone) (drop (z .used) (S .vs)) log′
               land-ran =
-                  turn-walks (S .t) (S .keep) (K .ready) (S .most) (S .vs) (v .ks) (hd .n) (state v) (v .used) (v .log) f x (cols .lens) (cols .items) (S .cs) sd free-act log′ tail (shows free-act) puts-in (wt .calls free-act) g g-next o (did free-act) on (set (fr .vars) (o .var) (o .value)) refl z l walked top top-blank on-walk (ends .gone) ∙
+                  turn-walks (S .t) (S .keep) (K .ready) (S .most) (S .vs) (v .ks) (hd .n) (state v) (v .used) (v .log) f x (cols .lens) (cols .items) (S .cs) sd free-act (wt .calls free-act) g g-next o (did free-act) on (set (fr .vars) (o .var) (o .value)) refl z l walked log′ puts-in top top-blank on-walk (ends .gone) ∙
                   ap (λ (u : State). runFrom (S .t) (keptIn (S .t)) (S .most) (S .vs) (rest v) (hd .n + 1) u (drop (z .used) (S .vs)) log′) stored
 
               land-good : Good (S .t) (stateIn lost′ gone)
               land-good =
                   subst (λ (u : State). Good (S .t) u) stored
-                  (stored-good (S .t) (S .keep) (K .ready) (S .most) (S .vs) (v .ks) (hd .n) (state v) (v .used) (v .log) f x (cols .lens) (cols .items) (S .cs) sd free-act log′ tail (shows free-act) puts-in (wt .calls free-act) g g-next o (did free-act) on (set (fr .vars) (o .var) (o .value)) refl z l walked top
+                  (stored-good (S .t) (S .keep) (K .ready) (S .most) (S .vs) (v .ks) (hd .n) (state v) (v .used) (v .log) f x (cols .lens) (cols .items) (S .cs) sd free-act (wt .calls free-act) g g-next o (did free-act) on (set (fr .vars) (o .var) (o .value)) refl z l walked top
                   (top-good (cols .procs) (cols .nodes) (cols .vars) (cols .depth) f (task v) back (proc-lt v f x st f) (node-lt v f x st f) (vars-long v f x st f (f-low v f x st))) (wk .long) (ends .place))
 
               land-shape : Shaped gone
@@ -510,4 +505,4 @@ module _ (S : Setting) (whole-run : Ran) (size : ℕ) where
               pub land-next : Held (stepped v lost′ m′ (z .used) log′)
               land-next =
                   subst (λ (m : Columns). Held (stepped v lost′ m (z .used) log′)) (sym gone-is)
-                  (next v f x st lost′ gone (z .used) log′ (ap length puts ∙ length-sets (v .log) (v .at) (task v ∷ getD (cols .procs) f 0 ∷ getD (cols .nodes) f 0 ∷ tail)) land-ran land-good land-shape (ends .within))
+                  (next v f x st lost′ gone (z .used) log′ (ap length puts ∙ length-sets (v .log) (v .at) (task v ∷ getD (cols .procs) f 0 ∷ getD (cols .nodes) f 0 ∷ flagOf (o .how) ∷ word (bitsOf (o .how) (o .value)))) land-ran land-good land-shape (ends .within))

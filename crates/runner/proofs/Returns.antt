@@ -9,7 +9,7 @@ use lib.Seq.{sets, set-out, set-getD, getD-set-other}
 use lib.IntN.{ℤ, pos}
 use borrow.Author.Tests.{lt-leb, lt-ltb}
 use Rattle.table.specs.Mask.{members}
-use Rattle.table.specs.Table.{noSlot, nodeAt, arcTo}
+use Rattle.table.specs.Table.{noSlot, nodeAt, arcTo, act, parts}
 use Rattle.table.specs.declared.Args.{Args}
 use Rattle.table.specs.declared.Node.{Node}
 use Rattle.table.specs.declared.Node.the-variants.{Call, Return}
@@ -17,11 +17,12 @@ use Rattle.table.specs.declared.Slot.{Slot}
 use Rattle.table.specs.declared.Table.{Table}
 use Rattle.machine.specs.declared.Frame.{Frame}
 use Rattle.machine.specs.declared.State.{State}
-use Rattle.machine.specs.State.{noVars, noFrame}
-use Rattle.machine.specs.Step.{Memory, keptIn, shown, entering}
-use Rattle.machine.specs.Run.{word, flagged, runFrom}
+use Rattle.machine.specs.State.{noVars, noFrame, withDepth, withFrames}
+use Rattle.machine.specs.Step.{Memory, keptIn, entering}
+use Rattle.machine.specs.Run.{word}
+use Rattle.machine.specs.RunLaws.{runFrom}
 use Rattle.tosses.specs.Tosses.{meeting, directOf}
-use Rattle.steps.specs.Cut.{goesTo, stuckOf, actOf, backOf, underOf}
+use Rattle.steps.specs.Cut.{goesTo, stuckBy, stuckOf, actOf, backBy, backOf, underOf}
 use Rattle.starts.specs.Ready.{Ready}
 use Rattle.starts.specs.Begins.{frameIn, Good}
 use Rattle.starts.specs.RowLaws.{Row}
@@ -30,8 +31,8 @@ use Rattle.columns.specs.ColumnLaws.{frame-set}
 use Rattle.straight.specs.declared.Tried.{Tried}
 use Rattle.straight.specs.Turns.{Columns, doneAs, openedBy, closedTo, placeBelow}
 use Rattle.runner.proofs.Walks.{met, metOf, heading, withVars}
-use Rattle.runner.proofs.Runs.{opens, storedAs}
-use Rattle.runner.proofs.Turns.{ends-over, Standing, turn-walks, stored-good, turn-calls, opened-good, call-free, call-shows}
+use Rattle.runner.proofs.Runs.{opensBy, restored, storedAs}
+use Rattle.runner.proofs.Turns.{ends-over, Standing, turn-walks, stored-good, turn-calls, opened-good, call-free}
 use Rattle.runner.proofs.Stores.{proc-in, node-in, vars-in, shape-set}
 use Rattle.runner.proofs.Directs.{LeadsStraight, stateIn, Shaped, Goes, goes-as, OneKept, one-kept, one-arrives}
 
@@ -64,25 +65,25 @@ module _ (t : Table) (keep : List ℕ) (ready : Ready t keep) (most : ℕ) (vs :
     free-call : stuckOf x d (m .sems) (m .lens) cs ≡ false
     free-call = call-free t keep ready most vs ks n s used log f x (m .lens) (m .items) cs st q xs to is-call room
 
-    shows-call : flagged (shown (frameIn (s .frames) f .vars) x) ≡ 0 ∷ word 0
-    shows-call = call-shows t keep ready most vs ks n s used log f x (m .lens) (m .items) cs st q xs to is-call
-
     enters : fr ≡ entering (frameIn (s .frames) f .vars) q xs
     enters = ap (λ (l : List ℤ). entering l q xs) (vars-in shape f)
 
     frames-open : set (framesOf (m .procs) (m .nodes) (m .vars)) (f + 1) fr ≡ framesOf (opened .procs) (opened .nodes) (opened .vars)
     frames-open = sym (frame-set (m .procs) (m .nodes) (m .vars) (f + 1) q 0 (fr .vars))
 
-    state-open : _≡_ {A = State} (record { depth = set (m .depth) i (d + 1); lost = lost; frames = set (framesOf (m .procs) (m .nodes) (m .vars)) (f + 1) fr; sems = m .sems; queues = queuesOf (m .lens) (m .items) }) (stateIn lost opened)
-    state-open = λ k. record { depth = opened .depth; lost = lost; frames = frames-open k; sems = m .sems; queues = queuesOf (m .lens) (m .items) }
+    abbrev entered : List Frame → State
+    entered fs = withFrames (withDepth s (set (m .depth) i (d + 1))) fs
+
+    state-open : entered (set (framesOf (m .procs) (m .nodes) (m .vars)) (f + 1) fr) ≡ stateIn lost opened
+    state-open = λ k. entered (frames-open k)
 
     pub goes-call : Goes t most vs ks n s used log lost m′ log′
     goes-call =
         goes-as after
         (record {
-          ran = turn-calls t keep ready most vs ks n s used log f x (m .lens) (m .items) cs st free-call log′ (0 ∷ word 0) shows-call puts-is q xs to is-call fr enters ∙
+          ran = turn-calls t keep ready most vs ks n s used log f x (m .lens) (m .items) cs st free-call q xs to is-call fr enters log′ puts-is ∙
               ap (λ (u : State). runFrom t (keptIn t) most vs (take (length ks - 1) (drop 1 ks)) (n + 1) u (drop used vs) log′) state-open;
-          good = subst (λ (u : State). Good t u) state-open (opened-good t keep ready most vs ks n s used log f x (m .lens) (m .items) cs st free-call log′ (0 ∷ word 0) shows-call puts-is q xs to is-call fr enters);
+          good = subst (λ (u : State). Good t u) state-open (opened-good t keep ready most vs ks n s used log f x (m .lens) (m .items) cs st free-call q xs to is-call fr enters);
           shape = shape-set shape (f + 1) q 0 (fr .vars);
         })
 
@@ -109,20 +110,16 @@ module _ (t : Table) (keep : List ℕ) (ready : Ready t keep) (most : ℕ) (vs :
     low = omega (arith, st .at, st .task, ready .tasks, st .good .bounded i (st .task), st .good .opened i (st .task))
 
     free : stuckOf x d (m .sems) (m .lens) cs ≡ false
-    unfolding stuckOf
+    unfolding stuckBy parts
     free = rw is-return (lt-leb d 1 deep)
 
-    stays : opens x ≡ false
-    unfolding opens
-    stays = rw is-return refl
+    still : opensBy (act x) ≡ false
+    unfolding opensBy parts
+    still = rw is-return refl
 
     back-one : backOf x ≡ 1
-    unfolding backOf
+    unfolding backBy parts
     back-one = rw is-return refl
-
-    shows : (l : List ℤ) → flagged (shown l x) ≡ 0 ∷ word 0
-    unfolding shown
-    shows l = rw is-return refl
 
     acts : (b : ℕ) (l : List ℤ) → goesTo 255 (pos 0) used b ≡ actOf x b l (m .sems) (m .lens) (m .items) vs used
     unfolding actOf
@@ -160,10 +157,10 @@ module _ (t : Table) (keep : List ℕ) (ready : Ready t keep) (most : ℕ) (vs :
     target : OneKept call-arc kp j
     target = rw leads (one-kept call-arc kp (members call-arc) refl (λ z. there (leads ∙ z)))
 
-    ends : (mm : Memory) → met (heading t vs (on .proc) most (withVars mm (on .vars)) call-arc used) ≡ metOf vs (withVars mm (on .vars)) (meeting kp j used)
+    ends : (mm : Memory) → met (heading t i vs (on .proc) most (withVars mm (on .vars)) call-arc used) ≡ metOf vs (withVars mm (on .vars)) (meeting kp j used)
     ends mm =
-        ap (λ (p : ℕ). met (heading t vs p most (withVars mm (on .vars)) call-arc used)) (sym (proc-in shape g)) ∙
-        ends-over t keep ready most vs (getD (m .procs) g 0) most inside (on .vars) on-long call-arc used (meeting kp j used) (one-arrives call-arc kp vs used w j target) (meeting kp j used) (target .kept) refl .is mm
+        ap (λ (p : ℕ). met (heading t i vs p most (withVars mm (on .vars)) call-arc used)) (sym (proc-in shape g)) ∙
+        ends-over t keep ready most vs i (getD (m .procs) g 0) most inside (on .vars) on-long call-arc used (meeting kp j used) (one-arrives call-arc kp vs used w j target) (meeting kp j used) (target .kept) refl .is mm
 
     abbrev gone : Columns
     gone = closedTo j i f d m
@@ -183,22 +180,19 @@ module _ (t : Table) (keep : List ℕ) (ready : Ready t keep) (most : ℕ) (vs :
     stored : storedAs s i f g (d - backOf x) noFrame (record { proc = on .proc; node = j; vars = on .vars }) false (m .sems) (queuesOf (m .lens) (m .items)) ≡ stateIn lost gone
     stored =
         let b = ap (set lost i) (sym (st .here)) ∙ set-getD lost i false in
-        λ k. record { depth = set (m .depth) i (d - back-one k); lost = b k; frames = frames-is k; sems = m .sems; queues = queuesOf (m .lens) (m .items) }
+        λ k. restored s (set (m .depth) i (d - back-one k)) (b k) (frames-is k) (m .sems) (queuesOf (m .lens) (m .items))
 
     set-none : on .vars ≡ set (on .vars) 255 (pos 0)
     set-none = sym (set-out (on .vars) 255 (pos 0) (omega (arith, on-long)))
-
-    abbrev top-shows : flagged (shown (frameIn (s .frames) f .vars) x) ≡ 0 ∷ word 0
-    top-shows = shows (frameIn (s .frames) f .vars)
 
     pub goes-return : Goes t most vs ks n s used log lost m′ log′
     goes-return =
         goes-as after
         (record {
-          ran = turn-walks t keep ready most vs ks n s used log f x (m .lens) (m .items) cs st free log′ (0 ∷ word 0) top-shows puts-is stays g next-is (goesTo 255 (pos 0) used call-arc) (acts call-arc (on .vars)) refl (on .vars) set-none (meeting kp j used) (on .vars) ends noFrame (λ _. refl) refl refl ∙
+          ran = turn-walks t keep ready most vs ks n s used log f x (m .lens) (m .items) cs st free still g next-is (goesTo 255 (pos 0) used call-arc) (acts call-arc (on .vars)) refl (on .vars) set-none (meeting kp j used) (on .vars) ends log′ puts-is noFrame (λ _. refl) refl refl ∙
               ap (λ (r : State). runFrom t (keptIn t) most vs (take (length ks - 1) (drop 1 ks)) (n + 1) r (drop used vs) log′) stored;
           good = subst (λ (r : State). Good t r) stored
-              (stored-good t keep ready most vs ks n s used log f x (m .lens) (m .items) cs st free log′ (0 ∷ word 0) top-shows puts-is stays g next-is (goesTo 255 (pos 0) used call-arc) (acts call-arc (on .vars)) refl (on .vars) set-none (meeting kp j used) (on .vars) ends noFrame (record { proc = omega arith; node = omega arith; vars = refl }) on-long (target .low));
+              (stored-good t keep ready most vs ks n s used log f x (m .lens) (m .items) cs st free still g next-is (goesTo 255 (pos 0) used call-arc) (acts call-arc (on .vars)) refl (on .vars) set-none (meeting kp j used) (on .vars) ends noFrame (record { proc = omega arith; node = omega arith; vars = refl }) on-long (target .low));
           shape = record {
             procs = length-set (m .procs) f 0 ∙ shape .procs;
             nodes = length-set (set (m .nodes) f 0) g j ∙ length-set (m .nodes) f 0 ∙ shape .nodes;

@@ -1,5 +1,5 @@
 -- A step as the code goes: what is tested before it, the kept node executed, the state stored.
-use mathlib.Core.Path.{_≡_, refl, sym, _∙_, ap}
+use mathlib.Core.Path.{_≡_, refl, sym, _∙_, ap, subst}
 use mathlib.Core.Bool.{Bool, true, false}
 use mathlib.Core.List.{List, [], _∷_}
 use mathlib.Core.Option.{Option, none, some}
@@ -9,9 +9,11 @@ use lib.ListN.{length, getD, set, take, drop, length-drop}
 use lib.Seq.{sets, take-all, set-out, set-getD, set-set}
 use lib.Dec.{eqb, leb}
 use lib.IntN.{ℤ, pos}
+use mir.Syntax.{w32}
+use mir.Val.{ofZ}
 use borrow.Author.Tests.{lt-ltb, le-ltb}
 use Rattle.table.specs.Mask.{pick}
-use Rattle.table.specs.Table.{queueAt, nodeAt, arcTo}
+use Rattle.table.specs.Table.{queueAt, nodeAt, arcTo, Act, alone, waits, signals, sends, receives, calls, returns, act, parts}
 use Rattle.table.specs.declared.Args.{Args}
 use Rattle.table.specs.declared.Node.{Node}
 use Rattle.table.specs.declared.Node.the-variants.{Absent, Start, Set, Test, Read, Call, Wait, Signal, Send, Recv, Assert, Out, Return}
@@ -20,15 +22,17 @@ use Rattle.machine.specs.declared.Frame.{Frame}
 use Rattle.machine.specs.declared.Entries.{Entries}
 use Rattle.machine.specs.declared.State.{State}
 use Rattle.machine.specs.declared.Running.{Running}
-use Rattle.machine.specs.State.{noFrame, openFrames, isLost, place, frameAt, topmost, semCount, entriesAt, varAt, standsBefore, firstState, Begun, spent, begun, blockedAt, blocked}
-use Rattle.machine.specs.Step.{noSuchTask, logFull, taskLost, taskBlocked, stopNumber, Memory, valueOf, assign, appended, oldest, shortened, Did, stops, goes, exec, keptIn, Walk, halts, arrives, onward, walk, flow, Entry, shown, Step, stopped, stepped, landed, settled, entering, called, returned, memory, flowed, entryOf, stepOf, before, step}
-use Rattle.machine.specs.Run.{word, flagged, entryBytes, Ran, ended, turn, afterStep, runFrom, runBegun}
+use Rattle.machine.specs.State.{noFrame, withDepth, withLost, withFrames, withSems, withQueues, openFrames, isLost, place, frameAt, topmost, semCount, entriesAt, varAt, standsBefore, firstState, Begun, spent, begun, blockedAt, blocked}
+use Rattle.machine.specs.Step.{noSuchTask, logFull, taskLost, taskBlocked, stopNumber, Memory, valueOf, assign, appended, oldest, shortened, entering, Does, opens, closes, goes, stops, readOf, exec, keptIn, Walk, halts, arrives, Entry, Step, stopped, stepped, landed, settled, called, returned, memory, entryOf, stepAs, stepOf, before, step}
+use Rattle.machine.specs.Run.{word, flagged, entryBytes, Ran, ended, turn, runBegun}
+use Rattle.machine.specs.RunLaws.{runFrom, afterStep, run-end, run-next, run-begun}
 use Rattle.tosses.specs.TossLaws.{stopOf}
-use Rattle.steps.specs.Cut.{Within, goesTo, haltsAt, showsTo, stuckOf, actOf, backOf, semsAfter, lensAfter, itemsAfter, flagOf, bitsOf}
+use Rattle.steps.specs.Cut.{goesTo, haltsAt, showsTo, readAt, stuckBy, actOf, backBy, backOf, semsAfter, lensAfter, itemsAfter, flagOf, bitsOf}
 use Rattle.steps.specs.declared.Acted.{Acted}
+use Rattle.starts.specs.Ready.{ActPlaced, Placed}
 use Rattle.columns.specs.Columns.{queuesOf}
 use Rattle.columns.specs.ColumnLaws.{queue-at, queue-set}
-use Rattle.runner.proofs.Walks.{halted, arrived, met, didOf, read-did}
+use Rattle.runner.proofs.Walks.{halted, arrived, met, didOf, heading, Sane, does-sane, goes-sane, shows-sane, read-sane, read-did}
 
 pub true-false : _≡_ {A = Bool} true false → ⊥
 true-false e = let y : _≡_ {A = ℕ} 0 1 = cc in omega arith
@@ -39,38 +43,27 @@ module _ (t : Table) (s : State) (k : ℕ) (ls : List ℕ) (is : List (List ℤ)
   len-is : (q : ℕ) → entriesAt (s .queues) q .len ≡ getD ls q 0
   len-is q = ap (λ (l : List Entries). entriesAt l q .len) queued ∙ ap (λ (e : Entries). e .len) (queue-at ls is q even)
 
-  pub stuck-is : (x : Node) → Within x → blockedAt t s k x ≡ stuckOf x (openFrames s k) (s .sems) ls cs
-  unfolding blockedAt stuckOf
-  stuck-is Absent w = refl
-  stuck-is (Start to) w = refl
-  stuck-is (Set v o a b to) w = refl
-  stuck-is (Test o a b y n) w = refl
-  stuck-is (Read v to) w = refl
-  stuck-is (Call q xs to) w = refl
-  stuck-is (Wait i to) w = refl
-  stuck-is (Signal i to) w = refl
-  stuck-is (Send q v to) w = let c = sym (caps q w) in λ i. leb (c i) (len-is q i)
-  stuck-is (Recv q v to) w = λ i. eqb (len-is q i) 0
-  stuck-is (Assert v to) w = refl
-  stuck-is (Out v to) w = refl
-  stuck-is Return w = refl
+  pub stuck-is : (a : Act) → ActPlaced a → blockedAt t s k a ≡ stuckBy a (openFrames s k) (s .sems) ls cs
+  unfolding blockedAt stuckBy
+  stuck-is alone w = refl
+  stuck-is (waits i) w = refl
+  stuck-is (signals i) w = refl
+  stuck-is (sends q v) w = let c = sym (caps q w) in λ i. leb (c i) (len-is q i)
+  stuck-is (receives q v) w = λ i. eqb (len-is q i) 0
+  stuck-is (calls q xs) w = refl
+  stuck-is returns w = refl
 
--- ---- the kept node executed; y is the node of the frame that goes on
+-- ---- the node executed
 
-unfoldable pub doing : Node → Node → Memory → List ℤ → Did
-doing Absent y m vs = exec Absent m vs
-doing (Start to) y m vs = exec (Start to) m vs
-doing (Set v o a b to) y m vs = exec (Set v o a b to) m vs
-doing (Test o a b i j) y m vs = exec (Test o a b i j) m vs
-doing (Read v to) y m vs = exec (Read v to) m vs
-doing (Call q xs to) y m vs = exec (Call q xs to) m vs
-doing (Wait i to) y m vs = exec (Wait i to) m vs
-doing (Signal i to) y m vs = exec (Signal i to) m vs
-doing (Send q v to) y m vs = exec (Send q v to) m vs
-doing (Recv q v to) y m vs = exec (Recv q v to) m vs
-doing (Assert v to) y m vs = exec (Assert v to) m vs
-doing (Out v to) y m vs = exec (Out v to) m vs
-doing Return y m vs = goes (arcTo y) m vs
+-- a node opens a frame
+unfoldable pub opensBy : Act → Bool
+opensBy alone = false
+opensBy (waits i) = false
+opensBy (signals i) = false
+opensBy (sends q v) = false
+opensBy (receives q v) = false
+opensBy (calls q xs) = true
+opensBy returns = false
 
 -- after it, the queues being columns
 abbrev pub storedIn : Memory → List ℕ → List (List ℤ) → Acted → Memory
@@ -80,226 +73,205 @@ storedIn m ls is r = record {
   queues = queuesOf (lensAfter ls (r .how) (r .at) (r .count)) (itemsAfter is ls (r .how) (r .at) (r .value));
 }
 
-abbrev pub didIn : List ℤ → Memory → List ℕ → List (List ℤ) → Acted → Did
-didIn vs m ls is r = pick (eqb (r .stop) 0) (goes (r .arc) (storedIn m ls is r) (drop (r .used) vs)) (stops (stopOf (r .stop)))
+-- the value that the log shows
+abbrev pub shownBy : Acted → Option ℤ
+shownBy r = pick (eqb (r .how) 4) (some (r .value)) none
 
-module _ (m : Memory) (long : length (m .vars) ≡ 16) (ls : List ℕ) (is : List (List ℤ)) (queued : m .queues ≡ queuesOf ls is) (even : length ls ≡ length is) (vs : List ℤ) (used : ℕ) where
-  same-vars : (x : ℤ) → m .vars ≡ set (m .vars) 255 x
-  same-vars x = sym (set-out (m .vars) 255 x (omega arith))
-
-  abbrev parts : List ℤ → List ℕ → List Entries → Memory
-  parts a b c = record { vars = a; sems = b; queues = c }
-
-  -- a node that leaves all but its variables
-  plain : (to v : ℕ) (x : ℤ) (u : ℕ) → goes to (assign v x m) (drop u vs) ≡ goes to (parts (set (m .vars) v x) (m .sems) (queuesOf ls is)) (drop u vs)
-  plain to v x u = λ i. goes to (parts (set (m .vars) v x) (m .sems) (queued i)) (drop u vs)
-
-  none-set : (to : ℕ) (x : ℤ) → goes to m (drop used vs) ≡ goes to (parts (set (m .vars) 255 x) (m .sems) (queuesOf ls is)) (drop used vs)
-  none-set to x = λ i. goes to (parts (same-vars x i) (m .sems) (queued i)) (drop used vs)
-
-  entries-is : (q : ℕ) → entriesAt (m .queues) q ≡ record { len = getD ls q 0; items = getD is q [] }
-  entries-is q = ap (λ (l : List Entries). entriesAt l q) queued ∙ queue-at ls is q even
-
-  -- a queue changed
-  requeued : (f : Entries → Entries) (q : ℕ) → let e = f (record { len = getD ls q 0; items = getD is q [] }) in set (m .queues) q (f (entriesAt (m .queues) q)) ≡ queuesOf (set ls q (e .len)) (set is q (e .items))
-  requeued f q =
-      (λ i. set (queued i) q (f (entries-is q i))) ∙
-      sym (queue-set ls is q (f (record { len = getD ls q 0; items = getD is q [] }) .len) (f (record { len = getD ls q 0; items = getD is q [] }) .items))
-
-  shows : (to : ℕ) (o : Option ℤ) → goes to m (drop used vs) ≡ didIn vs m ls is (showsTo used to o)
-  shows to none = none-set to (pos 0)
-  shows to (some x) = none-set to x
-
-  pub doing-is : (x y : Node) → doing x y m (drop used vs) ≡ didIn vs m ls is (actOf x (arcTo y) (m .vars) (m .sems) ls is vs used)
-  unfolding doing exec actOf
-  doing-is Absent y = none-set 0 (pos 0)
-  doing-is (Start to) y = none-set to (pos 0)
-  doing-is (Set v o a b to) y = plain to v _ used
-  doing-is (Test o a b i j) y = none-set _ (pos 0)
-  doing-is (Read v to) y = read-did v to m vs used ∙ go (leb (length vs) used)
-    where
-      go : (b : Bool) → didOf vs m (pick b (haltsAt 15 used) (goesTo v (getD vs used (pos 0)) (used + 1) to)) ≡ didIn vs m ls is (pick b (haltsAt 15 used) (goesTo v (getD vs used (pos 0)) (used + 1) to))
-      go true = refl
-      go false = plain to v (getD vs used (pos 0)) (used + 1)
-  doing-is (Call q xs to) y = none-set 0 (pos 0)
-  doing-is (Wait i to) y = λ j. goes to (parts (same-vars (pos 0) j) (set (m .sems) i (semCount (m .sems) i - 1)) (queued j)) (drop used vs)
-  doing-is (Signal i to) y = λ j. goes to (parts (same-vars (pos 0) j) (set (m .sems) i (semCount (m .sems) i + 1)) (queued j)) (drop used vs)
-  doing-is (Send q v to) y =
-      let x = varAt (m .vars) v in
-      let e = requeued (appended x) q in
-      λ j. goes to (parts (same-vars x j) (m .sems) (e j)) (drop used vs)
-  doing-is (Recv q v to) y =
-      let e = requeued shortened q in
-      let x = ap oldest (entries-is q) in
-      λ j. goes to (parts (set (m .vars) v (x j)) (m .sems) (e j)) (drop used vs)
-  doing-is (Assert v to) y = shows to (valueOf (m .vars) v)
-  doing-is (Out v to) y = shows to (valueOf (m .vars) v)
-  doing-is Return y = none-set (arcTo y) (pos 0)
-
--- the call's arc matters to a return alone
-pub back-free : (x : Node) (a b : ℕ) (l : List ℤ) (ss ls : List ℕ) (is : List (List ℤ)) (vs : List ℤ) (used : ℕ) → backOf x ≡ 0 → actOf x a l ss ls is vs used ≡ actOf x b l ss ls is vs used
-unfolding actOf backOf
-back-free Absent a b l ss ls is vs used h = refl
-back-free (Start to) a b l ss ls is vs used h = refl
-back-free (Set v o i j to) a b l ss ls is vs used h = refl
-back-free (Test o i j k n) a b l ss ls is vs used h = refl
-back-free (Read v to) a b l ss ls is vs used h = refl
-back-free (Call q xs to) a b l ss ls is vs used h = refl
-back-free (Wait i to) a b l ss ls is vs used h = refl
-back-free (Signal i to) a b l ss ls is vs used h = refl
-back-free (Send q v to) a b l ss ls is vs used h = refl
-back-free (Recv q v to) a b l ss ls is vs used h = refl
-back-free (Assert v to) a b l ss ls is vs used h = refl
-back-free (Out v to) a b l ss ls is vs used h = refl
-back-free Return a b l ss ls is vs used h = absurd (omega arith)
-
--- what is logged is what the node shows
-
-shows-logged : (used to : ℕ) (o : Option ℤ) → let r = showsTo used to o in flagged o ≡ flagOf (r .how) ∷ word (bitsOf (r .how) (r .value))
-shows-logged used to none = refl
-shows-logged used to (some x) = refl
-
-pub logged-is : (x : Node) (a : ℕ) (l : List ℤ) (ss ls : List ℕ) (is : List (List ℤ)) (vs : List ℤ) (used : ℕ) → let r = actOf x a l ss ls is vs used in flagged (shown l x) ≡ flagOf (r .how) ∷ word (bitsOf (r .how) (r .value))
-unfolding actOf shown
-logged-is Absent a l ss ls is vs used = refl
-logged-is (Start to) a l ss ls is vs used = refl
-logged-is (Set v o i j to) a l ss ls is vs used = refl
-logged-is (Test o i j k n) a l ss ls is vs used = refl
-logged-is (Read v to) a l ss ls is vs used = go (leb (length vs) used)
+pub logged : (r : Acted) → flagOf (r .how) ∷ word (bitsOf (r .how) (r .value)) ≡ flagged (shownBy r)
+logged r = go (eqb (r .how) 4)
   where
-    go : (b : Bool) → let r = pick b (haltsAt 15 used) (goesTo v (getD vs used (pos 0)) (used + 1) to) in flagged none ≡ flagOf (r .how) ∷ word (bitsOf (r .how) (r .value))
+    go : (b : Bool) → pick b 1 0 ∷ word (pick b (ofZ w32 (r .value)) 0) ≡ flagged (pick b (some (r .value)) none)
     go true = refl
     go false = refl
-logged-is (Call q xs to) a l ss ls is vs used = refl
-logged-is (Wait i to) a l ss ls is vs used = refl
-logged-is (Signal i to) a l ss ls is vs used = refl
-logged-is (Send q v to) a l ss ls is vs used = refl
-logged-is (Recv q v to) a l ss ls is vs used = refl
-logged-is (Assert v to) a l ss ls is vs used = shows-logged used to (valueOf l v)
-logged-is (Out v to) a l ss ls is vs used = shows-logged used to (valueOf l v)
-logged-is Return a l ss ls is vs used = refl
 
--- a return shows nothing
-pub unshown : (x : Node) (l l′ : List ℤ) → (backOf x ≡ 0 → ⊥) → shown l x ≡ shown l′ x
-unfolding shown backOf
-unshown Absent l l′ h = refl
-unshown (Start to) l l′ h = refl
-unshown (Set v o i j to) l l′ h = refl
-unshown (Test o i j k n) l l′ h = refl
-unshown (Read v to) l l′ h = refl
-unshown (Call q xs to) l l′ h = refl
-unshown (Wait i to) l l′ h = refl
-unshown (Signal i to) l l′ h = refl
-unshown (Send q v to) l l′ h = refl
-unshown (Recv q v to) l l′ h = refl
-unshown (Assert v to) l l′ h = absurd (h refl)
-unshown (Out v to) l l′ h = absurd (h refl)
-unshown Return l l′ h = refl
+module _ (m : Memory) (ls : List ℕ) (is : List (List ℤ)) (vs : List ℤ) where
+  abbrev pub doesIn : Acted → Does
+  doesIn r = pick (eqb (r .stop) 0) (goes (r .arc) (storedIn m ls is r) (drop (r .used) vs) (shownBy r)) (stops (stopOf (r .stop)))
 
--- ---- a step that is no call
+  -- by what the code answers, a being the arc of the call that a return goes back to
+  pub data Executed (t : Table) (k : ℕ) (x : Node) (used a : ℕ) (r : Acted) : Type 0 where
+    stays : opensBy (act x) ≡ false → backOf x ≡ 0 → exec t k x m (drop used vs) ≡ doesIn r → Executed t k x used a r
+    enters : opensBy (act x) ≡ true → Executed t k x used a r
+    leaves : backOf x ≡ 1 → ((m′ : Memory) (ws : List ℤ) → exec t k x m′ ws ≡ closes) → r ≡ goesTo 255 (pos 0) used a → Executed t k x used a r
 
-abbrev pub closes : ℕ → State → ℕ → State
-closes zero s k = s
-closes (suc n) s k = returned s k
+  abbrev pub memoryOf : List ℤ → List ℕ → List Entries → Memory
+  memoryOf a b c = record { vars = a; sems = b; queues = c }
 
-unfoldable pub opens : Node → Bool
-opens Absent = false
-opens (Start to) = false
-opens (Set v o a b to) = false
-opens (Test o a b i j) = false
-opens (Read v to) = false
-opens (Call q xs to) = true
-opens (Wait i to) = false
-opens (Signal i to) = false
-opens (Send q v to) = false
-opens (Recv q v to) = false
-opens (Assert v to) = false
-opens (Out v to) = false
-opens Return = false
+  module _ (long : length (m .vars) ≡ 16) (queued : m .queues ≡ queuesOf ls is) (even : length ls ≡ length is) (used : ℕ) where
+    same-vars : (x : ℤ) → m .vars ≡ set (m .vars) 255 x
+    same-vars x = sym (set-out (m .vars) 255 x (omega arith))
 
-module _ (t : Table) (most : ℕ) (s : State) (k : ℕ) (vs : List ℤ) where
+    -- a node that leaves all but its variables
+    plain : (to v : ℕ) (x : ℤ) (u : ℕ) → goes to (assign v x m) (drop u vs) none ≡ goes to (memoryOf (set (m .vars) v x) (m .sems) (queuesOf ls is)) (drop u vs) none
+    plain to v x u = λ i. goes to (memoryOf (set (m .vars) v x) (m .sems) (queued i)) (drop u vs) none
+
+    none-set : (x : ℤ) → m ≡ memoryOf (set (m .vars) 255 x) (m .sems) (queuesOf ls is)
+    none-set x = λ i. memoryOf (same-vars x i) (m .sems) (queued i)
+
+    idle : (to : ℕ) → goes to m (drop used vs) none ≡ goes to (memoryOf (set (m .vars) 255 (pos 0)) (m .sems) (queuesOf ls is)) (drop used vs) none
+    idle to = λ i. goes to (none-set (pos 0) i) (drop used vs) none
+
+    entries-is : (q : ℕ) → entriesAt (m .queues) q ≡ record { len = getD ls q 0; items = getD is q [] }
+    entries-is q = ap (λ (l : List Entries). entriesAt l q) queued ∙ queue-at ls is q even
+
+    -- a queue changed
+    requeued : (f : Entries → Entries) (q : ℕ) → let e = f (record { len = getD ls q 0; items = getD is q [] }) in set (m .queues) q (f (entriesAt (m .queues) q)) ≡ queuesOf (set ls q (e .len)) (set is q (e .items))
+    requeued f q =
+        (λ i. set (queued i) q (f (entries-is q i))) ∙
+        sym (queue-set ls is q (f (record { len = getD ls q 0; items = getD is q [] }) .len) (f (record { len = getD ls q 0; items = getD is q [] }) .items))
+
+    shows : (to : ℕ) (o : Option ℤ) → goes to m (drop used vs) o ≡ doesIn (showsTo used to o)
+    shows to none = idle to
+    shows to (some x) = λ i. goes to (none-set x i) (drop used vs) (some x)
+
+    reads : (v to : ℕ) → readOf v to m (drop used vs) ≡ doesIn (readAt v to vs used)
+    reads v to = read-did vs used v to m ∙ go (leb (length vs) used)
+      where
+        go : (b : Bool) → didOf vs m (pick b (haltsAt 15 used) (goesTo v (getD vs used (pos 0)) (used + 1) to)) ≡ doesIn (pick b (haltsAt 15 used) (goesTo v (getD vs used (pos 0)) (used + 1) to))
+        go true = refl
+        go false = plain to v (getD vs used (pos 0)) (used + 1)
+
+    pub record Acts (t : Table) (k : ℕ) (x : Node) (a : ℕ) : Type 0 where
+      pub sane : Placed x → Sane vs used (actOf x a (m .vars) (m .sems) ls is vs used)
+      pub executed : Executed t k x used a (actOf x a (m .vars) (m .sems) ls is vs used)
+
+    pub acts : (t : Table) (k : ℕ) (x : Node) (a : ℕ) → Acts t k x a
+    unfolding exec actOf parts backBy opensBy
+    acts t k Absent a = record { sane = λ p. goes-sane vs used 255 (pos 0) 0; executed = stays refl refl (idle 0) }
+    acts t k (Start to) a = record { sane = λ p. goes-sane vs used 255 (pos 0) to; executed = stays refl refl (idle to) }
+    acts t k (Set v o b c to) a = record { sane = λ p. goes-sane vs used v _ to; executed = stays refl refl (plain to v _ used) }
+    acts t k (Test o b c y n) a = record { sane = λ p. goes-sane vs used 255 (pos 0) _; executed = stays refl refl (idle _) }
+    acts t k (Read v to) a = record { sane = λ p. read-sane vs used v to; executed = stays refl refl (reads v to) }
+    acts t k (Call q xs to) a = record { sane = λ p. goes-sane vs used 255 (pos 0) 0; executed = enters refl }
+    acts t k (Wait i to) a = record {
+      sane = λ p. does-sane vs used 255 (pos 0) to 3 i _ p;
+      executed = stays refl refl (λ j. goes to (memoryOf (same-vars (pos 0) j) (set (m .sems) i (semCount (m .sems) i - 1)) (queued j)) (drop used vs) none);
+    }
+    acts t k (Signal i to) a = record {
+      sane = λ p. does-sane vs used 255 (pos 0) to 3 i _ p;
+      executed = stays refl refl (λ j. goes to (memoryOf (same-vars (pos 0) j) (set (m .sems) i (semCount (m .sems) i + 1)) (queued j)) (drop used vs) none);
+    }
+    acts t k (Send q v to) a = record {
+      sane = λ p. does-sane vs used 255 _ to 1 q _ p;
+      executed = let x = varAt (m .vars) v in let e = requeued (appended x) q in stays refl refl (λ j. goes to (memoryOf (same-vars x j) (m .sems) (e j)) (drop used vs) none);
+    }
+    acts t k (Recv q v to) a = record {
+      sane = λ p. does-sane vs used v _ to 2 q _ p;
+      executed = let e = requeued shortened q in let x = ap oldest (entries-is q) in stays refl refl (λ j. goes to (memoryOf (set (m .vars) v (x j)) (m .sems) (e j)) (drop used vs) none);
+    }
+    acts t k (Assert v to) a = record { sane = λ p. shows-sane vs used to (valueOf (m .vars) v); executed = stays refl refl (shows to (valueOf (m .vars) v)) }
+    acts t k (Out v to) a = record { sane = λ p. shows-sane vs used to (valueOf (m .vars) v); executed = stays refl refl (shows to (valueOf (m .vars) v)) }
+    acts t k Return a = record { sane = λ p. goes-sane vs used 255 (pos 0) a; executed = leaves refl (λ n ws. refl) refl }
+
+-- ---- a step
+
+abbrev pub returnedBy : ℕ → State → ℕ → State
+returnedBy zero s k = s
+returnedBy (suc n) s k = returned s k
+
+module _ (t : Table) (most : ℕ) (s : State) (k : ℕ) (vs : List ℤ) (used : ℕ) where
   abbrev pub top : Frame
   top = topmost s k
 
-  abbrev flows : Node → Step
-  flows x = flowed t (keptIn t) most (entryOf k top x) s k top x vs (flow x)
+  abbrev does : Does → Step
+  does d = stepAs t (keptIn t) most s k top (drop used vs) d
 
-  step-flows : (x : Node) → x ≡ standsBefore t s k → stepOf t (keptIn t) most s k vs ≡ flows x
+  step-as : (x : Node) (d : Does) → x ≡ standsBefore t s k → exec t k x (memory s top) (drop used vs) ≡ d → stepOf t (keptIn t) most s k (drop used vs) ≡ does d
   unfolding stepOf
-  step-flows x e = sym (λ i. flows (e i))
+  step-as x d e h = ap (λ (y : Node). does (exec t k y (memory s top) (drop used vs))) (sym e) ∙ ap does h
 
   pub step-calls : (x : Node) (q : ℕ) (xs : Args) (to : ℕ) → x ≡ standsBefore t s k → x ≡ Call q xs to
-      → stepOf t (keptIn t) most s k vs ≡ stepped (entryOf k top x) [] (called s k (entering (top .vars) q xs)) vs
-  unfolding flow
-  step-calls x q xs to e c = step-flows x e ∙ rw c refl
+      → stepOf t (keptIn t) most s k (drop used vs) ≡ stepped (entryOf k top none) [] (called s k (entering (top .vars) q xs)) (drop used vs)
+  unfolding exec
+  step-calls x q xs to e c = step-as x (opens (entering (top .vars) q xs)) e (rw c refl)
 
-  abbrev pub goesOn : Node → ℕ → ℕ → Step
-  goesOn x back j = let g = frameAt s k j in
-      settled (entryOf k top x) (closes back s k) k j (g .proc) (onward (λ n m ws. walk t (keptIn t) (g .proc) most n m ws) (doing x (nodeAt t (g .proc) (g .node)) (memory s g) vs))
+  module _ (ls : List ℕ) (is : List (List ℤ)) where
+    -- the walk from the frame that goes on, by what the code answers
+    abbrev pub ways : Frame → Acted → Walk
+    ways g r = pick (eqb (r .stop) 0) (heading t k vs (g .proc) most (storedIn (memory s g) ls is r) (r .arc) (r .used)) (halts (stopOf (r .stop)))
 
-  stay : (x : Node) (j : ℕ) → j + 0 ≡ openFrames s k - 1 → goesOn x 0 (openFrames s k - 1) ≡ goesOn x 0 j
-  stay x j b = ap (λ (i : ℕ). goesOn x 0 i) (omega arith)
+    abbrev pub goesOn : ℕ → ℕ → Frame → Acted → Step
+    goesOn back j g r = settled (entryOf k top (shownBy r)) (returnedBy back s k) k j (g .proc) (ways g r)
 
-  flows-on : (x : Node) (j : ℕ) → opens x ≡ false → j + backOf x ≡ openFrames s k - 1 → flows x ≡ goesOn x (backOf x) j
-  unfolding flow doing backOf opens
-  flows-on Absent j o b = stay Absent j b
-  flows-on (Start to) j o b = stay (Start to) j b
-  flows-on (Set v c a d to) j o b = stay (Set v c a d to) j b
-  flows-on (Test c a d y n) j o b = stay (Test c a d y n) j b
-  flows-on (Read v to) j o b = stay (Read v to) j b
-  flows-on (Call q xs to) j o b = absurd (true-false o)
-  flows-on (Wait i to) j o b = stay (Wait i to) j b
-  flows-on (Signal i to) j o b = stay (Signal i to) j b
-  flows-on (Send q v to) j o b = stay (Send q v to) j b
-  flows-on (Recv q v to) j o b = stay (Recv q v to) j b
-  flows-on (Assert v to) j o b = stay (Assert v to) j b
-  flows-on (Out v to) j o b = stay (Out v to) j b
-  flows-on Return j o b = ap (λ (i : ℕ). goesOn Return 1 i) (let h : j + 1 ≡ openFrames s k - 1 = b in omega arith)
+    stays-on : (r : Acted) → does (doesIn (memory s top) ls is vs r) ≡ goesOn 0 (openFrames s k - 1) top r
+    stays-on r = go (eqb (r .stop) 0)
+      where
+        go : (b : Bool) → does (pick b (goes (r .arc) (storedIn (memory s top) ls is r) (drop (r .used) vs) (shownBy r)) (stops (stopOf (r .stop))))
+            ≡ settled (entryOf k top (shownBy r)) s k (openFrames s k - 1) (top .proc) (pick b (heading t k vs (top .proc) most (storedIn (memory s top) ls is r) (r .arc) (r .used)) (halts (stopOf (r .stop))))
+        go true = refl
+        go false = refl
 
-  pub step-goes : (x : Node) (j : ℕ) → x ≡ standsBefore t s k → opens x ≡ false → j + backOf x ≡ openFrames s k - 1 → stepOf t (keptIn t) most s k vs ≡ goesOn x (backOf x) j
-  step-goes x j e o b = step-flows x e ∙ flows-on x j o b
+    -- a node that opens no frame; frame j goes on
+    module _ (x : Node) (j : ℕ) (here : x ≡ standsBefore t s k) (still : opensBy (act x) ≡ false) (near : j + backOf x ≡ openFrames s k - 1)
+        (long : length (frameAt s k j .vars) ≡ 16) (queued : s .queues ≡ queuesOf ls is) (even : length ls ≡ length is) where
+      abbrev arcOf : Frame → ℕ
+      arcOf g = arcTo (nodeAt t (g .proc) (g .node))
+
+      abbrev answer : ℕ → Acted
+      answer i = let g = frameAt s k i in actOf x (arcOf g) (g .vars) (s .sems) ls is vs used
+
+      pub step-goes : stepOf t (keptIn t) most s k (drop used vs) ≡ goesOn (backOf x) j (frameAt s k j) (answer j)
+      step-goes = go (acts (memory s (frameAt s k j)) ls is vs long queued even used t k x (arcOf (frameAt s k j)) .executed)
+        where
+          go : Executed (memory s (frameAt s k j)) ls is vs t k x used (arcOf (frameAt s k j)) (answer j) → stepOf t (keptIn t) most s k (drop used vs) ≡ goesOn (backOf x) j (frameAt s k j) (answer j)
+          go (stays o b h) =
+              let e : j ≡ openFrames s k - 1 = omega (arith, b, near) in
+              step-as x (doesIn (memory s top) ls is vs (answer (openFrames s k - 1))) here
+              (subst (λ (i : ℕ). exec t k x (memory s (frameAt s k i)) (drop used vs) ≡ doesIn (memory s (frameAt s k i)) ls is vs (answer i)) e h) ∙
+              stays-on (answer (openFrames s k - 1)) ∙ sym (λ i. goesOn (b i) (e i) (frameAt s k (e i)) (answer (e i)))
+          go (enters o) = absurd (true-false (sym o ∙ still))
+          go (leaves b h a) =
+              let e : openFrames s k - 2 ≡ j = omega (arith, b, near) in
+              let g = frameAt s k j in
+              step-as x closes here (h (memory s top) (drop used vs)) ∙
+              (λ i. let g = frameAt s k (e i) in settled (entryOf k top none) (returned s k) k (e i) (g .proc) (heading t k vs (g .proc) most (memory s g) (arcOf g) used)) ∙
+              (λ i. settled (entryOf k top none) (returned s k) k j (g .proc) (heading t k vs (g .proc) most (none-set (memory s g) ls is vs long queued even used (pos 0) i) (arcOf g) used)) ∙
+              sym (λ i. goesOn (b i) j g (a i))
 
 -- ---- the state after it
 
+-- all that a step may change
+abbrev pub restored : State → List ℕ → List Bool → List Frame → List ℕ → List Entries → State
+restored s ds ls fs ss qs = withQueues (withSems (withFrames (withLost (withDepth s ds) ls) fs) ss) qs
+
 -- frame b in the topmost place, then fr in that of the frame that goes on
 abbrev pub storedAs : State → ℕ → ℕ → ℕ → ℕ → Frame → Frame → Bool → List ℕ → List Entries → State
-storedAs s k f g n b fr l ss qs = record {
-  depth = set (s .depth) k n;
-  lost = set (s .lost) k l;
-  frames = set (set (s .frames) f b) g fr;
-  sems = ss;
-  queues = qs;
-}
+storedAs s k f g n b fr l ss qs = restored s (set (s .depth) k n) (set (s .lost) k l) (set (set (s .frames) f b) g fr) ss qs
 
 module _ (s : State) (k f g j back p node : ℕ) (m : Memory) (at-top : f ≡ place k (openFrames s k - 1)) (at-next : g ≡ place k j) (nearer : j + back ≡ openFrames s k - 1) (here : isLost s k ≡ false) (top : Frame) (blank : (back ≡ 0 → ⊥) → top ≡ noFrame) where
   abbrev kept-depth : List ℕ
   kept-depth = set (s .depth) k (openFrames s k - back)
 
-  abbrev framed : ℕ → Frame
-  framed n = record { proc = p; node = n; vars = m .vars }
+  abbrev frame : ℕ → Frame
+  frame n = record { proc = p; node = n; vars = m .vars }
 
-  depth-is : (b : ℕ) → back ≡ b → b ≤ 1 → kept-depth ≡ closes b s k .depth
+  depth-is : (b : ℕ) → back ≡ b → b ≤ 1 → kept-depth ≡ returnedBy b s k .depth
   depth-is zero e h = let z : openFrames s k - back ≡ openFrames s k = omega arith in rw z (set-getD (s .depth) k 0)
   depth-is (suc zero) e h = rw e refl
   depth-is (suc (suc b)) e h = absurd (omega arith)
 
-  frames-is : (b n : ℕ) → back ≡ b → b ≤ 1 → set (set (s .frames) f top) g (framed n) ≡ set (closes b s k .frames) (place k j) (framed n)
+  frames-is : (b n : ℕ) → back ≡ b → b ≤ 1 → set (set (s .frames) f top) g (frame n) ≡ set (returnedBy b s k .frames) (place k j) (frame n)
   frames-is zero n e h =
       let z : g ≡ f = omega arith in
-      rw z (set-set (s .frames) f top (framed n) ∙ ap (λ (i : ℕ). set (s .frames) i (framed n)) (omega arith))
+      rw z (set-set (s .frames) f top (frame n) ∙ ap (λ (i : ℕ). set (s .frames) i (frame n)) (omega arith))
   frames-is (suc b) n e h = rw (at-top, at-next, blank (λ z. omega (arith, z, e))) refl
-
-  lost-kept : (b : ℕ) → s .lost ≡ closes b s k .lost
-  lost-kept zero = refl
-  lost-kept (suc b) = refl
 
   not-lost : set (s .lost) k false ≡ s .lost
   not-lost = ap (λ (x : Bool). set (s .lost) k x) (sym here) ∙ set-getD (s .lost) k false
 
+  abbrev laid : List ℕ → List Bool → List Frame → State
+  laid ds ls fs = restored s ds ls fs (m .sems) (m .queues)
+
+  landed-by : (b : ℕ) → back ≡ b → b ≤ 1 → (l : Bool) → pick l node 0 ≡ 0
+      → laid kept-depth (set (s .lost) k l) (set (set (s .frames) f top) g (frame node)) ≡ landed (returnedBy b s k) k j p (pick l none (some node)) m
+  landed-by zero e h true z = λ i. laid (depth-is 0 e h i) (set (s .lost) k true) ((ap (λ (n : ℕ). set (set (s .frames) f top) g (frame n)) z ∙ frames-is 0 0 e h) i)
+  landed-by zero e h false z = λ i. laid (depth-is 0 e h i) (not-lost i) (frames-is 0 node e h i)
+  landed-by (suc b) e h true z = λ i. laid (depth-is (suc b) e h i) (set (s .lost) k true) ((ap (λ (n : ℕ). set (set (s .frames) f top) g (frame n)) z ∙ frames-is (suc b) 0 e h) i)
+  landed-by (suc b) e h false z = λ i. laid (depth-is (suc b) e h i) (not-lost i) (frames-is (suc b) node e h i)
+
   pub landed-is : (l : Bool) → back ≤ 1 → pick l node 0 ≡ 0
-      → storedAs s k f g (openFrames s k - back) top (framed node) l (m .sems) (m .queues) ≡ landed (closes back s k) k j p (pick l none (some node)) m
-  landed-is true h z = λ i. record { depth = depth-is back refl h i; lost = set (lost-kept back i) k true; frames = (ap (λ (n : ℕ). set (set (s .frames) f top) g (framed n)) z ∙ frames-is back 0 refl h) i; sems = m .sems; queues = m .queues }
-  landed-is false h z = λ i. record { depth = depth-is back refl h i; lost = (not-lost ∙ lost-kept back) i; frames = frames-is back node refl h i; sems = m .sems; queues = m .queues }
+      → storedAs s k f g (openFrames s k - back) top (frame node) l (m .sems) (m .queues) ≡ landed (returnedBy back s k) k j p (pick l none (some node)) m
+  landed-is l h z = landed-by back refl h l z
 
 -- ---- a run of the rest of a schedule
 
@@ -317,21 +289,19 @@ module _ (t : Table) (most : ℕ) (vs : List ℤ) (n : ℕ) (s : State) (used : 
       (ap (λ (x : ℕ). record { steps = n; used = x; stop = c; state = s }) u ∙ sym (ap (λ (x : Ran). x .answer) e), sym (ap (λ (x : Ran). x .log) e))
 
   pub at-end : (ks : List ℕ) → length ks ≡ 0 → runs ks ≡ stopsAt 0
-  unfolding runFrom
-  at-end [] h = refl
+  at-end [] h = run-end t (keptIn t) most vs n s (drop used vs) log
   at-end (k ∷ ks) h = absurd (omega arith)
 
   abbrev turns : ℕ → Step
-  turns k = turn t (keptIn t) most k n s (drop used vs) log
+  turns k = turn t (keptIn t) most (length log) k n s (drop used vs)
 
   -- the run after the turn of its first task number
   abbrev pub after : List ℕ → Step → Ran
-  after ks r = afterStep t (keptIn t) most vs (λ n s′ r l. runFrom t (keptIn t) most vs ks n s′ r l) n s (drop used vs) log r
+  after ks r = afterStep t (keptIn t) most vs ks n s (drop used vs) log r
 
   pub runs-turn : (ks : List ℕ) (r : Step) → (length ks ≡ 0 → ⊥) → turns (getD ks 0 0) ≡ r → runs ks ≡ after (take (length ks - 1) (drop 1 ks)) r
-  unfolding runFrom
   runs-turn [] r h e = absurd (h refl)
-  runs-turn (k ∷ ks) r h e = rw (take-all (suc (length ks) - 1) ks (omega arith)) (ap (after ks) e)
+  runs-turn (k ∷ ks) r h e = rw (take-all (suc (length ks) - 1) ks (omega arith)) (run-next t (keptIn t) most vs k ks n s (drop used vs) log ∙ ap (after ks) e)
 
   module _ (k : ℕ) where
     pub turn-none : t .tasks ≤ k → turns k ≡ stopped noSuchTask
@@ -389,4 +359,6 @@ module _ (t : Table) (ks : List ℕ) (vs : List ℤ) (most : ℕ) (log : List �
 
   pub begun-goes : (b : Begun) (s : State) (rest : List ℤ) (r : Running) (l : List ℕ) → b ≡ begun s rest
       → r ≡ runFrom t (keptIn t) most vs ks 0 s rest log .answer → l ≡ runFrom t (keptIn t) most vs ks 0 s rest log .log → Answers r l (runBegun t ks vs most log b)
-  begun-goes b s rest r l e h k = rw e (h, k)
+  begun-goes b s rest r l e h k =
+      let z = sym (run-begun t ks vs most log s rest) in
+      rw e (h ∙ ap (λ (o : Ran). o .answer) z, k ∙ ap (λ (o : Ran). o .log) z)

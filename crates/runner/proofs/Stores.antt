@@ -13,7 +13,7 @@ use Rattle.table.specs.Mask.{pick}
 use Rattle.table.specs.declared.Table.{Table}
 use Rattle.machine.specs.declared.Frame.{Frame}
 use Rattle.machine.specs.declared.State.{State}
-use Rattle.machine.specs.State.{noVars, noFrame}
+use Rattle.machine.specs.State.{noVars, noFrame, withFrames, withQueues}
 use Rattle.steps.specs.Cut.{lensAfter, itemsAfter, shiftedOf}
 use Rattle.starts.specs.Begins.{frameIn, Good}
 use Rattle.starts.specs.GoodLaws.{FrameGood}
@@ -27,7 +27,7 @@ module _ {t : Table} {s : State} (good : Good t s) {ps ns : List ℕ} {vs : List
   pub state-of : stateOf (s .depth) (s .lost) ps ns vs (s .sems) ls is ≡ s
   state-of =
       (λ i. stateOf (s .depth) (s .lost) (a i) (b i) (c i) (s .sems) (d i) (e i)) ∙
-      (λ i. record { depth = s .depth; lost = s .lost; frames = frames-back (s .frames) i; sems = s .sems; queues = queues-back (s .queues) i })
+      (λ i. withQueues (withFrames s (frames-back (s .frames) i)) (queues-back (s .queues) i))
 
   pub shape-of : length ls ≡ 8 → length is ≡ 8 → Rows is → Shape ps ns vs ls is
   shape-of x y z = record {

@@ -8,107 +8,66 @@ use native.Mathlib.Omega.{arith}
 use native.Mathlib.Numerals.{add-one}
 use lib.ListN.{length, getD, set, take, drop}
 use lib.Seq.{sets, take-all}
-use lib.Dec.{eqb, leb, ltb}
-use lib.IntN.{ℤ, pos}
-use borrow.Author.Tests.{leb-false, lt-leb, lt-ltb, eqb-true, eqb-false, eq-eqb, ne-eqb}
+use lib.Dec.{leb, ltb}
+use lib.IntN.{ℤ}
+use borrow.Author.Tests.{leb-false, lt-leb, lt-ltb, eq-eqb, ne-eqb}
 use Rattle.table.specs.Mask.{pick}
-use Rattle.table.specs.Table.{noSlot, queueAt, nodeAt, arcTo}
+use Rattle.table.specs.Table.{noSlot, queueAt, nodeAt, arcTo, Act, alone, waits, signals, sends, receives, calls, returns, act, parts}
 use Rattle.table.specs.declared.Args.{Args}
 use Rattle.table.specs.declared.Node.{Node}
-use Rattle.table.specs.declared.Node.the-variants.{Absent, Start, Set, Test, Read, Call, Wait, Signal, Send, Recv, Assert, Out, Return}
+use Rattle.table.specs.declared.Node.the-variants.{Call}
 use Rattle.table.specs.declared.Slot.{Slot}
 use Rattle.table.specs.declared.Table.{Table}
 use Rattle.text.specs.Reader.{concatFrom}
 use Rattle.machine.specs.declared.Frame.{Frame}
 use Rattle.machine.specs.declared.State.{State}
-use Rattle.machine.specs.State.{noFrame, openFrames, isLost, place, topmost, standsBefore, withFrames, blockedAt, blocked}
-use Rattle.machine.specs.Step.{noSuchTask, logFull, taskLost, taskBlocked, stopNumber, Memory, valueOf, shown, Choice, Did, keptIn, Walk, along, onward, walk, Step, stopped, settled, called, entering, memory, entryOf}
-use Rattle.machine.specs.Run.{word, flagged, entryBytes, Ran, runFrom}
+use Rattle.machine.specs.State.{noFrame, openFrames, isLost, place, frameAt, topmost, standsBefore, withDepth, withFrames, blockedAt, blocked}
+use Rattle.machine.specs.Step.{noSuchTask, logFull, taskLost, taskBlocked, stopNumber, Memory, Choice, keptIn, Walk, along, walk, Entry, Step, stopped, entering, memory, entryOf}
+use Rattle.machine.specs.Run.{flagged, entryBytes, Ran}
+use Rattle.machine.specs.RunLaws.{runFrom}
 use Rattle.tosses.specs.Tosses.{halting}
-use Rattle.tosses.specs.TossLaws.{Named, Sound, Arrived}
-use Rattle.steps.specs.Cut.{Within, goesTo, haltsAt, showsTo, stuckOf, actOf, triedOf, passOf, backOf, flagOf, bitsOf, underOf}
+use Rattle.tosses.specs.TossLaws.{Sound, Arrived}
+use Rattle.steps.specs.Cut.{ActWithin, haltsAt, stuckBy, stuckOf, actOf, triedOf, passOf, backBy, backOf, underOf}
 use Rattle.steps.specs.declared.Acted.{Acted}
 use Rattle.tosses.specs.declared.Chosen.{Chosen}
 use Rattle.columns.specs.Columns.{queuesOf}
-use Rattle.starts.specs.Ready.{Placed, Ready}
+use Rattle.starts.specs.Ready.{ActPlaced, Placed, Ready}
 use Rattle.starts.specs.Begins.{frameIn, Good}
 use Rattle.starts.specs.RowLaws.{Row}
 use Rattle.starts.specs.GoodLaws.{FrameGood, good-frame, good-depth}
-use Rattle.runner.proofs.Walks.{Met, halted, met, metOf, withVars, walking, heading, walk-over, walk-spent, walk-halts, walk-goes, act-named, named-stop}
-use Rattle.runner.proofs.Runs.{stuck-is, doing, storedIn, didIn, doing-is, back-free, logged-is, unshown, closes, opens, step-calls, goesOn, step-goes, storedAs, landed-is, runs, stopsAt, after, runs-turn, turn-none, turn-full, turn-lost, turn-blocked, turn-goes, after-halted, after-arrived}
+use Rattle.runner.proofs.Walks.{Met, halted, met, metOf, withVars, Sane, walking, heading, walk-over, walk-spent, walk-halts, walk-goes, pass-sane, named-stop}
+use Rattle.runner.proofs.Runs.{stuck-is, opensBy, storedIn, shownBy, acts, returnedBy, step-calls, ways, goesOn, step-goes, storedAs, landed-is, runs, stopsAt, after, runs-turn, turn-none, turn-full, turn-lost, turn-blocked, turn-goes, after-halted, after-arrived}
 
 -- ---- the small numbers that go with a node
 
-pub back-few : (x : Node) → backOf x ≤ 1
-unfolding backOf
-back-few Absent = omega arith
-back-few (Start to) = omega arith
-back-few (Set v o a b to) = omega arith
-back-few (Test o a b y n) = omega arith
-back-few (Read v to) = omega arith
-back-few (Call q xs to) = omega arith
-back-few (Wait i to) = omega arith
-back-few (Signal i to) = omega arith
-back-few (Send q v to) = omega arith
-back-few (Recv q v to) = omega arith
-back-few (Assert v to) = omega arith
-back-few (Out v to) = omega arith
-back-few Return = omega arith
+pub back-few : (a : Act) → backBy a ≤ 1
+unfolding backBy
+back-few alone = omega arith
+back-few (waits i) = omega arith
+back-few (signals i) = omega arith
+back-few (sends q v) = omega arith
+back-few (receives q v) = omega arith
+back-few (calls q xs) = omega arith
+back-few returns = omega arith
 
-pub back-below : (x : Node) (d : ℕ) (ss ls cs : List ℕ) → stuckOf x d ss ls cs ≡ false → backOf x ≤ d - 1
-unfolding backOf stuckOf
-back-below Absent d ss ls cs f = omega arith
-back-below (Start to) d ss ls cs f = omega arith
-back-below (Set v o a b to) d ss ls cs f = omega arith
-back-below (Test o a b y n) d ss ls cs f = omega arith
-back-below (Read v to) d ss ls cs f = omega arith
-back-below (Call q xs to) d ss ls cs f = omega arith
-back-below (Wait i to) d ss ls cs f = omega arith
-back-below (Signal i to) d ss ls cs f = omega arith
-back-below (Send q v to) d ss ls cs f = omega arith
-back-below (Recv q v to) d ss ls cs f = omega arith
-back-below (Assert v to) d ss ls cs f = omega arith
-back-below (Out v to) d ss ls cs f = omega arith
-back-below Return d ss ls cs f = omega (arith, leb-false d 1 f)
+pub back-below : (a : Act) (d : ℕ) (ss ls cs : List ℕ) → stuckBy a d ss ls cs ≡ false → backBy a ≤ d - 1
+unfolding backBy stuckBy
+back-below alone d ss ls cs f = omega arith
+back-below (waits i) d ss ls cs f = omega arith
+back-below (signals i) d ss ls cs f = omega arith
+back-below (sends q v) d ss ls cs f = omega arith
+back-below (receives q v) d ss ls cs f = omega arith
+back-below (calls q xs) d ss ls cs f = omega arith
+back-below returns d ss ls cs f = omega (arith, leb-false d 1 f)
 
-pub within : (x : Node) → Placed x → Within x
-within Absent h = tt
-within (Start to) h = tt
-within (Set v o a b to) h = tt
-within (Test o a b y n) h = tt
-within (Read v to) h = tt
-within (Call q xs to) h = tt
-within (Wait i to) h = h
-within (Signal i to) h = h
-within (Send q v to) h = h
-within (Recv q v to) h = h
-within (Assert v to) h = tt
-within (Out v to) h = tt
-within Return h = tt
-
-shows-at : (used to : ℕ) (o : Option ℤ) → showsTo used to o .at < 8
-shows-at used to none = omega arith
-shows-at used to (some x) = omega arith
-
-pub at-below : (x : Node) (back : ℕ) (l : List ℤ) (ss ls : List ℕ) (is : List (List ℤ)) (vs : List ℤ) (used : ℕ) → Placed x → actOf x back l ss ls is vs used .at < 8
-unfolding actOf
-at-below Absent back l ss ls is vs used h = omega arith
-at-below (Start to) back l ss ls is vs used h = omega arith
-at-below (Set v o a b to) back l ss ls is vs used h = omega arith
-at-below (Test o a b y n) back l ss ls is vs used h = omega arith
-at-below (Read v to) back l ss ls is vs used h = go (leb (length vs) used)
-  where
-    go : (b : Bool) → (pick b (haltsAt 15 used) (goesTo v (getD vs used (pos 0)) (used + 1) to)) .at < 8
-    go true = omega arith
-    go false = omega arith
-at-below (Call q xs to) back l ss ls is vs used h = omega arith
-at-below (Wait i to) back l ss ls is vs used h = h
-at-below (Signal i to) back l ss ls is vs used h = h
-at-below (Send q v to) back l ss ls is vs used h = h
-at-below (Recv q v to) back l ss ls is vs used h = h
-at-below (Assert v to) back l ss ls is vs used h = shows-at used to (valueOf l v)
-at-below (Out v to) back l ss ls is vs used h = shows-at used to (valueOf l v)
-at-below Return back l ss ls is vs used h = omega arith
+pub within : (a : Act) → ActPlaced a → ActWithin a
+within alone h = tt
+within (waits i) h = h
+within (signals i) h = h
+within (sends q v) h = h
+within (receives q v) h = h
+within (calls q xs) h = tt
+within returns h = tt
 
 pub under-le : (f b d : ℕ) → underOf f b d ≤ f
 under-le f b d = go (ltb b d)
@@ -124,42 +83,46 @@ pub rest-less : (l : List ℕ) → (length l ≡ 0 → ⊥) → length (take (le
 rest-less [] h = absurd (h refl)
 rest-less (k ∷ ks) h = rw (take-all (suc (length ks) - 1) ks (omega arith)) (omega arith)
 
-pub call-below : (q : ℕ) (xs : Args) (to d : ℕ) (ss ls cs : List ℕ) → stuckOf (Call q xs to) d ss ls cs ≡ false → d < 8
-unfolding stuckOf
+call-below : (q : ℕ) (xs : Args) (to d : ℕ) (ss ls cs : List ℕ) → stuckOf (Call q xs to) d ss ls cs ≡ false → d < 8
+unfolding stuckBy parts
 call-below q xs to d ss ls cs f = leb-false 8 d f
 
 module _ (t : Table) (keep : List ℕ) (ready : Ready t keep) (most : ℕ) (vs : List ℤ) where
   -- ---- where the walk over dropped nodes ends, from an arc on
 
-  pub record Ends (p d : ℕ) (l : List ℤ) (arc us : ℕ) (z : Chosen) : Type 0 where
-    pub is : (mm : Memory) → met (heading t vs p d (withVars mm l) arc us) ≡ metOf vs (withVars mm l) z
+  -- of task i
+  pub record Ends (i p d : ℕ) (l : List ℤ) (arc us : ℕ) (z : Chosen) : Type 0 where
+    pub is : (mm : Memory) → met (heading t i vs p d (withVars mm l) arc us) ≡ metOf vs (withVars mm l) z
     pub within : z .used ≤ length vs
     pub place : z .node < 32
     pub gone : pick (z .lost) (z .node) 0 ≡ 0
 
-  module _ (p d : ℕ) (inside : p < 8) (l : List ℤ) (long : length l ≡ 16) (arc us : ℕ) (w : Chosen) (arrives : Arrived arc (getD keep p 0) vs us w) where
+  module _ (i p d : ℕ) (inside : p < 8) (l : List ℤ) (long : length l ≡ 16) (arc us : ℕ) (w : Chosen) (arrives : Arrived arc (getD keep p 0) vs us w) where
     abbrev sound : Sound (getD keep p 0) vs w
     sound = arrives .sound
 
-    heads : (mm : Memory) (r : Met) → met (walking t vs p d (withVars mm l) w) ≡ r → met (heading t vs p d (withVars mm l) arc us) ≡ r
-    heads mm r e = ap (λ (c : Choice). met (along (λ n m ws. walk t (keptIn t) p d n m ws) (withVars mm l) c)) (arrives .choice) ∙ e
+    heads : (mm : Memory) (r : Met) → met (walking t i vs p d (withVars mm l) w) ≡ r → met (heading t i vs p d (withVars mm l) arc us) ≡ r
+    heads mm r e = ap (λ (c : Choice). met (along (λ n m ws. walk t (keptIn t) i p d n m ws) (withVars mm l) c)) (arrives .choice) ∙ e
 
-    pub ends-over : (z : Chosen) → w .over ≡ true → z ≡ w → Ends p d l arc us z
-    ends-over z o e = rw e (record { is = λ mm. heads mm _ (walk-over t keep ready vs p inside d (withVars mm l) w sound o); within = sound .within; place = sound .place; gone = sound .gone })
+    pub ends-over : (z : Chosen) → w .over ≡ true → z ≡ w → Ends i p d l arc us z
+    ends-over z o e = rw e (record { is = λ mm. heads mm _ (walk-over t keep ready i vs p inside d (withVars mm l) w sound o); within = sound .within; place = sound .place; gone = sound .gone })
 
-    ends-at : (c : ℕ) → ((mm : Memory) → met (walking t vs p d (withVars mm l) w) ≡ metOf vs (withVars mm l) (halting c (w .used))) → Ends p d l arc us (halting c (w .used))
+    ends-at : (c : ℕ) → ((mm : Memory) → met (walking t i vs p d (withVars mm l) w) ≡ metOf vs (withVars mm l) (halting c (w .used))) → Ends i p d l arc us (halting c (w .used))
     ends-at c h = record { is = λ mm. heads mm _ (h mm); within = sound .within; place = omega arith; gone = refl }
 
-    pub ends-spent : (z r : Chosen) → w .over ≡ false → d ≡ 0 → r ≡ halting 14 (w .used) → z ≡ r → Ends p d l arc us z
-    ends-spent z r o e h i = rw (i, h) (ends-at 14 (λ mm. walk-spent t keep ready vs p inside d (withVars mm l) w sound o e))
+    pub ends-spent : (z r : Chosen) → w .over ≡ false → d ≡ 0 → r ≡ halting 14 (w .used) → z ≡ r → Ends i p d l arc us z
+    ends-spent z r o e h y = rw (y, h) (ends-at 14 (λ mm. walk-spent t keep ready i vs p inside d (withVars mm l) w sound o e))
 
-    pub ends-halts : (z r : Chosen) (a : Acted) → w .over ≡ false → (d ≡ 0 → ⊥) → a ≡ passOf (nodeAt t p (w .node)) l vs (w .used) → (a .stop ≡ 0 → ⊥) → r ≡ halting (a .stop) (w .used) → z ≡ r → Ends p d l arc us z
-    ends-halts z r a o e k n h i = rw (i, h) (ends-at (a .stop) (λ mm. walk-halts t keep ready vs p inside d (withVars mm l) w a sound o e long k n))
+    pub ends-halts : (z r : Chosen) (a : Acted) → w .over ≡ false → (d ≡ 0 → ⊥) → a ≡ passOf (nodeAt t p (w .node)) l vs (w .used) → (a .stop ≡ 0 → ⊥) → r ≡ halting (a .stop) (w .used) → z ≡ r → Ends i p d l arc us z
+    ends-halts z r a o e k n h y = rw (y, h) (ends-at (a .stop) (λ mm. walk-halts t keep ready i vs p inside d (withVars mm l) w a sound o e long k n))
 
     -- a dropped node is executed, and the walk goes on
+    pub goes-within : (a : Acted) → w .over ≡ false → a ≡ passOf (nodeAt t p (w .node)) l vs (w .used) → a .used ≤ length vs
+    goes-within a o k = pass-sane t keep ready i vs p inside (record { vars = l; sems = []; queues = [] }) w a sound o k .within (sound .within)
+
     pub goes-on : (a : Acted) → w .over ≡ false → (d ≡ 0 → ⊥) → a ≡ passOf (nodeAt t p (w .node)) l vs (w .used) → a .stop ≡ 0
-        → (mm : Memory) → met (heading t vs p d (withVars mm l) arc us) ≡ met (heading t vs p (d - 1) (withVars mm (set l (a .var) (a .value))) (a .arc) (a .used))
-    goes-on a o e k n mm = heads mm _ (walk-goes t keep ready vs p inside d (withVars mm l) w a sound o e long k n)
+        → (mm : Memory) → met (heading t i vs p d (withVars mm l) arc us) ≡ met (heading t i vs p (d - 1) (withVars mm (set l (a .var) (a .value))) (a .arc) (a .used))
+    goes-on a o e k n mm = heads mm _ (walk-goes t keep ready i vs p inside d (withVars mm l) w a sound o e long k n)
 
   -- ---- a turn, by the first task number
 
@@ -218,22 +181,18 @@ module _ (t : Table) (keep : List ℕ) (ready : Ready t keep) (most : ℕ) (vs :
       placed = rw (st .node) (ready .nodes _ _ (st .good .procs _) (st .good .nodes _))
 
       blocks-is : blocked t s k ≡ blocks
-      blocks-is = ap (blockedAt t s k) (sym (st .node)) ∙ stuck-is t s k ls is cs (st .queued) (st .even) (st .caps) x (within x placed)
+      blocks-is = ap (λ (y : Node). blockedAt t s k (act y)) (sym (st .node)) ∙ stuck-is t s k ls is cs (st .queued) (st .even) (st .caps) (act x) placed
 
       pub stop-blocked : blocks ≡ true → going ≡ ending 13
       unfolding stopNumber
       stop-blocked b = runs-turn t most vs n s used log ks (stopped taskBlocked) (st .some) (turn-blocked t most vs n s used log k (st .task) (let h = st .room in omega arith) (st .here) (blocks-is ∙ b))
 
       call-blocks : (q : ℕ) (xs : Args) (to : ℕ) → x ≡ Call q xs to → blocks ≡ leb 8 d
-      unfolding stuckOf
+      unfolding stuckBy parts
       call-blocks q xs to e = rw e refl
 
       pub call-free : (q : ℕ) (xs : Args) (to : ℕ) → x ≡ Call q xs to → d < 8 → blocks ≡ false
       call-free q xs to e h = call-blocks q xs to e ∙ lt-leb 8 d h
-
-      pub call-shows : (q : ℕ) (xs : Args) (to : ℕ) → x ≡ Call q xs to → flagged (shown (frameIn (s .frames) f .vars) x) ≡ 0 ∷ word 0
-      unfolding shown
-      call-shows q xs to e = rw e refl
 
       abbrev top : Frame
       top = frameIn (s .frames) f
@@ -243,15 +202,23 @@ module _ (t : Table) (keep : List ℕ) (ready : Ready t keep) (most : ℕ) (vs :
           let l : backOf x < d = omega (arith, b, st .good .opened k (st .task)) in
           rw (lt-ltb (backOf x) d l) (omega (arith, b))
 
-      -- ---- the node tried, in the frame at place g; back is the call's arc where it matters
+      -- ---- what the node answers in the frame at place g, which has its call's arc
 
-      module _ (g back : ℕ) (o : Acted) (backs : (backOf x ≡ 0 → ⊥) → back ≡ arcTo (nodeAt t (frameIn (s .frames) g .proc) (frameIn (s .frames) g .node)))
-          (tries : o ≡ triedOf x back (frameIn (s .frames) g .vars) d (s .sems) ls cs is vs used) where
-        abbrev vars : List ℤ
-        vars = frameIn (s .frames) g .vars
+      abbrev answerAt : ℕ → Acted
+      answerAt g = let fr = frameIn (s .frames) g in actOf x (arcTo (nodeAt t (fr .proc) (fr .node))) (fr .vars) (s .sems) ls is vs used
 
-        pub halts-blocked : blocks ≡ true → o .stop ≡ 13
-        halts-blocked b = ap (λ (r : Acted). r .stop) tries ∙ ap (λ (b : Bool). (pick b (haltsAt 13 used) (actOf x back vars (s .sems) ls is vs used)) .stop) b
+      answer-sane : (g : ℕ) → length (frameIn (s .frames) g .vars) ≡ 16 → Sane vs used (answerAt g)
+      answer-sane g long = let fr = frameIn (s .frames) g in acts (memory s fr) ls is vs long (st .queued) (st .even) used t k x (arcTo (nodeAt t (fr .proc) (fr .node))) .sane placed
+
+      -- tried
+
+      module _ (g : ℕ) (o : Acted)
+          (tries : o ≡ triedOf x (arcTo (nodeAt t (frameIn (s .frames) g .proc) (frameIn (s .frames) g .node))) (frameIn (s .frames) g .vars) d (s .sems) ls cs is vs used) where
+        abbrev answer : Acted
+        answer = answerAt g
+
+        halts-blocked : blocks ≡ true → o .stop ≡ 13
+        halts-blocked b = ap (λ (r : Acted). r .stop) tries ∙ ap (λ (b : Bool). (pick b (haltsAt 13 used) answer) .stop) b
 
         pub freed : o .stop ≡ 0 → blocks ≡ false
         freed h = go blocks refl
@@ -268,78 +235,60 @@ module _ (t : Table) (keep : List ℕ) (ready : Ready t keep) (most : ℕ) (vs :
             go true e = stop-blocked e ∙ ap ending (sym (halts-blocked e))
             go false e = h e
 
-        abbrev actAs : ℕ → Acted
-        actAs a = actOf x a vars (s .sems) ls is vs used
+        pub acted : blocks ≡ false → o ≡ answer
+        acted b = tries ∙ ap (λ (b : Bool). pick b (haltsAt 13 used) answer) b
 
-        abbrev call : ℕ
-        call = arcTo (nodeAt t (frameIn (s .frames) g .proc) (frameIn (s .frames) g .node))
-
-        same-back : actAs back ≡ actAs call
-        same-back = go (eqb (backOf x) 0) refl
+        pub tried-within : length (frameIn (s .frames) g .vars) ≡ 16 → used ≤ length vs → o .used ≤ length vs
+        tried-within long w = rw tries (go blocks)
           where
-            go : (b : Bool) → eqb (backOf x) 0 ≡ b → actAs back ≡ actAs call
-            go true e = back-free x _ _ vars (s .sems) ls is vs used (eqb-true (backOf x) 0 e)
-            go false e = ap actAs (backs (eqb-false (backOf x) 0 e))
-
-        pub acted : blocks ≡ false → o ≡ actAs call
-        acted b = tries ∙ ap (λ (b : Bool). pick b (haltsAt 13 used) (actAs back)) b ∙ same-back
-
-        pub logs : blocks ≡ false → g ≡ underOf f (backOf x) d → flagged (shown (top .vars) x) ≡ flagOf (o .how) ∷ word (bitsOf (o .how) (o .value))
-        logs b e = ap flagged (sym (go (eqb (backOf x) 0) refl)) ∙ logged-is x call vars (s .sems) ls is vs used ∙ ap (λ (r : Acted). flagOf (r .how) ∷ word (bitsOf (r .how) (r .value))) (sym (acted b))
-          where
-            go : (b : Bool) → eqb (backOf x) 0 ≡ b → shown vars x ≡ shown (top .vars) x
-            go true h =
-                let z = eqb-true (backOf x) 0 h in
-                let i : g ≡ f = e ∙ sym (stays-here z) in
-                ap (λ (i : ℕ). shown (frameIn (s .frames) i .vars) x) i
-            go false h = unshown x vars (top .vars) (eqb-false (backOf x) 0 h)
+            go : (b : Bool) → (pick b (haltsAt 13 used) answer) .used ≤ length vs
+            go true = w
+            go false = answer-sane g long .within w
 
       top-is : top ≡ topmost s k
       top-is = ap (λ (i : ℕ). frameIn (s .frames) i) (st .at)
 
-      module _ (free : blocks ≡ false) (log′ tail : List ℕ) (shows : flagged (shown (top .vars) x) ≡ tail) (puts : log′ ≡ sets log (8 * n) (k ∷ top .proc ∷ top .node ∷ tail)) where
+      abbrev Puts : List ℕ → Option ℤ → Type 0
+      Puts log′ z = log′ ≡ sets log (8 * n) (k ∷ top .proc ∷ top .node ∷ flagged z)
+
+      log-is : (log′ : List ℕ) (z : Option ℤ) → Puts log′ z → log′ ≡ sets log (8 * n) (entryBytes (entryOf k (topmost s k) z))
+      log-is log′ z puts = puts ∙ ap (λ (g : Frame). sets log (8 * n) (k ∷ g .proc ∷ g .node ∷ flagged z)) top-is
+
+      abbrev next : List ℕ → State → ℕ → Ran
+      next log′ s′ u = runFrom t (keptIn t) most vs rest (n + 1) s′ (drop u vs) log′
+
+      module _ (free : blocks ≡ false) where
         abbrev room′ : 8 * n + 8 ≤ length log
         room′ = let h = st .room in omega arith
 
-        log-is : log′ ≡ sets log (8 * n) (entryBytes (entryOf k (topmost s k) x))
-        log-is =
-            puts ∙ ap (λ (l : List ℕ). sets log (8 * n) (k ∷ top .proc ∷ top .node ∷ l)) (sym shows) ∙
-            ap (λ (g : Frame). sets log (8 * n) (k ∷ g .proc ∷ g .node ∷ flagged (shown (g .vars) x))) top-is
-
-        abbrev next : State → ℕ → Ran
-        next s′ u = runFrom t (keptIn t) most vs rest (n + 1) s′ (drop u vs) log′
-
         -- a call
-        module _ (q : ℕ) (xs : Args) (to : ℕ) (calls : x ≡ Call q xs to) (fr : Frame) (enters : fr ≡ entering (top .vars) q xs) where
+        module _ (q : ℕ) (xs : Args) (to : ℕ) (calling : x ≡ Call q xs to) (fr : Frame) (enters : fr ≡ entering (top .vars) q xs) where
           abbrev pub opened : State
-          opened = record { depth = set (s .depth) k (d + 1); lost = s .lost; frames = set (s .frames) (f + 1) fr; sems = s .sems; queues = s .queues }
+          opened = withFrames (withDepth s (set (s .depth) k (d + 1))) (set (s .frames) (f + 1) fr)
 
-          opened-is : next opened used ≡ runFrom t (keptIn t) most vs rest (suc n) (called s k (entering (topmost s k .vars) q xs)) (drop used vs) (sets log (8 * n) (entryBytes (entryOf k (topmost s k) x)))
-          opened-is =
+          pub turn-calls : (log′ : List ℕ) → Puts log′ none → going ≡ next log′ opened used
+          turn-calls log′ puts =
               let a : f + 1 ≡ place k d = omega (arith, st .at, st .good .opened k (st .task)) in
               let b : fr ≡ entering (topmost s k .vars) q xs = enters ∙ ap (λ (g : Frame). entering (g .vars) q xs) top-is in
-              λ i. runFrom t (keptIn t) most vs rest (add-one n i) (record { depth = set (s .depth) k (d + 1); lost = s .lost; frames = set (s .frames) (a i) (b i); sems = s .sems; queues = s .queues }) (drop used vs) (log-is i)
-
-          pub turn-calls : going ≡ next opened used
-          turn-calls =
+              let e = log-is log′ none puts in
               runs-turn t most vs n s used log ks _ (st .some)
-              (turn-goes t most vs n s used log k (st .task) room′ (st .here) (blocks-is ∙ free) ∙ step-calls t most s k (drop used vs) x q xs to (st .node) calls) ∙
-              sym opened-is
+              (turn-goes t most vs n s used log k (st .task) room′ (st .here) (blocks-is ∙ free) ∙ step-calls t most s k vs used x q xs to (st .node) calling) ∙
+              sym (λ i. runFrom t (keptIn t) most vs rest (add-one n i) (withFrames (withDepth s (set (s .depth) k (d + 1))) (set (s .frames) (a i) (b i))) (drop used vs) (e i))
 
           frame-good : FrameGood fr
-          unfolding concatFrom
+          unfolding concatFrom parts
           frame-good =
-              let h : Placed (Call q xs to) = rw calls at placed in
+              let h : Placed (Call q xs to) = rw calling at placed in
               rw enters (record { proc = h .0; node = omega arith; vars = refl })
 
           pub opened-good : Good t opened
           opened-good =
-              let b : d < 8 = call-below q xs to d (s .sems) ls cs (rw calls at free) in
+              let b : d < 8 = call-below q xs to d (s .sems) ls cs (rw calling at free) in
               good-depth opened k (d + 1) (good-frame (withFrames s (set (s .frames) (f + 1) fr)) (f + 1) fr (st .good) frame-good refl refl) (omega arith) (omega arith) refl refl
 
         -- any other node, executed in the frame at place g
-        module _ (stays : opens x ≡ false) (g : ℕ) (at-next : g ≡ underOf f (backOf x) d) (o : Acted)
-            (acts : o ≡ actOf x (arcTo (nodeAt t (frameIn (s .frames) g .proc) (frameIn (s .frames) g .node))) (frameIn (s .frames) g .vars) (s .sems) ls is vs used) where
+        module _ (still : opensBy (act x) ≡ false) (g : ℕ) (at-next : g ≡ underOf f (backOf x) d) (o : Acted)
+            (answers : o ≡ actOf x (arcTo (nodeAt t (frameIn (s .frames) g .proc) (frameIn (s .frames) g .node))) (frameIn (s .frames) g .vars) (s .sems) ls is vs used) where
           abbrev fr : Frame
           fr = frameIn (s .frames) g
 
@@ -349,59 +298,62 @@ module _ (t : Table) (keep : List ℕ) (ready : Ready t keep) (most : ℕ) (vs :
           abbrev j : ℕ
           j = d - 1 - backOf x
 
-          pub back-le : backOf x ≤ d - 1
-          back-le = back-below x d (s .sems) ls cs free
+          back-le : backOf x ≤ d - 1
+          back-le = back-below (act x) d (s .sems) ls cs free
 
-          pub near : j + backOf x ≡ d - 1
+          near : j + backOf x ≡ d - 1
           near = omega (arith, back-le)
 
-          pub at-j : g ≡ place k j
+          at-j : g ≡ place k j
           at-j =
               let l : backOf x < d = omega (arith, back-le, st .good .opened k (st .task)) in
               let e : g ≡ f - backOf x = at-next ∙ rw (lt-ltb (backOf x) d l) refl in
               omega (arith, back-le, st .at, e)
 
-          pub low : g < 32
+          low : g < 32
           low = omega (arith, at-j, st .task, ready .tasks, st .good .bounded k (st .task), st .good .opened k (st .task))
 
           long : length (fr .vars) ≡ 16
           long = st .good .vars g low
 
-          abbrev ways : Did → Walk
-          ways r = onward (λ n m ws. walk t (keptIn t) p most n m ws) r
+          pub sane : Sane vs used o
+          sane = rw answers (answer-sane g long)
 
-          abbrev told : Did → Step
-          told r = settled (entryOf k (topmost s k) x) (closes (backOf x) s k) k j p (ways r)
+          abbrev way : Walk
+          way = ways t most s k vs used ls is fr o
 
-          goes-is : goesOn t most s k (drop used vs) x (backOf x) j ≡ told (didIn vs (memory s fr) ls is o)
-          goes-is =
-              (λ i. let h = frameIn (s .frames) (sym at-j i) in
-              settled (entryOf k (topmost s k) x) (closes (backOf x) s k) k j (h .proc) (onward (λ n m ws. walk t (keptIn t) (h .proc) most n m ws) (doing x (nodeAt t (h .proc) (h .node)) (memory s h) (drop used vs)))) ∙
-              ap told (doing-is (memory s fr) long ls is (st .queued) (st .even) vs used x (nodeAt t p (fr .node)) ∙ ap (didIn vs (memory s fr) ls is) (sym acts))
+          abbrev entry : Entry
+          entry = entryOf k (topmost s k) (shownBy o)
 
-          kept-is : going ≡ after t most vs n s used log rest (told (didIn vs (memory s fr) ls is o))
+          abbrev told : Step
+          told = goesOn t most s k vs used ls is (backOf x) j fr o
+
+          kept-is : going ≡ after t most vs n s used log rest told
           kept-is =
+              let e : frameAt s k j ≡ fr = ap (λ (i : ℕ). frameIn (s .frames) i) (sym at-j) in
+              let long-j : length (frameAt s k j .vars) ≡ 16 = ap (λ (h : Frame). length (h .vars)) e ∙ long in
               runs-turn t most vs n s used log ks _ (st .some)
               (turn-goes t most vs n s used log k (st .task) room′ (st .here) (blocks-is ∙ free) ∙
-              step-goes t most s k (drop used vs) x j (st .node) stays near ∙ goes-is)
+              step-goes t most s k vs used ls is x j (st .node) still near long-j (st .queued) (st .even) ∙
+              (λ i. goesOn t most s k vs used ls is (backOf x) j (e i) (actOf x (arcTo (nodeAt t (e i .proc) (e i .node))) (e i .vars) (s .sems) ls is vs used)) ∙
+              ap (goesOn t most s k vs used ls is (backOf x) j fr) (sym answers))
 
           pub stop-acting : (o .stop ≡ 0 → ⊥) → going ≡ ending (o .stop)
           stop-acting h =
-              let i : Named (o .stop) = rw acts (act-named x _ (fr .vars) (s .sems) ls is vs used) in
-              kept-is ∙ after-halted t most vs n s used log rest (entryOf k (topmost s k) x) (closes (backOf x) s k) k j p (ways (didIn vs (memory s fr) ls is o)) (o .stop) (rw (ne-eqb (o .stop) 0 h) (ap halted (named-stop (o .stop) i h)))
+              kept-is ∙ after-halted t most vs n s used log rest entry (returnedBy (backOf x) s k) k j p way (o .stop) (rw (ne-eqb (o .stop) 0 h) (ap halted (named-stop (o .stop) (sane .named) h)))
 
           module _ (on : o .stop ≡ 0) (l₀ : List ℤ) (sets-var : l₀ ≡ set (fr .vars) (o .var) (o .value))
-              (z : Chosen) (l : List ℤ) (ends : (mm : Memory) → met (heading t vs p most (withVars mm l₀) (o .arc) (o .used)) ≡ metOf vs (withVars mm l) z) where
+              (z : Chosen) (l : List ℤ) (ends : (mm : Memory) → met (heading t k vs p most (withVars mm l₀) (o .arc) (o .used)) ≡ metOf vs (withVars mm l) z) where
             abbrev mem : Memory
             mem = storedIn (memory s fr) ls is o
 
-            met-is : met (ways (didIn vs (memory s fr) ls is o)) ≡ metOf vs (withVars mem l) z
+            met-is : met way ≡ metOf vs (withVars mem l) z
             met-is =
                 rw (eq-eqb (o .stop) 0 on)
-                (ap (λ (l : List ℤ). met (heading t vs p most (withVars mem l) (o .arc) (o .used))) (sym sets-var) ∙ ends mem)
+                (ap (λ (l : List ℤ). met (heading t k vs p most (withVars mem l) (o .arc) (o .used))) (sym sets-var) ∙ ends mem)
 
             pub stop-walking : (z .stop ≡ 0 → ⊥) → going ≡ ending (z .stop)
-            stop-walking h = kept-is ∙ after-halted t most vs n s used log rest (entryOf k (topmost s k) x) (closes (backOf x) s k) k j p (ways (didIn vs (memory s fr) ls is o)) (z .stop) (met-is ∙ rw (ne-eqb (z .stop) 0 h) refl)
+            stop-walking h = kept-is ∙ after-halted t most vs n s used log rest entry (returnedBy (backOf x) s k) k j p way (z .stop) (met-is ∙ rw (ne-eqb (z .stop) 0 h) refl)
 
             abbrev frame : Frame
             frame = record { proc = p; node = z .node; vars = l }
@@ -410,11 +362,12 @@ module _ (t : Table) (keep : List ℕ) (ready : Ready t keep) (most : ℕ) (vs :
             abbrev pub whole : Frame → State
             whole b = storedAs s k f g (d - backOf x) b frame (z .lost) (mem .sems) (mem .queues)
 
-            pub turn-walks : (b : Frame) → ((backOf x ≡ 0 → ⊥) → b ≡ noFrame) → z .stop ≡ 0 → pick (z .lost) (z .node) 0 ≡ 0 → going ≡ next (whole b) (z .used)
-            turn-walks b blank h gone =
-                kept-is ∙ after-arrived t most vs n s used log rest (entryOf k (topmost s k) x) (closes (backOf x) s k) k j p (ways (didIn vs (memory s fr) ls is o)) (pick (z .lost) none (some (z .node))) (withVars mem l) (drop (z .used) vs) (met-is ∙ rw (eq-eqb (z .stop) 0 h) refl) ∙
+            pub turn-walks : (log′ : List ℕ) → Puts log′ (shownBy o) → (b : Frame) → ((backOf x ≡ 0 → ⊥) → b ≡ noFrame) → z .stop ≡ 0 → pick (z .lost) (z .node) 0 ≡ 0 → going ≡ next log′ (whole b) (z .used)
+            turn-walks log′ puts b blank h gone =
+                let e = log-is log′ (shownBy o) puts in
+                kept-is ∙ after-arrived t most vs n s used log rest entry (returnedBy (backOf x) s k) k j p way (pick (z .lost) none (some (z .node))) (withVars mem l) (drop (z .used) vs) (met-is ∙ rw (eq-eqb (z .stop) 0 h) refl) ∙
                 sym
-                (λ i. runFrom t (keptIn t) most vs rest (add-one n i) (landed-is s k f g j (backOf x) p (z .node) (withVars mem l) (st .at) at-j near (st .here) b blank (z .lost) (back-few x) gone i) (drop (z .used) vs) (log-is i))
+                (λ i. runFrom t (keptIn t) most vs rest (add-one n i) (landed-is s k f g j (backOf x) p (z .node) (withVars mem l) (st .at) at-j near (st .here) b blank (z .lost) (back-few (act x)) gone i) (drop (z .used) vs) (e i))
 
             pub stored-good : (b : Frame) → FrameGood b → length l ≡ 16 → z .node < 32 → Good t (whole b)
             stored-good b fb long′ small =

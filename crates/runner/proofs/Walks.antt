@@ -11,17 +11,17 @@ use lib.Dec.{eqb, leb}
 use lib.IntN.{ℤ, pos}
 use borrow.Author.Tests.{leb-true, leb-false, eqb-false, eq-eqb, ne-eqb}
 use Rattle.table.specs.Mask.{pick, bit}
-use Rattle.table.specs.Table.{nodeAt, uses, Keeping, always, keeping}
+use Rattle.table.specs.Table.{nodeAt, uses, Keeping, always, keeping, parts}
 use Rattle.table.specs.Values.{apply, holds}
 use Rattle.table.specs.declared.Node.{Node}
 use Rattle.table.specs.declared.Node.the-variants.{Absent, Start, Set, Test, Read, Call, Wait, Signal, Send, Recv, Assert, Out, Return}
 use Rattle.table.specs.declared.Table.{Table}
 use Rattle.closing.specs.Dirty.{Fact}
 use Rattle.closing.specs.Closing.{dirty, keptBy, kept}
-use Rattle.machine.specs.Step.{stopNumber, Memory, operandIn, valueOf, assign, Did, stops, goes, exec, nowhere, node, bad, choose, keptOf, keptIn, Walk, halts, arrives, along, onward, noting, walk}
+use Rattle.machine.specs.Step.{stopNumber, Memory, operandIn, assign, Does, goes, stops, readOf, exec, nowhere, node, bad, choose, keptOf, keptIn, Walk, halts, arrives, along, onward, noting, walk}
 use Rattle.tosses.specs.Tosses.{halting}
 use Rattle.tosses.specs.TossLaws.{stopOf, Named, choiceOf, Sound}
-use Rattle.steps.specs.Cut.{goesTo, haltsAt, showsTo, readAt, stuckOf, actOf, triedOf, passOf}
+use Rattle.steps.specs.Cut.{goesTo, doesTo, haltsAt, showsTo, readAt, actOf, passOf}
 use Rattle.tosses.specs.declared.Chosen.{Chosen}
 use Rattle.steps.specs.declared.Acted.{Acted}
 use Rattle.starts.specs.Ready.{Ready}
@@ -64,167 +64,100 @@ unkept t false p n e k = false-true (kept (dirty t) p n (nodeAt t p n)) e (kept-
 
 -- ---- a node executed as the code does it
 
-abbrev pub didOf : List ℤ → Memory → Acted → Did
-didOf vs m r = pick (eqb (r .stop) 0) (goes (r .arc) (assign (r .var) (r .value) m) (drop (r .used) vs)) (stops (stopOf (r .stop)))
+abbrev pub didOf : List ℤ → Memory → Acted → Does
+didOf vs m r = pick (eqb (r .stop) 0) (goes (r .arc) (assign (r .var) (r .value) m) (drop (r .used) vs) none) (stops (stopOf (r .stop)))
 
 unset : (m : Memory) (x : ℤ) → length (m .vars) ≡ 16 → assign 255 x m ≡ m
 unset m x h = ap (λ (l : List ℤ). withVars m l) (set-out (m .vars) 255 x (omega arith))
 
-pub read-did : (v to : ℕ) (m : Memory) (vs : List ℤ) (used : ℕ) → exec (Read v to) m (drop used vs) ≡ didOf vs m (readAt v to vs used)
-unfolding exec
-read-did v to m vs used = go (leb (length vs) used) refl
-  where
-    go : (b : Bool) → leb (length vs) used ≡ b → exec (Read v to) m (drop used vs) ≡ didOf vs m (pick b (haltsAt 15 used) (goesTo v (getD vs used (pos 0)) (used + 1) to))
-    go true e = rw (drop-of-length-le vs (leb-true (length vs) used e)) refl
-    go false e = let s : used + 1 ≡ suc used = omega arith in rw (drop-cons vs used (pos 0) (leb-false (length vs) used e), s) refl
+-- what holds of every answer: its stop is 0 or the number of a stop, it uses no more values than there are, and what it changes has a place
+pub record Sane (vs : List ℤ) (used : ℕ) (r : Acted) : Type 0 where
+  pub named : Named (r .stop)
+  pub within : used ≤ length vs → r .used ≤ length vs
+  pub at : r .at < 8
 
-pub dropped-did : (x : Node) (m : Memory) (vs : List ℤ) (used : ℕ) → sometimes x → length (m .vars) ≡ 16 → exec x m (drop used vs) ≡ didOf vs m (passOf x (m .vars) vs used)
-unfolding exec passOf keeping
-dropped-did Absent m vs used s h = ap (λ (y : Memory). goes 0 y (drop used vs)) (sym (unset m (pos 0) h))
-dropped-did (Start to) m vs used s h = absurd (s refl)
-dropped-did (Set v o a b to) m vs used s h = refl
-dropped-did (Test o a b y n) m vs used s h = ap (λ (z : Memory). goes (pick (holds (apply o (operandIn (m .vars) a) (operandIn (m .vars) b))) y n) z (drop used vs)) (sym (unset m (pos 0) h))
-dropped-did (Read v to) m vs used s h = read-did v to m vs used
-dropped-did (Call q xs to) m vs used s h = absurd (s refl)
-dropped-did (Wait i to) m vs used s h = absurd (s refl)
-dropped-did (Signal i to) m vs used s h = absurd (s refl)
-dropped-did (Send q v to) m vs used s h = absurd (s refl)
-dropped-did (Recv q v to) m vs used s h = absurd (s refl)
-dropped-did (Assert v to) m vs used s h = absurd (s refl)
-dropped-did (Out v to) m vs used s h = absurd (s refl)
-dropped-did Return m vs used s h = absurd (s refl)
+module _ (vs : List ℤ) (used : ℕ) where
+  pub does-sane : (v : ℕ) (x : ℤ) (to how at c : ℕ) → at < 8 → Sane vs used (doesTo v x used to how at c)
+  does-sane v x to how at c h = record { named = refl; within = λ u. u; at = h }
 
-shows-named : (used to : ℕ) (o : Option ℤ) → Named (showsTo used to o .stop)
-shows-named used to none = refl
-shows-named used to (some x) = refl
+  pub goes-sane : (v : ℕ) (x : ℤ) (to : ℕ) → Sane vs used (goesTo v x used to)
+  goes-sane v x to = does-sane v x to 0 0 0 (omega arith)
 
-shows-used : (used to : ℕ) (o : Option ℤ) → showsTo used to o .used ≡ used
-shows-used used to none = refl
-shows-used used to (some x) = refl
+  pub shows-sane : (to : ℕ) (o : Option ℤ) → Sane vs used (showsTo used to o)
+  shows-sane to none = goes-sane 255 (pos 0) to
+  shows-sane to (some x) = does-sane 255 x to 4 0 0 (omega arith)
 
--- an answer's stop is 0 or the number of a stop
-pub act-named : (x : Node) (back : ℕ) (l : List ℤ) (ss ls : List ℕ) (is : List (List ℤ)) (vs : List ℤ) (used : ℕ) → Named (actOf x back l ss ls is vs used .stop)
-unfolding actOf stopNumber
-act-named Absent back l ss ls is vs used = refl
-act-named (Start to) back l ss ls is vs used = refl
-act-named (Set v o a b to) back l ss ls is vs used = refl
-act-named (Test o a b k z) back l ss ls is vs used = refl
-act-named (Read v to) back l ss ls is vs used = go (leb (length vs) used)
-  where
-    go : (b : Bool) → Named ((pick b (haltsAt 15 used) (goesTo v (getD vs used (pos 0)) (used + 1) to)) .stop)
-    go true = refl
-    go false = refl
-act-named (Call q xs to) back l ss ls is vs used = refl
-act-named (Wait i to) back l ss ls is vs used = refl
-act-named (Signal i to) back l ss ls is vs used = refl
-act-named (Send q v to) back l ss ls is vs used = refl
-act-named (Recv q v to) back l ss ls is vs used = refl
-act-named (Assert v to) back l ss ls is vs used = shows-named used to (valueOf l v)
-act-named (Out v to) back l ss ls is vs used = shows-named used to (valueOf l v)
-act-named Return back l ss ls is vs used = refl
+  pub read-sane : (v to : ℕ) → Sane vs used (readAt v to vs used)
+  unfolding stopNumber
+  read-sane v to = go (leb (length vs) used) refl
+    where
+      go : (b : Bool) → leb (length vs) used ≡ b → Sane vs used (pick b (haltsAt 15 used) (goesTo v (getD vs used (pos 0)) (used + 1) to))
+      go true e = record { named = refl; within = λ u. u; at = omega arith }
+      go false e = record { named = refl; within = λ u. omega (arith, leb-false (length vs) used e); at = omega arith }
 
-pub act-within : (x : Node) (back : ℕ) (l : List ℤ) (ss ls : List ℕ) (is : List (List ℤ)) (vs : List ℤ) (used : ℕ) → used ≤ length vs → actOf x back l ss ls is vs used .used ≤ length vs
-unfolding actOf
-act-within Absent back l ss ls is vs used h = h
-act-within (Start to) back l ss ls is vs used h = h
-act-within (Set v o a b to) back l ss ls is vs used h = h
-act-within (Test o a b k z) back l ss ls is vs used h = h
-act-within (Read v to) back l ss ls is vs used h = go (leb (length vs) used) refl
-  where
-    go : (b : Bool) → leb (length vs) used ≡ b → (pick b (haltsAt 15 used) (goesTo v (getD vs used (pos 0)) (used + 1) to)) .used ≤ length vs
-    go true e = h
-    go false e = omega (arith, leb-false (length vs) used e)
-act-within (Call q xs to) back l ss ls is vs used h = h
-act-within (Wait i to) back l ss ls is vs used h = h
-act-within (Signal i to) back l ss ls is vs used h = h
-act-within (Send q v to) back l ss ls is vs used h = h
-act-within (Recv q v to) back l ss ls is vs used h = h
-act-within (Assert v to) back l ss ls is vs used h = rw (shows-used used to (valueOf l v)) h
-act-within (Out v to) back l ss ls is vs used h = rw (shows-used used to (valueOf l v)) h
-act-within Return back l ss ls is vs used h = h
+  pub read-did : (v to : ℕ) (m : Memory) → readOf v to m (drop used vs) ≡ didOf vs m (readAt v to vs used)
+  read-did v to m = go (leb (length vs) used) refl
+    where
+      go : (b : Bool) → leb (length vs) used ≡ b → readOf v to m (drop used vs) ≡ didOf vs m (pick b (haltsAt 15 used) (goesTo v (getD vs used (pos 0)) (used + 1) to))
+      go true e = rw (drop-of-length-le vs (leb-true (length vs) used e)) refl
+      go false e = let s : used + 1 ≡ suc used = omega arith in rw (drop-cons vs used (pos 0) (leb-false (length vs) used e), s) refl
 
-pub tried-within : (x : Node) (back : ℕ) (l : List ℤ) (d : ℕ) (ss ls cs : List ℕ) (is : List (List ℤ)) (vs : List ℤ) (used : ℕ) → used ≤ length vs → triedOf x back l d ss ls cs is vs used .used ≤ length vs
-tried-within x back l d ss ls cs is vs used h = go (stuckOf x d ss ls cs)
-  where
-    go : (b : Bool) → (pick b (haltsAt 13 used) (actOf x back l ss ls is vs used)) .used ≤ length vs
-    go true = h
-    go false = act-within x back l ss ls is vs used h
+  -- a dropped node
+  pub record Passes (t : Table) (k : ℕ) (x : Node) (m : Memory) : Type 0 where
+    pub sane : Sane vs used (passOf x (m .vars) vs used)
+    pub did : length (m .vars) ≡ 16 → exec t k x m (drop used vs) ≡ didOf vs m (passOf x (m .vars) vs used)
 
-pub pass-named : (x : Node) (l vs : List ℤ) (used : ℕ) → Named (passOf x l vs used .stop)
-unfolding passOf stopNumber
-pass-named Absent l vs used = refl
-pass-named (Start to) l vs used = refl
-pass-named (Set v o a b to) l vs used = refl
-pass-named (Test o a b k z) l vs used = refl
-pass-named (Read v to) l vs used = go (leb (length vs) used)
-  where
-    go : (b : Bool) → Named ((pick b (haltsAt 15 used) (goesTo v (getD vs used (pos 0)) (used + 1) to)) .stop)
-    go true = refl
-    go false = refl
-pass-named (Call q xs to) l vs used = refl
-pass-named (Wait i to) l vs used = refl
-pass-named (Signal i to) l vs used = refl
-pass-named (Send q v to) l vs used = refl
-pass-named (Recv q v to) l vs used = refl
-pass-named (Assert v to) l vs used = refl
-pass-named (Out v to) l vs used = refl
-pass-named Return l vs used = refl
-
-pub pass-within : (x : Node) (l vs : List ℤ) (used : ℕ) → used ≤ length vs → passOf x l vs used .used ≤ length vs
-unfolding passOf
-pass-within Absent l vs used h = h
-pass-within (Start to) l vs used h = h
-pass-within (Set v o a b to) l vs used h = h
-pass-within (Test o a b k z) l vs used h = h
-pass-within (Read v to) l vs used h = go (leb (length vs) used) refl
-  where
-    go : (b : Bool) → leb (length vs) used ≡ b → (pick b (haltsAt 15 used) (goesTo v (getD vs used (pos 0)) (used + 1) to)) .used ≤ length vs
-    go true e = h
-    go false e = omega (arith, leb-false (length vs) used e)
-pass-within (Call q xs to) l vs used h = h
-pass-within (Wait i to) l vs used h = h
-pass-within (Signal i to) l vs used h = h
-pass-within (Send q v to) l vs used h = h
-pass-within (Recv q v to) l vs used h = h
-pass-within (Assert v to) l vs used h = h
-pass-within (Out v to) l vs used h = h
-pass-within Return l vs used h = h
+  pub passes : (t : Table) (k : ℕ) (x : Node) (m : Memory) → sometimes x → Passes t k x m
+  unfolding exec actOf parts
+  passes t k Absent m s = record { sane = goes-sane 255 (pos 0) 0; did = λ h. ap (λ (y : Memory). goes 0 y (drop used vs) none) (sym (unset m (pos 0) h)) }
+  passes t k (Start to) m s = absurd (s refl)
+  passes t k (Set v o a b to) m s = record { sane = goes-sane v _ to; did = λ h. refl }
+  passes t k (Test o a b y n) m s = record { sane = goes-sane 255 (pos 0) _; did = λ h. ap (λ (z : Memory). goes (pick (holds (apply o (operandIn (m .vars) a) (operandIn (m .vars) b))) y n) z (drop used vs) none) (sym (unset m (pos 0) h)) }
+  passes t k (Read v to) m s = record { sane = read-sane v to; did = λ h. read-did v to m }
+  passes t k (Call q xs to) m s = absurd (s refl)
+  passes t k (Wait i to) m s = absurd (s refl)
+  passes t k (Signal i to) m s = absurd (s refl)
+  passes t k (Send q v to) m s = absurd (s refl)
+  passes t k (Recv q v to) m s = absurd (s refl)
+  passes t k (Assert v to) m s = absurd (s refl)
+  passes t k (Out v to) m s = absurd (s refl)
+  passes t k Return m s = absurd (s refl)
 
 pub named-stop : (n : ℕ) → Named n → (n ≡ 0 → ⊥) → stopNumber (stopOf n) ≡ n
 named-stop n h z = let e = ne-eqb n 0 z in rw e at h
 
 -- ---- the walk
 
--- from an arc's answer on, at most d dropped nodes of procedure p
-abbrev pub walking : Table → List ℤ → ℕ → ℕ → Memory → Chosen → Walk
-walking t vs p d m r = along (λ n m ws. walk t (keptIn t) p d n m ws) m (choiceOf vs r)
+-- of task k from an arc's answer on, at most d dropped nodes of procedure p
+abbrev pub walking : Table → ℕ → List ℤ → ℕ → ℕ → Memory → Chosen → Walk
+walking t k vs p d m r = along (λ n m ws. walk t (keptIn t) k p d n m ws) m (choiceOf vs r)
 
 -- the same from an arc on
-abbrev pub heading : Table → List ℤ → ℕ → ℕ → Memory → ℕ → ℕ → Walk
-heading t vs p d m arc used = along (λ n m ws. walk t (keptIn t) p d n m ws) m (choose arc (drop used vs))
+abbrev pub heading : Table → ℕ → List ℤ → ℕ → ℕ → Memory → ℕ → ℕ → Walk
+heading t k vs p d m arc used = along (λ n m ws. walk t (keptIn t) k p d n m ws) m (choose arc (drop used vs))
 
-module _ (t : Table) (keep : List ℕ) (ready : Ready t keep) (vs : List ℤ) (p : ℕ) (inside : p < 8) where
+module _ (t : Table) (keep : List ℕ) (ready : Ready t keep) (k : ℕ) (vs : List ℤ) (p : ℕ) (inside : p < 8) where
   abbrev kp : ℕ
   kp = getD keep p 0
 
-  at-kept : (d n : ℕ) (m : Memory) (ws : List ℤ) → keptIn t p n ≡ true → walk t (keptIn t) p d n m ws ≡ arrives (some n) m ws []
+  at-kept : (d n : ℕ) (m : Memory) (ws : List ℤ) → keptIn t p n ≡ true → walk t (keptIn t) k p d n m ws ≡ arrives (some n) m ws []
   unfolding walk
   at-kept zero n m ws e = rw (walk, e) refl
   at-kept (suc d) n m ws e = rw (walk, e) refl
 
   -- it is over
-  pub walk-over : (d : ℕ) (m : Memory) (r : Chosen) → Sound kp vs r → r .over ≡ true → met (walking t vs p d m r) ≡ metOf vs m r
+  pub walk-over : (d : ℕ) (m : Memory) (r : Chosen) → Sound kp vs r → r .over ≡ true → met (walking t k vs p d m r) ≡ metOf vs m r
   walk-over d m r s o = by-stop (eqb (r .stop) 0) refl
     where
       by-lost : (b : Bool) → eqb (r .stop) 0 ≡ true → r .lost ≡ b
-          → met (along (λ n m ws. walk t (keptIn t) p d n m ws) m (pick b (nowhere (drop (r .used) vs)) (node (r .node) (drop (r .used) vs)))) ≡ arrived (pick b none (some (r .node))) m (drop (r .used) vs)
+          → met (along (λ n m ws. walk t (keptIn t) k p d n m ws) m (pick b (nowhere (drop (r .used) vs)) (node (r .node) (drop (r .used) vs)))) ≡ arrived (pick b none (some (r .node))) m (drop (r .used) vs)
       by-lost true e l = refl
       by-lost false e l =
           let h : bit (r .node) kp ≡ true = sym (ap (λ (x : Bool). pick x (pick (r .lost) true (bit (r .node) kp)) true) e ∙ ap (λ (x : Bool). pick x true (bit (r .node) kp)) l) ∙ sym (s .over) ∙ o in
           ap met (at-kept d (r .node) m (drop (r .used) vs) (sym (ready .keeps p (r .node) inside (s .place)) ∙ h))
 
       by-stop : (b : Bool) → eqb (r .stop) 0 ≡ b
-          → met (along (λ n m ws. walk t (keptIn t) p d n m ws) m (pick b (pick (r .lost) (nowhere (drop (r .used) vs)) (node (r .node) (drop (r .used) vs))) (bad (stopOf (r .stop)))))
+          → met (along (λ n m ws. walk t (keptIn t) k p d n m ws) m (pick b (pick (r .lost) (nowhere (drop (r .used) vs)) (node (r .node) (drop (r .used) vs))) (bad (stopOf (r .stop)))))
           ≡ pick b (arrived (pick (r .lost) none (some (r .node))) m (drop (r .used) vs)) (halted (r .stop))
       by-stop true e = by-lost (r .lost) e refl
       by-stop false e = ap halted (named-stop (r .stop) (s .named) (eqb-false (r .stop) 0 e))
@@ -245,31 +178,36 @@ module _ (t : Table) (keep : List ℕ) (ready : Ready t keep) (vs : List ℤ) (p
       by-stop true e h = by-lost (r .lost) e refl h
       by-stop false e h = let z : _≡_ {A = Bool} true false = h in let y : _≡_ {A = ℕ} 0 1 = cc in absurd (omega arith)
 
-  pub walk-spent : (d : ℕ) (m : Memory) (r : Chosen) → Sound kp vs r → r .over ≡ false → d ≡ 0 → met (walking t vs p d m r) ≡ metOf vs m (halting 14 (r .used))
+  pub walk-spent : (d : ℕ) (m : Memory) (r : Chosen) → Sound kp vs r → r .over ≡ false → d ≡ 0 → met (walking t k vs p d m r) ≡ metOf vs m (halting 14 (r .used))
   unfolding walk stopNumber
   walk-spent zero m r s o z = let n = walk-on r s o in rw (n .choice, walk, n .unkept) refl
   walk-spent (suc d) m r s o z = absurd (omega arith)
 
   -- a dropped node is executed: the walk halts, or goes on by its arc
+  pass-on : (m : Memory) (r : Chosen) → Sound kp vs r → r .over ≡ false → Passes vs (r .used) t k (nodeAt t p (r .node)) m
+  pass-on m r s o = passes vs (r .used) t k (nodeAt t p (r .node)) m (unkept t (t .closed) p (r .node) (walk-on r s o .unkept))
+
+  pub pass-sane : (m : Memory) (r : Chosen) (a : Acted) → Sound kp vs r → r .over ≡ false → a ≡ passOf (nodeAt t p (r .node)) (m .vars) vs (r .used) → Sane vs (r .used) a
+  pass-sane m r a s o e = rw e (pass-on m r s o .sane)
+
   step-on : (d : ℕ) (m : Memory) (r : Chosen) (a : Acted) → Sound kp vs r → r .over ≡ false → (d ≡ 0 → ⊥) → length (m .vars) ≡ 16
       → a ≡ passOf (nodeAt t p (r .node)) (m .vars) vs (r .used)
-      → met (walking t vs p d m r) ≡ met (onward (λ n m ws. walk t (keptIn t) p (d - 1) n m ws) (didOf vs m a))
+      → met (walking t k vs p d m r) ≡ met (onward (λ n m ws. walk t (keptIn t) k p (d - 1) n m ws) m (drop (r .used) vs) (didOf vs m a))
   unfolding walk
   step-on zero m r a s o z h e = absurd (z refl)
   step-on (suc d) m r a s o z h e =
       let n = walk-on r s o in
-      let k : suc d - 1 ≡ d = omega arith in
-      let x : exec (nodeAt t p (r .node)) m (drop (r .used) vs) ≡ didOf vs m a = dropped-did (nodeAt t p (r .node)) m vs (r .used) (unkept t (t .closed) p (r .node) (n .unkept)) h ∙ ap (didOf vs m) (sym e) in
-      rw (k, n .choice, walk, n .unkept) (met-noting (r .node) (onward (λ n m ws. walk t (keptIn t) p d n m ws) (exec (nodeAt t p (r .node)) m (drop (r .used) vs))) ∙ ap (λ (y : Did). met (onward (λ n m ws. walk t (keptIn t) p d n m ws) y)) x)
+      let i : suc d - 1 ≡ d = omega arith in
+      let x : exec t k (nodeAt t p (r .node)) m (drop (r .used) vs) ≡ didOf vs m a = pass-on m r s o .did h ∙ ap (didOf vs m) (sym e) in
+      rw (i, n .choice, walk, n .unkept)
+      (met-noting (r .node) (onward (λ n m ws. walk t (keptIn t) k p d n m ws) m (drop (r .used) vs) (exec t k (nodeAt t p (r .node)) m (drop (r .used) vs))) ∙
+      ap (λ (y : Does). met (onward (λ n m ws. walk t (keptIn t) k p d n m ws) m (drop (r .used) vs) y)) x)
 
   pub walk-halts : (d : ℕ) (m : Memory) (r : Chosen) (a : Acted) → Sound kp vs r → r .over ≡ false → (d ≡ 0 → ⊥) → length (m .vars) ≡ 16
-      → a ≡ passOf (nodeAt t p (r .node)) (m .vars) vs (r .used) → (a .stop ≡ 0 → ⊥) → met (walking t vs p d m r) ≡ metOf vs m (halting (a .stop) (r .used))
-  walk-halts d m r a s o z h e n =
-      let f = ne-eqb (a .stop) 0 n in
-      let i : Named (a .stop) = rw e (pass-named (nodeAt t p (r .node)) (m .vars) vs (r .used)) in
-      step-on d m r a s o z h e ∙ rw f (ap halted (named-stop (a .stop) i n))
+      → a ≡ passOf (nodeAt t p (r .node)) (m .vars) vs (r .used) → (a .stop ≡ 0 → ⊥) → met (walking t k vs p d m r) ≡ metOf vs m (halting (a .stop) (r .used))
+  walk-halts d m r a s o z h e n = step-on d m r a s o z h e ∙ rw (ne-eqb (a .stop) 0 n) (ap halted (named-stop (a .stop) (pass-sane m r a s o e .named) n))
 
   pub walk-goes : (d : ℕ) (m : Memory) (r : Chosen) (a : Acted) → Sound kp vs r → r .over ≡ false → (d ≡ 0 → ⊥) → length (m .vars) ≡ 16
       → a ≡ passOf (nodeAt t p (r .node)) (m .vars) vs (r .used) → a .stop ≡ 0
-      → met (walking t vs p d m r) ≡ met (heading t vs p (d - 1) (assign (a .var) (a .value) m) (a .arc) (a .used))
+      → met (walking t k vs p d m r) ≡ met (heading t k vs p (d - 1) (assign (a .var) (a .value) m) (a .arc) (a .used))
   walk-goes d m r a s o z h e n = step-on d m r a s o z h e ∙ rw (eq-eqb (a .stop) 0 n) refl

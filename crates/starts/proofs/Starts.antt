@@ -18,7 +18,7 @@ use Rattle.table.specs.declared.Table.{Table}
 use Rattle.text.specs.Reader.{concatFrom}
 use Rattle.machine.specs.declared.Frame.{Frame}
 use Rattle.machine.specs.declared.State.{State}
-use Rattle.machine.specs.State.{noFrame, noEntries, firstFrame, firstState, withFrames, firstInputs, spent, begun, takeInputs, begin}
+use Rattle.machine.specs.State.{noFrame, noState, firstFrame, firstState, withDepth, withFrames, withSems, firstInputs, spent, begun, takeInputs, begin}
 use Rattle.starts.specs.declared.Started.{Started}
 use Rattle.starts.specs.Begins.{startedOf, inputFrame}
 
@@ -108,7 +108,7 @@ abbrev firstAt : Table → ℕ → Frame
 firstAt t i = pick (ltb i (t .tasks)) (firstFrame t i) noFrame
 
 abbrev made : Table → List ℕ → List Frame → List ℕ → State
-made t ds fs ss = record { depth = ds; lost = replicate 4 false; frames = fs; sems = ss; queues = replicate 8 noEntries }
+made t ds fs ss = withSems (withFrames (withDepth noState ds) fs) ss
 
 abbrev placed : Frame → Frame → Frame → Frame → Frame → List Frame
 placed z a b c d = set (set (set (set (replicate 32 z) 0 a) 8 b) 16 c) 24 d

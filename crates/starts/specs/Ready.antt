@@ -4,27 +4,23 @@ use mathlib.Core.Path.{_≡_}
 use mathlib.Core.List.{List}
 use lib.ListN.{length, getD}
 use Rattle.table.specs.Mask.{bit}
-use Rattle.table.specs.Table.{taskAt, queueAt, procAt, nodeAt}
+use Rattle.table.specs.Table.{taskAt, queueAt, procAt, nodeAt, Act, alone, waits, signals, sends, receives, calls, returns, act}
 use Rattle.table.specs.declared.Node.{Node}
-use Rattle.table.specs.declared.Node.the-variants.{Absent, Start, Set, Test, Read, Call, Wait, Signal, Send, Recv, Assert, Out, Return}
 use Rattle.table.specs.declared.Table.{Table}
 use Rattle.machine.specs.Step.{keptIn}
 
 -- what a node names has a place
+abbrev pub ActPlaced : Act → Type 0
+ActPlaced alone = Unit {0}
+ActPlaced (waits i) = i < 8
+ActPlaced (signals i) = i < 8
+ActPlaced (sends q v) = q < 8
+ActPlaced (receives q v) = q < 8
+ActPlaced (calls q xs) = (q < 8) × (xs .len ≤ 4)
+ActPlaced returns = Unit {0}
+
 abbrev pub Placed : Node → Type 0
-Placed Absent = Unit {0}
-Placed (Start to) = Unit {0}
-Placed (Set v o a b to) = Unit {0}
-Placed (Test o a b y n) = Unit {0}
-Placed (Read v to) = Unit {0}
-Placed (Call q xs to) = (q < 8) × (xs .len ≤ 4)
-Placed (Wait i to) = i < 8
-Placed (Signal i to) = i < 8
-Placed (Send q v to) = q < 8
-Placed (Recv q v to) = q < 8
-Placed (Assert v to) = Unit {0}
-Placed (Out v to) = Unit {0}
-Placed Return = Unit {0}
+Placed x = ActPlaced (act x)
 
 pub record Ready (t : Table) (keep : List ℕ) : Type 0 where
   pub tasks : t .tasks ≤ 4

@@ -7,18 +7,17 @@ use mathlib.Core.List.{List}
 use lib.ListN.{getD}
 use borrow.Author.Tests.{eqb-true}
 use Rattle.table.specs.Mask.{bit}
-use Rattle.table.specs.Table.{queueAt, procAt, nodeAt, noQueue, isAbsent}
-use Rattle.table.specs.declared.Node.{Node}
-use Rattle.table.specs.declared.Node.the-variants.{Absent, Start, Set, Test, Read, Call, Wait, Signal, Send, Recv, Assert, Out, Return}
+use Rattle.table.specs.Table.{queueAt, procAt, nodeAt, noQueue, Act, alone, waits, signals, sends, receives, calls, returns, act}
 use Rattle.table.specs.declared.Table.{Table}
-use Rattle.text.specs.NumberLaws.{cases, byOrder, and-left}
-use Rattle.text.specs.Reader.{countRight}
+use Rattle.text.specs.NumberLaws.{byOrder, and-left}
+use Rattle.text.specs.Reader.{countBy}
 use Rattle.text.specs.Writer.{scope, fault, queueEmpty, isZero}
 use Rattle.table.specs.Shape.{Shaped}
-use Rattle.text.specs.Valid.{Valid, NodeValid}
-use Rattle.text.specs.ValidLaws.{valid-of, absent-is, far-empty, inside-of, tidy-parts, all-behind}
+use Rattle.text.specs.Valid.{Valid, ActValid}
+use Rattle.text.specs.ValidLaws.{valid-of, far-empty, tidy-parts, all-behind}
+use Rattle.text.specs.PartsLaws.{parts-of, count-of}
 use Rattle.machine.specs.Step.{keptIn}
-use Rattle.starts.specs.Ready.{Placed, Ready}
+use Rattle.starts.specs.Ready.{ActPlaced, Ready}
 
 module _ (t : Table) (keep : List ℕ) (s : Shaped t) (z : fault t ≡ 0) (keeps : (p n : ℕ) → p < 8 → n < 32 → bit n (getD keep p 0) ≡ keptIn t p n) where
   v : Valid t
@@ -27,21 +26,14 @@ module _ (t : Table) (keep : List ℕ) (s : Shaped t) (z : fault t ≡ 0) (keeps
   params : (p : ℕ) → procAt t p .params ≤ 4
   params p = byOrder p (t .procs) (λ l. v .lines .proc p l .params) (λ l. omega (arith, far-empty t (v .unused) p l .0))
 
-  placed : (p n : ℕ) (x : Node) → NodeValid (scope t (procAt t p)) n x → countRight t x ≡ true → Placed x
-  unfolding countRight
-  placed p n Absent h k = tt
-  placed p n (Start to) h k = tt
-  placed p n (Set x i a b to) h k = tt
-  placed p n (Test i a b y w) h k = tt
-  placed p n (Read x to) h k = tt
-  placed p n (Call q xs to) h k = (omega (arith, h .1, v .lines .procs), omega (arith, eqb-true (xs .len) (procAt t q .params) k, params q))
-  placed p n (Wait i to) h k = omega (arith, h .1, v .lines .sems)
-  placed p n (Signal i to) h k = omega (arith, h .1, v .lines .sems)
-  placed p n (Send q x to) h k = omega (arith, h .1, v .lines .queues)
-  placed p n (Recv q x to) h k = omega (arith, h .1, v .lines .queues)
-  placed p n (Assert x to) h k = tt
-  placed p n (Out x to) h k = tt
-  placed p n Return h k = tt
+  placed : (p : ℕ) (a : Act) → ActValid (scope t (procAt t p)) a → countBy t a ≡ true → ActPlaced a
+  placed p alone h k = tt
+  placed p (waits i) h k = omega (arith, h, v .lines .sems)
+  placed p (signals i) h k = omega (arith, h, v .lines .sems)
+  placed p (sends q x) h k = omega (arith, h .0, v .lines .queues)
+  placed p (receives q x) h k = omega (arith, h .0, v .lines .queues)
+  placed p (calls q xs) h k = (omega (arith, h .0, v .lines .procs), omega (arith, eqb-true (xs .len) (procAt t q .params) k, params q))
+  placed p returns h k = tt
 
   cap : (q : ℕ) → queueAt t q .cap ≤ 8
   cap q = byOrder q (t .queues)
@@ -55,8 +47,6 @@ module _ (t : Table) (keep : List ℕ) (s : Shaped t) (z : fault t ≡ 0) (keeps
     tops = λ i l. omega (arith, v .lines .top i l, v .lines .procs);
     params = λ p l. params p;
     caps = λ q l. cap q;
-    nodes = λ p n l m. cases (isAbsent (nodeAt t p n))
-        (λ e. rw (absent-is (nodeAt t p n) e) tt)
-        (λ e. let i = inside-of t z p n e in placed p n (nodeAt t p n) (v .lines .proc p (i .0) .node n (i .1)) (v .counts p n (i .0) (i .1)));
+    nodes = λ p n l m. placed p (act (nodeAt t p n)) (parts-of t z p n .act) (count-of t z p n);
     keeps = keeps;
   }

@@ -11,6 +11,7 @@ use mir.Syntax.{w32}
 use mir.Val.{ofZ}
 use Rattle.table.specs.Mask.{pick}
 use Rattle.table.specs.Values.{apply, holds}
+use Rattle.table.specs.Table.{Keeping, always, ifClean, never, absent, keeping, Act, alone, waits, signals, sends, receives, calls, returns, act}
 use Rattle.table.specs.declared.Node.{Node}
 use Rattle.table.specs.declared.Node.the-variants.{Absent, Start, Set, Test, Read, Call, Wait, Signal, Send, Recv, Assert, Out, Return}
 use Rattle.machine.specs.State.{varAt}
@@ -22,36 +23,30 @@ abbrev pub stopBefore : ℕ → ℕ → ℕ → List Bool → ℕ
 stopBefore k tasks room lost = pick (leb tasks k) 10 (pick (leb 8 room) (pick (getD lost k false) 12 0) 11)
 
 -- ---- blocked, by the frames open, the semaphores' counts, the queues' lengths and capacities
-unfoldable pub stuckOf : Node → ℕ → List ℕ → List ℕ → List ℕ → Bool
-stuckOf Absent d ss ls cs = false
-stuckOf (Start to) d ss ls cs = false
-stuckOf (Set v o a b to) d ss ls cs = false
-stuckOf (Test o a b y n) d ss ls cs = false
-stuckOf (Read v to) d ss ls cs = false
-stuckOf (Call q xs to) d ss ls cs = leb 8 d
-stuckOf (Wait i to) d ss ls cs = eqb (getD ss i 0) 0
-stuckOf (Signal i to) d ss ls cs = leb 255 (getD ss i 0)
-stuckOf (Send q v to) d ss ls cs = leb (getD cs q 0) (getD ls q 0)
-stuckOf (Recv q v to) d ss ls cs = eqb (getD ls q 0) 0
-stuckOf (Assert v to) d ss ls cs = false
-stuckOf (Out v to) d ss ls cs = false
-stuckOf Return d ss ls cs = leb d 1
+unfoldable pub stuckBy : Act → ℕ → List ℕ → List ℕ → List ℕ → Bool
+stuckBy alone d ss ls cs = false
+stuckBy (waits i) d ss ls cs = eqb (getD ss i 0) 0
+stuckBy (signals i) d ss ls cs = leb 255 (getD ss i 0)
+stuckBy (sends q v) d ss ls cs = leb (getD cs q 0) (getD ls q 0)
+stuckBy (receives q v) d ss ls cs = eqb (getD ls q 0) 0
+stuckBy (calls q xs) d ss ls cs = leb 8 d
+stuckBy returns d ss ls cs = leb d 1
+
+abbrev pub stuckOf : Node → ℕ → List ℕ → List ℕ → List ℕ → Bool
+stuckOf x d ss ls cs = stuckBy (act x) d ss ls cs
 
 -- a node's semaphore and queue have a place
+abbrev pub ActWithin : Act → Type 0
+ActWithin alone = Unit {0}
+ActWithin (waits i) = i < 8
+ActWithin (signals i) = i < 8
+ActWithin (sends q v) = q < 8
+ActWithin (receives q v) = q < 8
+ActWithin (calls q xs) = Unit {0}
+ActWithin returns = Unit {0}
+
 abbrev pub Within : Node → Type 0
-Within Absent = Unit {0}
-Within (Start to) = Unit {0}
-Within (Set v o a b to) = Unit {0}
-Within (Test o a b y n) = Unit {0}
-Within (Read v to) = Unit {0}
-Within (Call q xs to) = Unit {0}
-Within (Wait i to) = i < 8
-Within (Signal i to) = i < 8
-Within (Send q v to) = q < 8
-Within (Recv q v to) = q < 8
-Within (Assert v to) = Unit {0}
-Within (Out v to) = Unit {0}
-Within Return = Unit {0}
+Within x = ActWithin (act x)
 
 -- ---- a node executed: the variable set and its value, the values used, the arc; what else it does, where, and the length or count after it
 
@@ -92,43 +87,31 @@ actOf (Out v to) back l ss ls is vs used = showsTo used to (valueOf l v)
 actOf Return back l ss ls is vs used = goesTo 255 (pos 0) used back
 
 -- a dropped node executed; others are not met on the way
-abbrev pub passing : ℕ → Acted
-passing used = goesTo 255 (pos 0) used 0
+abbrev pub passBy : Keeping → ℕ → Acted → Acted
+passBy always used r = goesTo 255 (pos 0) used 0
+passBy ifClean used r = r
+passBy never used r = r
+passBy absent used r = r
 
-unfoldable pub passOf : Node → List ℤ → List ℤ → ℕ → Acted
-passOf Absent l vs used = passing used
-passOf (Start to) l vs used = passing used
-passOf (Set v o a b to) l vs used = goesTo v (apply o (operandIn l a) (operandIn l b)) used to
-passOf (Test o a b y n) l vs used = goesTo 255 (pos 0) used (pick (holds (apply o (operandIn l a) (operandIn l b))) y n)
-passOf (Read v to) l vs used = readAt v to vs used
-passOf (Call q xs to) l vs used = passing used
-passOf (Wait i to) l vs used = passing used
-passOf (Signal i to) l vs used = passing used
-passOf (Send q v to) l vs used = passing used
-passOf (Recv q v to) l vs used = passing used
-passOf (Assert v to) l vs used = passing used
-passOf (Out v to) l vs used = passing used
-passOf Return l vs used = passing used
+abbrev pub passOf : Node → List ℤ → List ℤ → ℕ → Acted
+passOf x l vs used = passBy (keeping x) used (actOf x 0 l [] [] [] vs used)
 
 -- a node executed, where it may be blocked: by the frames open, the semaphores' counts, the queues' lengths and capacities
 abbrev pub triedOf : Node → ℕ → List ℤ → ℕ → List ℕ → List ℕ → List ℕ → List (List ℤ) → List ℤ → ℕ → Acted
 triedOf x back l d ss ls cs is vs used = unless (stuckOf x d ss ls cs) used (actOf x back l ss ls is vs used)
 
 -- how many frames a node closes
-unfoldable pub backOf : Node → ℕ
-backOf Absent = 0
-backOf (Start to) = 0
-backOf (Set v o a b to) = 0
-backOf (Test o a b y n) = 0
-backOf (Read v to) = 0
-backOf (Call q xs to) = 0
-backOf (Wait i to) = 0
-backOf (Signal i to) = 0
-backOf (Send q v to) = 0
-backOf (Recv q v to) = 0
-backOf (Assert v to) = 0
-backOf (Out v to) = 0
-backOf Return = 1
+unfoldable pub backBy : Act → ℕ
+backBy alone = 0
+backBy (waits i) = 0
+backBy (signals i) = 0
+backBy (sends q v) = 0
+backBy (receives q v) = 0
+backBy (calls q xs) = 0
+backBy returns = 1
+
+abbrev pub backOf : Node → ℕ
+backOf x = backBy (act x)
 
 -- ---- semaphores and queues after it
 

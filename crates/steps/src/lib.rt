@@ -32,13 +32,13 @@ pub fn before(k: u8, tasks: u8, room: usize, lost: &[bool; 4]) -> u8
     ensures { λ r. ⌜ r ≡ stopBefore k tasks room (now (lost .entry)) ⌝ }
 {
     if tasks <= k {
-        return 10;
+        return machine::NO_SUCH_TASK;
     }
     if room < 8 {
-        return 11;
+        return machine::LOG_FULL;
     }
     let i = k as usize;
-    if lost[i] { 12 } else { 0 }
+    if lost[i] { machine::TASK_LOST } else { 0 }
 }
 
 // ---- variables
@@ -134,7 +134,7 @@ pub fn read(var: u8, to: u32, values: &[i32], used: usize) -> Acted
     ensures { λ r. ⌜ r ≡ readAt var to (now (values .entry)) used ⌝ }
 {
     if values.len() <= used {
-        return halts(15, used);
+        return halts(machine::VALUES_SPENT, used);
     }
     goes(var, values[used], used + 1, to)
 }
@@ -149,7 +149,7 @@ pub fn call(depth: u8, used: usize) -> Acted
     ensures { λ r. ⌜ r ≡ unless (leb 8 depth) used (goesTo 255 (pos 0) used 0) ⌝ }
 {
     if 8 <= depth {
-        return halts(13, used);
+        return halts(machine::TASK_BLOCKED, used);
     }
     goes(255, 0, used, 0)
 }
@@ -158,7 +158,7 @@ pub fn wait(sem: u8, to: u32, used: usize, count: u8) -> Acted
     ensures { λ r. ⌜ r ≡ unless (eqb count 0) used (doesTo 255 (pos 0) used to 3 sem (count - 1)) ⌝ }
 {
     if count == 0 {
-        return halts(13, used);
+        return halts(machine::TASK_BLOCKED, used);
     }
     does(255, 0, used, to, 3, sem, count - 1)
 }
@@ -167,7 +167,7 @@ pub fn signal(sem: u8, to: u32, used: usize, count: u8) -> Acted
     ensures { λ r. ⌜ r ≡ unless (leb 255 count) used (doesTo 255 (pos 0) used to 3 sem (count + 1)) ⌝ }
 {
     if 255 <= count {
-        return halts(13, used);
+        return halts(machine::TASK_BLOCKED, used);
     }
     does(255, 0, used, to, 3, sem, count + 1)
 }
@@ -176,7 +176,7 @@ pub fn send(queue: u8, x: i32, to: u32, used: usize, len: u8, cap: u8) -> Acted
     ensures { λ r. ⌜ r ≡ unless (leb cap len) used (doesTo 255 x used to 1 queue (len + 1)) ⌝ }
 {
     if cap <= len {
-        return halts(13, used);
+        return halts(machine::TASK_BLOCKED, used);
     }
     does(255, x, used, to, 1, queue, len + 1)
 }
@@ -185,7 +185,7 @@ pub fn receive(queue: u8, var: u8, x: i32, to: u32, used: usize, len: u8) -> Act
     ensures { λ r. ⌜ r ≡ unless (eqb len 0) used (doesTo var x used to 2 queue (len - 1)) ⌝ }
 {
     if len == 0 {
-        return halts(13, used);
+        return halts(machine::TASK_BLOCKED, used);
     }
     does(var, x, used, to, 2, queue, len - 1)
 }
@@ -194,7 +194,7 @@ pub fn give_back(arc: u32, depth: u8, used: usize) -> Acted
     ensures { λ r. ⌜ r ≡ unless (leb depth 1) used (goesTo 255 (pos 0) used arc) ⌝ }
 {
     if depth <= 1 {
-        return halts(13, used);
+        return halts(machine::TASK_BLOCKED, used);
     }
     goes(255, 0, used, arc)
 }

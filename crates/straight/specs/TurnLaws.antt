@@ -5,7 +5,7 @@ use mathlib.Core.Path.{_≡_, refl, sym, _∙_, ap}
 use mathlib.Core.List.{List, [], _∷_}
 use lib.ListN.{length, getD, List·getD-map}
 use lib.Seq.{ext-getD}
-use Rattle.table.specs.Table.{noSlot, arcTo, arcNo}
+use Rattle.table.specs.Table.{noSlot, arcTo, arcNo, parts}
 use Rattle.table.specs.declared.Node.{Node}
 use Rattle.table.specs.declared.Node.the-variants.{Absent}
 use Rattle.table.specs.declared.Slot.{Slot}
@@ -15,11 +15,11 @@ use Rattle.straight.specs.Turns.{arcsOf, targetsOf}
 
 -- an absent node has no arc
 pub no-to : arcTo Absent ≡ 0
-unfolding arcTo
+unfolding parts
 no-to = refl
 
 pub no-no : arcNo Absent ≡ 0
-unfolding arcNo
+unfolding parts
 no-no = refl
 
 -- the arc f of each node of a row

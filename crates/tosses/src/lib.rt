@@ -62,12 +62,12 @@ fn toss(arc: u32, keep: u32, values: &[i32], used: usize) -> Chosen
     ensures { λ r. ⌜ r ≡ tossed (members arc) keep (now (values .entry)) used ⌝ }
 {
     if values.len() <= used {
-        return halted(15, used);
+        return halted(machine::VALUES_SPENT, used);
     }
     let x = values[used];
     let j = nth(arc, values::bits_of(x));
     if j == 32 {
-        return halted(16, used);
+        return halted(machine::BAD_TOSS, used);
     }
     meets(j, keep, used + 1)
 }

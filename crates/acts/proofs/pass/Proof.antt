@@ -3,8 +3,9 @@ use mathlib.Core.Path.{ap, _∙_}
 use Prim.Native.Nat.{ℕ}
 use lib.IntN.{ℤ, pos}
 use Rattle.table.specs.Mask.{pick}
+use Rattle.table.specs.Table.{parts}
 use Rattle.table.specs.Values.{apply, holds}
-use Rattle.steps.specs.Cut.{goesTo, passOf}
+use Rattle.steps.specs.Cut.{goesTo, actOf}
 use Rattle.values.proofs.Again.{again, twice}
 use Rattle.acts.proofs.pass.Statement.{statement}
 use Rattle.acts.proofs.pass.Tie as tie
@@ -109,55 +110,55 @@ goes-requires-12 : tie.Need-goes-requires-12
 goes-requires-12 c κs = search needs
 
 returns : tie.Need-returns
-unfolding passOf
+unfolding actOf parts
 returns c = rw ((c .before .enum-told) .given .1) ((c .goes) .ensures)
 
 returns-2 : tie.Need-returns-2
-unfolding passOf
+unfolding actOf parts
 returns-2 c = rw ((c .before .enum-told2) .given .1) ((c .goes2) .ensures)
 
 returns-3 : tie.Need-returns-3
-unfolding passOf
+unfolding actOf parts
 returns-3 c = rw ((c .before .before .before .before .before .x) .given .1) ((c .goes3) .ensures ∙ ap (λ (z : ℤ). goesTo ((c .before .before .before .before .before .x) .given .0 .0) z ((c .before .before .before .before .before .before .before .args) .used) ((c .before .before .before .before .before .x) .given .0 .1 .1 .1 .1 .0)) (again ((c .before .apply) .result) (record { sfits = (c .before .apply) .ok }) ∙ (c .before .apply) .ensures ∙ twice (apply ((c .before .before .before .before .before .x) .given .0 .1 .0)) ((c .before .before .before .operand) .result) ((c .before .before .operand2) .result) (record { sfits = (c .before .before .before .operand) .ok }) (record { sfits = (c .before .before .operand2) .ok }) ((c .before .before .before .operand) .ensures) ((c .before .before .operand2) .ensures)))
 
 returns-4 : tie.Need-returns-4
-unfolding passOf
+unfolding actOf parts
 returns-4 c = rw ((c .before .before .before .before .before .before .x2) .given .1) ((c .goes4) .ensures ∙ ap (λ (a : ℕ). goesTo 255 (pos 0) ((c .before .before .before .before .before .before .before .before .args) .used) a) ((c .before .branch) .ensures ∙ ap (λ (z : ℤ). pick (holds z) ((c .before .before .before .before .before .before .x2) .given .0 .1 .1 .1 .0) ((c .before .before .before .before .before .before .x2) .given .0 .1 .1 .1 .1 .0)) (again ((c .before .before .apply2) .result) (record { sfits = (c .before .before .apply2) .ok }) ∙ (c .before .before .apply2) .ensures ∙ twice (apply ((c .before .before .before .before .before .before .x2) .given .0 .0)) ((c .before .before .before .before .operand3) .result) ((c .before .before .before .operand4) .result) (record { sfits = (c .before .before .before .before .operand3) .ok }) (record { sfits = (c .before .before .before .operand4) .ok }) ((c .before .before .before .before .operand3) .ensures) ((c .before .before .before .operand4) .ensures))))
 
 returns-5 : tie.Need-returns-5
-unfolding passOf
+unfolding actOf parts
 returns-5 c = rw ((c .before .before .x3) .given .1) ((c .read) .ensures)
 
 returns-6 : tie.Need-returns-6
-unfolding passOf
+unfolding actOf parts
 returns-6 c = rw ((c .before .enum-told3) .given .1) ((c .goes5) .ensures)
 
 returns-7 : tie.Need-returns-7
-unfolding passOf
+unfolding actOf parts
 returns-7 c = rw ((c .before .enum-told4) .given .1) ((c .goes6) .ensures)
 
 returns-8 : tie.Need-returns-8
-unfolding passOf
+unfolding actOf parts
 returns-8 c = rw ((c .before .enum-told5) .given .1) ((c .goes7) .ensures)
 
 returns-9 : tie.Need-returns-9
-unfolding passOf
+unfolding actOf parts
 returns-9 c = rw ((c .before .enum-told6) .given .1) ((c .goes8) .ensures)
 
 returns-10 : tie.Need-returns-10
-unfolding passOf
+unfolding actOf parts
 returns-10 c = rw ((c .before .enum-told7) .given .1) ((c .goes9) .ensures)
 
 returns-11 : tie.Need-returns-11
-unfolding passOf
+unfolding actOf parts
 returns-11 c = rw ((c .before .enum-told8) .given .1) ((c .goes10) .ensures)
 
 returns-12 : tie.Need-returns-12
-unfolding passOf
+unfolding actOf parts
 returns-12 c = rw ((c .before .enum-told9) .given .1) ((c .goes11) .ensures)
 
 returns-13 : tie.Need-returns-13
-unfolding passOf
+unfolding actOf parts
 returns-13 c = rw ((c .before .enum-told10) .given .1) ((c .goes12) .ensures)
 
 pub pass-spec : {M : Type 1} → statement M

@@ -1,3 +1,5 @@
+use Rattle.machine.specs.State.{withFrames, withQueues}
+use Rattle.columns.specs.Columns.{stateOf, runningOf}
 use Rattle.columns.proofs.running.Statement.{statement}
 use Rattle.columns.proofs.running.Tie as tie
 
@@ -8,7 +10,12 @@ queues-requires : tie.Need-queues-requires
 queues-requires c κs = ((c .before .pre) .lens, (c .before .pre) .items)
 
 returns : tie.Need-returns
-returns c = let f = (c .before .frames) .ensures in let q = (c .queues) .ensures in λ i. record { steps = (c .before .before .args) .steps; used = (c .before .before .args) .used; stop = (c .before .before .args) .stop; state = record { depth = (c .before .before .args) .depth; lost = (c .before .before .args) .lost; frames = f i; sems = (c .before .before .args) .sems; queues = q i } }
+returns c =
+    let a = c .before .before .args in
+    let s = stateOf (a .depth) (a .lost) (a .procs) (a .nodes) (a .vars) (a .sems) (a .lens) (a .items) in
+    let f = (c .before .frames) .ensures in
+    let q = (c .queues) .ensures in
+    λ i. runningOf (a .steps) (a .used) (a .stop) (withQueues (withFrames s (f i)) (q i))
 
 pub running-spec : {M : Type 1} → statement M
 running-spec =

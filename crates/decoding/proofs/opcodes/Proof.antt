@@ -8,7 +8,7 @@ use Rattle.table.specs.declared.Slot.{Slot}
 use Rattle.masks.specs.Cells.{set-each}
 use Rattle.decoding.specs.MapLaws.{mapped}
 use Rattle.decoding.specs.Decoding.{noOpcode, opcodeOf}
-use Rattle.decoding.specs.declared.Opcode.{Opcode}
+use Rattle.decoding.specs.declared.Decoded.{Decoded}
 use Rattle.decoding.specs.declared.OpcodeSlot.{OpcodeSlot}
 use Rattle.decoding.proofs.opcodes.Statement.{statement}
 use Rattle.decoding.proofs.opcodes.Tie as tie
@@ -31,8 +31,8 @@ mul-s c = search needs
 array-copy-out-s : tie.Need-array-copy-out-s Inv-loop μ-loop
 array-copy-out-s c = search needs
 
-opcode-of-requires : tie.Need-opcode-of-requires Inv-loop μ-loop
-opcode-of-requires c κs = search needs
+decode-requires : tie.Need-decode-requires Inv-loop μ-loop
+decode-requires c κs = search needs
 
 mul-r : tie.Need-mul-r Inv-loop μ-loop
 mul-r c = search needs
@@ -47,7 +47,7 @@ loop-less : tie.Need-loop-less Inv-loop μ-loop
 loop-less c = search needs
 
 loop-again : tie.Need-loop-again Inv-loop μ-loop
-loop-again c = (omega arith, (simp length-set ((c .before .before .before .loop) .inv .1 .0), set-each noOpcode (λ (k : ℕ) (x : OpcodeSlot). x ≡ record { opcode = opcodeOf (getD ((c .before .before .before .before .args) .t1) k noSlot .node) }) ((c .before .before .before .loop) .a) _ ((c .before .before .before .loop) .r) (omega (arith, (c .before .before .before .loop) .inv .1 .0)) (ap (λ (k : Opcode). record { opcode = k }) ((c .opcode-of) .ensures)) ((c .before .before .before .loop) .inv .1 .1)))
+loop-again c = (omega arith, (simp length-set ((c .before .before .before .loop) .inv .1 .0), set-each noOpcode (λ (k : ℕ) (x : OpcodeSlot). x ≡ record { opcode = opcodeOf (getD ((c .before .before .before .before .args) .t1) k noSlot .node) }) ((c .before .before .before .loop) .a) _ ((c .before .before .before .loop) .r) (omega (arith, (c .before .before .before .loop) .inv .1 .0)) (ap (λ (d : Decoded). record { opcode = d .opcode }) ((c .decode) .ensures)) ((c .before .before .before .loop) .inv .1 .1)))
 
 returns : tie.Need-returns Inv-loop μ-loop
 returns c = mapped (λ (s : Slot). record { opcode = opcodeOf (s .node) }) (c .before .before .args .t1) (c .before .loop .r) noSlot noOpcode (c .before .loop .inv .1 .0 ∙ sym (row-256 (c .before .before))) (λ k h. c .before .loop .inv .1 .1 k (omega (arith, row-256 (c .before .before))))
@@ -61,7 +61,7 @@ opcodes-spec =
     loop-holds
     mul-s
     array-copy-out-s
-    opcode-of-requires
+    decode-requires
     mul-r
     array-set-from-r
     add-a

@@ -1,4 +1,4 @@
-use Rattle.labels.specs.Graph.{arcsText}
+use Rattle.table.specs.Table.{parts}
 use mathlib.Core.Path.{refl}
 use native.Mathlib.Omega.{arith}
 use borrow.Author.Needs.{needs}
@@ -78,88 +78,88 @@ enum-told-2 : tie.Need-enum-told-2
 enum-told-2 c = search needs
 
 returns : tie.Need-returns
-unfolding arcsText
+unfolding parts
 returns c = rw (c .enum-told .given .1) (record { few = omega arith; bytes = refl; same = refl; next = omega arith })
 
 same-length : tie.Need-same-length
 same-length c = search needs
 
 returns-2 : tie.Need-returns-2
-unfolding arcsText
+unfolding parts
 returns-2 c = rw (c .before .before .before .before .before .x .given .1) (c .before .before .put-plain .ensures)
 
 same-length-2 : tie.Need-same-length-2
 same-length-2 c = search needs
 
 returns-3 : tie.Need-returns-3
-unfolding arcsText
+unfolding parts
 returns-3 c = rw (c .before .before .before .before .before .x2 .given .1) (c .before .before .put-plain2 .ensures)
 
 same-length-3 : tie.Need-same-length-3
 same-length-3 c = search needs
 
 returns-4 : tie.Need-returns-4
-unfolding arcsText
+unfolding parts
 returns-4 c = rw (c .before .before .before .before .before .x3 .given .1) (c .before .before .put-arms .ensures)
 
 same-length-4 : tie.Need-same-length-4
 same-length-4 c = search needs
 
 returns-5 : tie.Need-returns-5
-unfolding arcsText
+unfolding parts
 returns-5 c = rw (c .before .before .before .before .before .x4 .given .1) (c .before .before .put-plain3 .ensures)
 
 same-length-5 : tie.Need-same-length-5
 same-length-5 c = search needs
 
 returns-6 : tie.Need-returns-6
-unfolding arcsText
+unfolding parts
 returns-6 c = rw (c .before .before .before .before .before .x5 .given .1) (c .before .before .put-plain4 .ensures)
 
 same-length-6 : tie.Need-same-length-6
 same-length-6 c = search needs
 
 returns-7 : tie.Need-returns-7
-unfolding arcsText
+unfolding parts
 returns-7 c = rw (c .before .before .before .before .before .x6 .given .1) (c .before .before .put-plain5 .ensures)
 
 same-length-7 : tie.Need-same-length-7
 same-length-7 c = search needs
 
 returns-8 : tie.Need-returns-8
-unfolding arcsText
+unfolding parts
 returns-8 c = rw (c .before .before .before .before .before .x7 .given .1) (c .before .before .put-plain6 .ensures)
 
 same-length-8 : tie.Need-same-length-8
 same-length-8 c = search needs
 
 returns-9 : tie.Need-returns-9
-unfolding arcsText
+unfolding parts
 returns-9 c = rw (c .before .before .before .before .before .x8 .given .1) (c .before .before .put-plain7 .ensures)
 
 same-length-9 : tie.Need-same-length-9
 same-length-9 c = search needs
 
 returns-10 : tie.Need-returns-10
-unfolding arcsText
+unfolding parts
 returns-10 c = rw (c .before .before .before .before .before .x9 .given .1) (c .before .before .put-plain8 .ensures)
 
 same-length-10 : tie.Need-same-length-10
 same-length-10 c = search needs
 
 returns-11 : tie.Need-returns-11
-unfolding arcsText
+unfolding parts
 returns-11 c = rw (c .before .before .before .before .before .x10 .given .1) (c .before .before .put-plain9 .ensures)
 
 same-length-11 : tie.Need-same-length-11
 same-length-11 c = search needs
 
 returns-12 : tie.Need-returns-12
-unfolding arcsText
+unfolding parts
 returns-12 c = rw (c .before .before .before .before .before .x11 .given .1) (c .before .before .put-plain10 .ensures)
 
 returns-13 : tie.Need-returns-13
-unfolding arcsText
+unfolding parts
 returns-13 c = rw (c .enum-told2 .given .1) (record { few = omega arith; bytes = refl; same = refl; next = omega arith })
 
 pub put-arcs-spec : {M : Type 1} → statement M

@@ -1,4 +1,5 @@
 use Rattle.labels.specs.Label.{nodeSays}
+use Rattle.node_lines.specs.NodeLineLaws.{few-call}
 use mathlib.Core.Path.{refl}
 use native.Mathlib.Omega.{arith}
 use borrow.Author.Needs.{needs}
@@ -42,7 +43,7 @@ enum-known-x-4 : tie.Need-enum-known-x-4
 enum-known-x-4 c = search needs
 
 put-call-requires : tie.Need-put-call-requires
-put-call-requires c κs = (omega arith, rw (c .before .before .x4 .given .1) at (c .before .before .before .before .before .pre .1))
+put-call-requires c κs = (omega arith, few-call (c .before .before .x4 .given .1) (c .before .before .before .before .before .pre .1))
 
 enum-known-x-5 : tie.Need-enum-known-x-5
 enum-known-x-5 c = search needs

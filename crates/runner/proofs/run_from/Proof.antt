@@ -8,11 +8,12 @@ use lib.ListN.{length, getD, set, drop}
 use lib.Seq.{sets}
 use lib.IntN.{ℤ}
 use Rattle.table.specs.Mask.{pick}
-use Rattle.table.specs.Table.{noSlot, arcTo, arcNo}
+use Rattle.table.specs.Table.{noSlot, arcTo, arcNo, act}
 use Rattle.table.specs.declared.Node.{Node}
 use Rattle.machine.specs.declared.State.{State}
 use Rattle.machine.specs.Step.{keptIn}
-use Rattle.machine.specs.Run.{word, Ran, runFrom}
+use Rattle.machine.specs.Run.{word, Ran}
+use Rattle.machine.specs.RunLaws.{runFrom}
 use Rattle.steps.specs.Cut.{triedOf, flagOf, bitsOf, underOf}
 use Rattle.values.proofs.Again.{again}
 use Rattle.decoding.specs.Decoding.{noOpcode, bareOf, bare}
@@ -25,7 +26,7 @@ use Rattle.straight.specs.Turns.{Columns, columns, turn, triedTurn, Lands}
 use Rattle.straight.specs.TurnLaws.{no-to, no-no}
 use Rattle.runner.proofs.Turns.{Ends, within, rest-less}
 use Rattle.runner.proofs.Stores.{state-of, shape-of, proc-in, node-in}
-use Rattle.runner.proofs.Decoded.{decoded-at, bare-turn}
+use Rattle.runner.proofs.Decoded.{decoded-at, bare-as}
 use Rattle.runner.proofs.Directs.{leads-straight}
 use Rattle.runner.proofs.Holds.{Setting, Known, Here, task, depthIn, withCols, Walking, Held, Stopped, behind, answers, at-last, Clear, stop-before, clear-before, Stands, Waits, stood, a-low, x-placed, vars-long, node-lt, cols-left, waits-left, done-next, g-low, p-low, q-low, stop-act, walk-starts, walk-next, ends-met, ends-out, ends-stopped, stop-walk, lands, land-next}
 use Rattle.runner.proofs.run_from.Statement.{statement}
@@ -33,7 +34,7 @@ use Rattle.runner.proofs.run_from.Tie as tie
 
 abbrev Inv-loop2 : tie.InvT-loop2
 Inv-loop2 t before schedule values most log keep row arcs targets no-targets opcodes numbers consts caps proc node vars lens rows depth lost sems w₀ rest at used k b i d f tp tn a back g p q o pi kp far₀ arc₀ us₀ m₀ w far arc us m =
-    Walking t values p most (set (getD vars g []) (o .var) (o .value)) o far w arc us m
+    Walking t k values p most (set (getD vars g []) (o .var) (o .value)) o far w arc us m
 
 abbrev μ-loop2 : tie.MeasureT-loop2
 μ-loop2 t before schedule values most log keep row arcs targets no-targets opcodes numbers consts caps proc node vars lens rows depth lost sems w₀ rest at used k b i d f tp tn a back g p q o pi kp far₀ arc₀ us₀ m₀ w far arc us m =
@@ -98,7 +99,7 @@ abbrev M : (c : tie.After-direct Inv-loop2 μ-loop2 Inv-loop μ-loop) → Column
 M c = columns ((c .direct) .last .1 .1 .1 .1 .1 .1 .1 .1 .1 .1 .0) ((c .direct) .last .1 .1 .1 .1 .1 .1 .1 .1 .1 .1 .1 .0) ((c .direct) .last .1 .1 .1 .1 .1 .1 .1 .1 .1 .1 .1 .1 .0) ((c .direct) .last .1 .1 .1 .1 .1 .1 .1 .1 .1 .1 .1 .1 .1 .0) ((c .direct) .last .1 .1 .1 .1 .1 .1 .1 .1 .1 .1 .1 .1 .1 .1 .0) ((c .direct) .last .1 .1 .1 .1 .1 .1 .1 .1 .1 .1 .1 .1 .1 .1 .1 .0) ((c .direct) .last .1 .1 .1 .1 .1 .1 .1 .1 .1 .1 .1 .1 .1 .1 .1 .1 .1 .0)
 
 tried : (c : tie.After-direct Inv-loop2 μ-loop2 Inv-loop μ-loop) → turn ((c .direct) .result) (M c) ≡ triedTurn (X (c .before .before .before .before .before .before .before .before .before .before .before .before .before)) (getD ((c .before .before .before .before .before .before .before .before .before .before .before .before .before .before .before .before .before .before .before .before .before .before .before .before .before .before .before .before .before .before .before .before .before .before .before .before .before .before .targets) .result) (32 * getD ((c .before .before .before .before .before .before .before .before .before .before .before .before .before .before .before .before .before .before .before .before .loop) .proc) ((c .before .before .before .before .before .before .before .before .before .before .before .before .before .before .top-of) .result) 0 + getD ((c .before .before .before .before .before .before .before .before .before .before .before .before .before .before .before .before .before .before .before .before .loop) .node) ((c .before .before .before .before .before .before .before .before .before .before .before .before .before .before .top-of) .result) 0) 0) (getD ((c .before .before .before .before .before .before .before .before .before .before .before .before .before .before .before .before .before .before .before .before .before .before .before .before .before .before .before .before .before .before .before .before .before .before .targets2) .result) (32 * getD ((c .before .before .before .before .before .before .before .before .before .before .before .before .before .before .before .before .before .before .before .before .loop) .proc) ((c .before .before .before .before .before .before .before .before .before .before .before .before .before .before .top-of) .result) 0 + getD ((c .before .before .before .before .before .before .before .before .before .before .before .before .before .before .before .before .before .before .before .before .loop) .node) ((c .before .before .before .before .before .before .before .before .before .before .before .before .before .before .top-of) .result) 0) 0) ((c .before .before .before .before .before .before .before .before .before .before .before .before .before .before .before .before .before .before .before .before .before .before .before .before .before .before .before .before .before .before .before .before .before .before .before .before .before .before .targets) .result) ((c .before .before .before .before .before .before .before .before .before .before .before .before .before .before .before .before .before .before .before .before .before .before .before .before .before .before .before .before .before .before .caps) .result) (task (Now (c .before .before .before .before .before .before .before .before .before .before .before .before .before .before .before .before .before .before .before .before))) ((c .before .before .before .before .before .before .before .before .before .before .before .before .before .before .top-of) .result) (depthIn (Now (c .before .before .before .before .before .before .before .before .before .before .before .before .before .before .before .before .before .before .before .before))) (Now (c .before .before .before .before .before .before .before .before .before .before .before .before .before .before .before .before .before .before .before .before) .cols)
-tried c = (c .direct) .ensures ∙ ap (λ (x : Node). triedTurn x (getD ((c .before .before .before .before .before .before .before .before .before .before .before .before .before .before .before .before .before .before .before .before .before .before .before .before .before .before .before .before .before .before .before .before .before .before .before .before .before .before .targets) .result) ((c .before .before .before .before .before .before .before .before .before .before .before .before .before .place) .result) 0) (getD ((c .before .before .before .before .before .before .before .before .before .before .before .before .before .before .before .before .before .before .before .before .before .before .before .before .before .before .before .before .before .before .before .before .before .before .targets2) .result) ((c .before .before .before .before .before .before .before .before .before .before .before .before .before .place) .result) 0) ((c .before .before .before .before .before .before .before .before .before .before .before .before .before .before .before .before .before .before .before .before .before .before .before .before .before .before .before .before .before .before .before .before .before .before .before .before .before .before .targets) .result) ((c .before .before .before .before .before .before .before .before .before .before .before .before .before .before .before .before .before .before .before .before .before .before .before .before .before .before .before .before .before .before .caps) .result) (task (Now (c .before .before .before .before .before .before .before .before .before .before .before .before .before .before .before .before .before .before .before .before))) ((c .before .before .before .before .before .before .before .before .before .before .before .before .before .before .top-of) .result) (depthIn (Now (c .before .before .before .before .before .before .before .before .before .before .before .before .before .before .before .before .before .before .before .before))) (Now (c .before .before .before .before .before .before .before .before .before .before .before .before .before .before .before .before .before .before .before .before) .cols)) (decoded (c .before .before .before .before .before .before .before .before .before .before .before .before .before)) ∙ bare-turn (getD ((c .before .before .before .before .before .before .before .before .before .before .before .before .before .before .before .before .before .before .before .before .before .before .before .before .before .before .before .before .before .before .before .before .before .before .before .before .before .before .targets) .result) ((c .before .before .before .before .before .before .before .before .before .before .before .before .before .place) .result) 0) (getD ((c .before .before .before .before .before .before .before .before .before .before .before .before .before .before .before .before .before .before .before .before .before .before .before .before .before .before .before .before .before .before .before .before .before .before .targets2) .result) ((c .before .before .before .before .before .before .before .before .before .before .before .before .before .place) .result) 0) ((c .before .before .before .before .before .before .before .before .before .before .before .before .before .before .before .before .before .before .before .before .before .before .before .before .before .before .before .before .before .before .before .before .before .before .before .before .before .before .targets) .result) ((c .before .before .before .before .before .before .before .before .before .before .before .before .before .before .before .before .before .before .before .before .before .before .before .before .before .before .before .before .before .before .caps) .result) (task (Now (c .before .before .before .before .before .before .before .before .before .before .before .before .before .before .before .before .before .before .before .before))) ((c .before .before .before .before .before .before .before .before .before .before .before .before .before .before .top-of) .result) (depthIn (Now (c .before .before .before .before .before .before .before .before .before .before .before .before .before .before .before .before .before .before .before .before))) (Now (c .before .before .before .before .before .before .before .before .before .before .before .before .before .before .before .before .before .before .before .before) .cols) (vars-long (S (c .before .before .before .before .before .before .before .before .before .before .before .before .before .before .before .before .before .before .before .before)) (whole (c .before .before .before .before .before .before .before .before .before .before .before .before .before .before .before .before .before .before .before .before)) (size (c .before .before .before .before .before .before .before .before .before .before .before .before .before .before .before .before .before .before .before .before)) (K (c .before .before .before .before .before .before .before .before .before .before .before .before .before .before .before .before .before .before .before .before)) (Now (c .before .before .before .before .before .before .before .before .before .before .before .before .before .before .before .before .before .before .before .before)) ((c .before .before .before .before .before .before .before .before .before .before .before .before .before .before .top-of) .result) (X (c .before .before .before .before .before .before .before .before .before .before .before .before .before)) (st (c .before .before .before .before .before .before .before .before .before .before .before .before .before)) ((c .before .before .before .before .before .before .before .before .before .before .before .before .before .before .top-of) .result) (f-below (c .before .before .before .before .before .before .before .before .before .before .before .before .before .before))) (X (c .before .before .before .before .before .before .before .before .before .before .before .before .before)) ∙ ap (λ (i : ℕ). triedTurn (X (c .before .before .before .before .before .before .before .before .before .before .before .before .before)) (getD ((c .before .before .before .before .before .before .before .before .before .before .before .before .before .before .before .before .before .before .before .before .before .before .before .before .before .before .before .before .before .before .before .before .before .before .before .before .before .before .targets) .result) i 0) (getD ((c .before .before .before .before .before .before .before .before .before .before .before .before .before .before .before .before .before .before .before .before .before .before .before .before .before .before .before .before .before .before .before .before .before .before .targets2) .result) i 0) ((c .before .before .before .before .before .before .before .before .before .before .before .before .before .before .before .before .before .before .before .before .before .before .before .before .before .before .before .before .before .before .before .before .before .before .before .before .before .before .targets) .result) ((c .before .before .before .before .before .before .before .before .before .before .before .before .before .before .before .before .before .before .before .before .before .before .before .before .before .before .before .before .before .before .caps) .result) (task (Now (c .before .before .before .before .before .before .before .before .before .before .before .before .before .before .before .before .before .before .before .before))) ((c .before .before .before .before .before .before .before .before .before .before .before .before .before .before .top-of) .result) (depthIn (Now (c .before .before .before .before .before .before .before .before .before .before .before .before .before .before .before .before .before .before .before .before))) (Now (c .before .before .before .before .before .before .before .before .before .before .before .before .before .before .before .before .before .before .before .before) .cols)) ((c .before .before .before .before .before .before .before .before .before .before .before .before .before .place) .ensures)
+tried c = (c .direct) .ensures ∙ ap (λ (x : Node). triedTurn x (getD ((c .before .before .before .before .before .before .before .before .before .before .before .before .before .before .before .before .before .before .before .before .before .before .before .before .before .before .before .before .before .before .before .before .before .before .before .before .before .before .targets) .result) ((c .before .before .before .before .before .before .before .before .before .before .before .before .before .place) .result) 0) (getD ((c .before .before .before .before .before .before .before .before .before .before .before .before .before .before .before .before .before .before .before .before .before .before .before .before .before .before .before .before .before .before .before .before .before .before .targets2) .result) ((c .before .before .before .before .before .before .before .before .before .before .before .before .before .place) .result) 0) ((c .before .before .before .before .before .before .before .before .before .before .before .before .before .before .before .before .before .before .before .before .before .before .before .before .before .before .before .before .before .before .before .before .before .before .before .before .before .before .targets) .result) ((c .before .before .before .before .before .before .before .before .before .before .before .before .before .before .before .before .before .before .before .before .before .before .before .before .before .before .before .before .before .before .caps) .result) (task (Now (c .before .before .before .before .before .before .before .before .before .before .before .before .before .before .before .before .before .before .before .before))) ((c .before .before .before .before .before .before .before .before .before .before .before .before .before .before .top-of) .result) (depthIn (Now (c .before .before .before .before .before .before .before .before .before .before .before .before .before .before .before .before .before .before .before .before))) (Now (c .before .before .before .before .before .before .before .before .before .before .before .before .before .before .before .before .before .before .before .before) .cols)) (decoded (c .before .before .before .before .before .before .before .before .before .before .before .before .before)) ∙ bare-as (X (c .before .before .before .before .before .before .before .before .before .before .before .before .before)) .turn (getD ((c .before .before .before .before .before .before .before .before .before .before .before .before .before .before .before .before .before .before .before .before .before .before .before .before .before .before .before .before .before .before .before .before .before .before .before .before .before .before .targets) .result) ((c .before .before .before .before .before .before .before .before .before .before .before .before .before .place) .result) 0) (getD ((c .before .before .before .before .before .before .before .before .before .before .before .before .before .before .before .before .before .before .before .before .before .before .before .before .before .before .before .before .before .before .before .before .before .before .targets2) .result) ((c .before .before .before .before .before .before .before .before .before .before .before .before .before .place) .result) 0) ((c .before .before .before .before .before .before .before .before .before .before .before .before .before .before .before .before .before .before .before .before .before .before .before .before .before .before .before .before .before .before .before .before .before .before .before .before .before .before .targets) .result) ((c .before .before .before .before .before .before .before .before .before .before .before .before .before .before .before .before .before .before .before .before .before .before .before .before .before .before .before .before .before .before .caps) .result) (task (Now (c .before .before .before .before .before .before .before .before .before .before .before .before .before .before .before .before .before .before .before .before))) ((c .before .before .before .before .before .before .before .before .before .before .before .before .before .before .top-of) .result) (depthIn (Now (c .before .before .before .before .before .before .before .before .before .before .before .before .before .before .before .before .before .before .before .before))) (Now (c .before .before .before .before .before .before .before .before .before .before .before .before .before .before .before .before .before .before .before .before) .cols) (vars-long (S (c .before .before .before .before .before .before .before .before .before .before .before .before .before .before .before .before .before .before .before .before)) (whole (c .before .before .before .before .before .before .before .before .before .before .before .before .before .before .before .before .before .before .before .before)) (size (c .before .before .before .before .before .before .before .before .before .before .before .before .before .before .before .before .before .before .before .before)) (K (c .before .before .before .before .before .before .before .before .before .before .before .before .before .before .before .before .before .before .before .before)) (Now (c .before .before .before .before .before .before .before .before .before .before .before .before .before .before .before .before .before .before .before .before)) ((c .before .before .before .before .before .before .before .before .before .before .before .before .before .before .top-of) .result) (X (c .before .before .before .before .before .before .before .before .before .before .before .before .before)) (st (c .before .before .before .before .before .before .before .before .before .before .before .before .before)) ((c .before .before .before .before .before .before .before .before .before .before .before .before .before .before .top-of) .result) (f-below (c .before .before .before .before .before .before .before .before .before .before .before .before .before .before))) ∙ ap (λ (i : ℕ). triedTurn (X (c .before .before .before .before .before .before .before .before .before .before .before .before .before)) (getD ((c .before .before .before .before .before .before .before .before .before .before .before .before .before .before .before .before .before .before .before .before .before .before .before .before .before .before .before .before .before .before .before .before .before .before .before .before .before .before .targets) .result) i 0) (getD ((c .before .before .before .before .before .before .before .before .before .before .before .before .before .before .before .before .before .before .before .before .before .before .before .before .before .before .before .before .before .before .before .before .before .before .targets2) .result) i 0) ((c .before .before .before .before .before .before .before .before .before .before .before .before .before .before .before .before .before .before .before .before .before .before .before .before .before .before .before .before .before .before .before .before .before .before .before .before .before .before .targets) .result) ((c .before .before .before .before .before .before .before .before .before .before .before .before .before .before .before .before .before .before .before .before .before .before .before .before .before .before .before .before .before .before .caps) .result) (task (Now (c .before .before .before .before .before .before .before .before .before .before .before .before .before .before .before .before .before .before .before .before))) ((c .before .before .before .before .before .before .before .before .before .before .before .before .before .before .top-of) .result) (depthIn (Now (c .before .before .before .before .before .before .before .before .before .before .before .before .before .before .before .before .before .before .before .before))) (Now (c .before .before .before .before .before .before .before .before .before .before .before .before .before .before .before .before .before .before .before .before) .cols)) ((c .before .before .before .before .before .before .before .before .before .before .before .before .before .place) .ensures)
 
 abbrev Left : (c : tie.After-direct Inv-loop2 μ-loop2 Inv-loop μ-loop) → Here
 Left c = withCols (Now (c .before .before .before .before .before .before .before .before .before .before .before .before .before .before .before .before .before .before .before .before)) (M c)
@@ -130,7 +131,7 @@ ahead-long c = ap length (ahead-is c) ∙ (c .before .before .before .before .be
 d-below : (c : tie.After-place3 Inv-loop2 μ-loop2 Inv-loop μ-loop) → (c .place3) .result < 256
 d-below c = omega (arith, (c .place3) .ensures, p-low (S (c .before .before .before .before .before .before .before .before .before .before .before .before .before .before .before .before .before .before .before .before .before .before .before .before .before .before .before .before .before .before .before .before .before .before .before .before .before .before .before .before .before .before)) (whole (c .before .before .before .before .before .before .before .before .before .before .before .before .before .before .before .before .before .before .before .before .before .before .before .before .before .before .before .before .before .before .before .before .before .before .before .before .before .before .before .before .before .before)) (size (c .before .before .before .before .before .before .before .before .before .before .before .before .before .before .before .before .before .before .before .before .before .before .before .before .before .before .before .before .before .before .before .before .before .before .before .before .before .before .before .before .before .before)) (K (c .before .before .before .before .before .before .before .before .before .before .before .before .before .before .before .before .before .before .before .before .before .before .before .before .before .before .before .before .before .before .before .before .before .before .before .before .before .before .before .before .before .before)) (Left (c .before .before .before .before .before .before .before .before .before .before .before .before .before .before .before .before .before .before .before .before .before .before)) ((c .before .before .before .before .before .before .before .before .before .before .before .before .before .before .before .before .before .before .before .before .before .before .before .before .before .before .before .before .before .before .before .before .before .before .before .before .top-of) .result) (X (c .before .before .before .before .before .before .before .before .before .before .before .before .before .before .before .before .before .before .before .before .before .before .before .before .before .before .before .before .before .before .before .before .before .before .before)) (wt (c .before .before .before .before .before .before .before .before .before .before .before .before .before .before .before .before .before .before .before .before .before)) ((c .before .before .before .before .before .before .before .before .before .before .before .before .before .before .before .before .before .before .before .closes) .result) ((c .before .before .before .before .before .before .before .before .before .before .before .before .before .before .before .before .before .before .under) .result) ((c .before .before .before .before .before .before .before .before .before .before .before .before .before .before .before .before .before .before .before .closes) .ensures) (g-is (c .before .before .before .before .before .before .before .before .before .before .before .before .before .before .before .before .before .before)), arrived _ _ _ _ ((c .before .before .before .before .before .before .before .before .loop2) .inv .within) ((c .before .before .before .before .before .before .before .arrive) .ensures) .sound .place)
 
-ends : (c : tie.Joined5 Inv-loop2 μ-loop2 Inv-loop μ-loop) → Ends ((c .before .before .before .before .before .before .before .before .before .before .before .before .before .before .before .before .before .before .before .before .before .before .before .before .before .before .before .before .before .before .before .before .before .before .before .before .before .before .before .before .before .before .before .before .before .before .before .before .before .before .before .before .before .before .before .before .before .before .before .before .before .args) .t) ((c .before .before .before .before .before .before .before .before .before .before .before .before .before .before .before .before .before .before .before .before .before .before .before .before .before .before .before .before .before .before .before .before .before .before .before .before .before .before .before .before .before .before .before .before .before .before .before .before .before .before .before .before .before .before .before .before .before .before .before .before .before .args) .t2) (K (c .before .before .before .before .before .before .before .before .before .before .before .before .before .before .before .before .before .before .before .before .before .before .before .before .before .before .before .before .before .before .before .before .before .before .before .before) .ready) ((c .before .before .before .before .before .before .before .before .before .before .before .before .before .before .before .before .before .before .before .before .before .before .before .before .before .before .before .before .before .before .before .before .before .before .before .before .before .before .before .before .before .before .before .before .before .before .before .before .before .before .before .before .before .before .before .before .before .before .before .before .before .args) .most) ((c .before .before .before .before .before .before .before .before .before .before .before .before .before .before .before .before .before .before .before .before .before .before .before .before .before .before .before .before .before .before .before .before .before .before .before .before .before .before .before .before .before .before .before .before .before .before .before .before .before .before .before .before .before .before .before .before .before .before .before .before .before .args) .values .now) (getD ((c .before .before .before .before .before .before .before .before .before .before .before .before .before .before .before .before .direct) .last .1 .1 .1 .1 .1 .1 .1 .1 .1 .1 .1 .0) ((c .before .before .before .before .before .before .before .before .before .before .before .before .under) .result) 0) ((c .before .before .loop2) .m) (pick ((c .before .before .loop2) .far) ((c .before .before .loop2) .w) (set (getD ((c .before .before .before .before .before .before .before .before .before .before .before .before .before .before .before .before .direct) .last .1 .1 .1 .1 .1 .1 .1 .1 .1 .1 .1 .1 .1 .0) ((c .before .before .before .before .before .before .before .before .before .before .before .before .under) .result) []) ((c .before .before .before .before .before .act) .result .var) ((c .before .before .before .before .before .act) .result .value))) ((c .before .before .loop2) .arc) ((c .before .before .loop2) .us) ((c .if5) .z)
+ends : (c : tie.Joined5 Inv-loop2 μ-loop2 Inv-loop μ-loop) → Ends ((c .before .before .before .before .before .before .before .before .before .before .before .before .before .before .before .before .before .before .before .before .before .before .before .before .before .before .before .before .before .before .before .before .before .before .before .before .before .before .before .before .before .before .before .before .before .before .before .before .before .before .before .before .before .before .before .before .before .before .before .before .before .args) .t) ((c .before .before .before .before .before .before .before .before .before .before .before .before .before .before .before .before .before .before .before .before .before .before .before .before .before .before .before .before .before .before .before .before .before .before .before .before .before .before .before .before .before .before .before .before .before .before .before .before .before .before .before .before .before .before .before .before .before .before .before .before .before .args) .t2) (K (c .before .before .before .before .before .before .before .before .before .before .before .before .before .before .before .before .before .before .before .before .before .before .before .before .before .before .before .before .before .before .before .before .before .before .before .before) .ready) ((c .before .before .before .before .before .before .before .before .before .before .before .before .before .before .before .before .before .before .before .before .before .before .before .before .before .before .before .before .before .before .before .before .before .before .before .before .before .before .before .before .before .before .before .before .before .before .before .before .before .before .before .before .before .before .before .before .before .before .before .before .before .args) .most) ((c .before .before .before .before .before .before .before .before .before .before .before .before .before .before .before .before .before .before .before .before .before .before .before .before .before .before .before .before .before .before .before .before .before .before .before .before .before .before .before .before .before .before .before .before .before .before .before .before .before .before .before .before .before .before .before .before .before .before .before .before .before .args) .values .now) (task (Left (c .before .before .before .before .before .before .before .before .before .before .before .before .before .before .before .before))) (getD ((c .before .before .before .before .before .before .before .before .before .before .before .before .before .before .before .before .direct) .last .1 .1 .1 .1 .1 .1 .1 .1 .1 .1 .1 .0) ((c .before .before .before .before .before .before .before .before .before .before .before .before .under) .result) 0) ((c .before .before .loop2) .m) (pick ((c .before .before .loop2) .far) ((c .before .before .loop2) .w) (set (getD ((c .before .before .before .before .before .before .before .before .before .before .before .before .before .before .before .before .direct) .last .1 .1 .1 .1 .1 .1 .1 .1 .1 .1 .1 .1 .1 .0) ((c .before .before .before .before .before .before .before .before .before .before .before .before .under) .result) []) ((c .before .before .before .before .before .act) .result .var) ((c .before .before .before .before .before .act) .result .value))) ((c .before .before .loop2) .arc) ((c .before .before .loop2) .us) ((c .if5) .z)
 ends c =
     ⊎-elim (λ w. ends-met (S (c .before .before .before .before .before .before .before .before .before .before .before .before .before .before .before .before .before .before .before .before .before .before .before .before .before .before .before .before .before .before .before .before .before .before .before .before)) (whole (c .before .before .before .before .before .before .before .before .before .before .before .before .before .before .before .before .before .before .before .before .before .before .before .before .before .before .before .before .before .before .before .before .before .before .before .before)) (size (c .before .before .before .before .before .before .before .before .before .before .before .before .before .before .before .before .before .before .before .before .before .before .before .before .before .before .before .before .before .before .before .before .before .before .before .before)) (K (c .before .before .before .before .before .before .before .before .before .before .before .before .before .before .before .before .before .before .before .before .before .before .before .before .before .before .before .before .before .before .before .before .before .before .before .before)) (Left (c .before .before .before .before .before .before .before .before .before .before .before .before .before .before .before .before)) ((c .before .before .before .before .before .before .before .before .before .before .before .before .before .before .before .before .before .before .before .before .before .before .before .before .before .before .before .before .before .before .top-of) .result) (X (c .before .before .before .before .before .before .before .before .before .before .before .before .before .before .before .before .before .before .before .before .before .before .before .before .before .before .before .before .before)) (wt (c .before .before .before .before .before .before .before .before .before .before .before .before .before .before .before)) ((c .before .before .before .before .before .before .before .before .before .before .before .before .before .closes) .result) ((c .before .before .before .before .before .before .before .before .before .before .before .before .under) .result) ((c .before .before .before .before .before .before .before .before .before .before .before .before .before .closes) .ensures) (g-is (c .before .before .before .before .before .before .before .before .before .before .before .before)) ((c .before .before .before .before .before .act) .result) (acts (c .before .before .before .before .before)) ((c .before .before .loop2) .far) ((c .before .before .loop2) .w) ((c .before .before .loop2) .arc) ((c .before .before .loop2) .us) ((c .before .before .loop2) .m) ((c .before .before .loop2) .inv) ((c .before .arrive) .result) ((c .before .arrive) .ensures) ((c .if5) .z) (w .0 .taken) (w .3))
     (⊎-elim (λ w. ends-out (S (c .before .before .before .before .before .before .before .before .before .before .before .before .before .before .before .before .before .before .before .before .before .before .before .before .before .before .before .before .before .before .before .before .before .before .before .before)) (whole (c .before .before .before .before .before .before .before .before .before .before .before .before .before .before .before .before .before .before .before .before .before .before .before .before .before .before .before .before .before .before .before .before .before .before .before .before)) (size (c .before .before .before .before .before .before .before .before .before .before .before .before .before .before .before .before .before .before .before .before .before .before .before .before .before .before .before .before .before .before .before .before .before .before .before .before)) (K (c .before .before .before .before .before .before .before .before .before .before .before .before .before .before .before .before .before .before .before .before .before .before .before .before .before .before .before .before .before .before .before .before .before .before .before .before)) (Left (c .before .before .before .before .before .before .before .before .before .before .before .before .before .before .before .before)) ((c .before .before .before .before .before .before .before .before .before .before .before .before .before .before .before .before .before .before .before .before .before .before .before .before .before .before .before .before .before .before .top-of) .result) (X (c .before .before .before .before .before .before .before .before .before .before .before .before .before .before .before .before .before .before .before .before .before .before .before .before .before .before .before .before .before)) (wt (c .before .before .before .before .before .before .before .before .before .before .before .before .before .before .before)) ((c .before .before .before .before .before .before .before .before .before .before .before .before .before .closes) .result) ((c .before .before .before .before .before .before .before .before .before .before .before .before .under) .result) ((c .before .before .before .before .before .before .before .before .before .before .before .before .before .closes) .ensures) (g-is (c .before .before .before .before .before .before .before .before .before .before .before .before)) ((c .before .before .before .before .before .act) .result) (acts (c .before .before .before .before .before)) ((c .before .before .loop2) .far) ((c .before .before .loop2) .w) ((c .before .before .loop2) .arc) ((c .before .before .loop2) .us) ((c .before .before .loop2) .m) ((c .before .before .loop2) .inv) ((c .before .arrive) .result) ((c .before .arrive) .ensures) ((c .if5) .z) (w .2 .result) (w .0 .left) (w .1 .taken) (w .2 .ensures) (w .5))
@@ -313,7 +314,7 @@ index-1-act : tie.Need-index-1-act Inv-loop2 μ-loop2 Inv-loop μ-loop
 index-1-act c = g-low (S (c .before .before .before .before .before .before .before .before .before .before .before .before .before .before .before .before .before .before .before .before .before .before .before .before .before)) (whole (c .before .before .before .before .before .before .before .before .before .before .before .before .before .before .before .before .before .before .before .before .before .before .before .before .before)) (size (c .before .before .before .before .before .before .before .before .before .before .before .before .before .before .before .before .before .before .before .before .before .before .before .before .before)) (K (c .before .before .before .before .before .before .before .before .before .before .before .before .before .before .before .before .before .before .before .before .before .before .before .before .before)) (Left (c .before .before .before .before .before)) ((c .before .before .before .before .before .before .before .before .before .before .before .before .before .before .before .before .before .before .before .top-of) .result) (X (c .before .before .before .before .before .before .before .before .before .before .before .before .before .before .before .before .before .before)) (wt (c .before .before .before .before)) ((c .before .before .closes) .result) ((c .before .under) .result) ((c .before .before .closes) .ensures) (g-is (c .before))
 
 act-requires : tie.Need-act-requires Inv-loop2 μ-loop2 Inv-loop μ-loop
-act-requires c κs = (within (X (c .before .before .before .before .before .before .before .before .before .before .before .before .before .before .before .before .before .before .before .before .before .before .before)) (x-placed (S (c .before .before .before .before .before .before .before .before .before .before .before .before .before .before .before .before .before .before .before .before .before .before .before .before .before .before .before .before .before .before)) (whole (c .before .before .before .before .before .before .before .before .before .before .before .before .before .before .before .before .before .before .before .before .before .before .before .before .before .before .before .before .before .before)) (size (c .before .before .before .before .before .before .before .before .before .before .before .before .before .before .before .before .before .before .before .before .before .before .before .before .before .before .before .before .before .before)) (K (c .before .before .before .before .before .before .before .before .before .before .before .before .before .before .before .before .before .before .before .before .before .before .before .before .before .before .before .before .before .before)) (Left (c .before .before .before .before .before .before .before .before .before .before)) ((c .before .before .before .before .before .before .before .before .before .before .before .before .before .before .before .before .before .before .before .before .before .before .before .before .top-of) .result) (X (c .before .before .before .before .before .before .before .before .before .before .before .before .before .before .before .before .before .before .before .before .before .before .before)) (wt (c .before .before .before .before .before .before .before .before .before) .stands)), (vars-long (S (c .before .before .before .before .before .before .before .before .before .before .before .before .before .before .before .before .before .before .before .before .before .before .before .before .before .before .before .before .before .before)) (whole (c .before .before .before .before .before .before .before .before .before .before .before .before .before .before .before .before .before .before .before .before .before .before .before .before .before .before .before .before .before .before)) (size (c .before .before .before .before .before .before .before .before .before .before .before .before .before .before .before .before .before .before .before .before .before .before .before .before .before .before .before .before .before .before)) (K (c .before .before .before .before .before .before .before .before .before .before .before .before .before .before .before .before .before .before .before .before .before .before .before .before .before .before .before .before .before .before)) (Left (c .before .before .before .before .before .before .before .before .before .before)) ((c .before .before .before .before .before .before .before .before .before .before .before .before .before .before .before .before .before .before .before .before .before .before .before .before .top-of) .result) (X (c .before .before .before .before .before .before .before .before .before .before .before .before .before .before .before .before .before .before .before .before .before .before .before)) (wt (c .before .before .before .before .before .before .before .before .before) .stands) ((c .before .before .before .before .before .before .under) .result) (g-low (S (c .before .before .before .before .before .before .before .before .before .before .before .before .before .before .before .before .before .before .before .before .before .before .before .before .before .before .before .before .before .before)) (whole (c .before .before .before .before .before .before .before .before .before .before .before .before .before .before .before .before .before .before .before .before .before .before .before .before .before .before .before .before .before .before)) (size (c .before .before .before .before .before .before .before .before .before .before .before .before .before .before .before .before .before .before .before .before .before .before .before .before .before .before .before .before .before .before)) (K (c .before .before .before .before .before .before .before .before .before .before .before .before .before .before .before .before .before .before .before .before .before .before .before .before .before .before .before .before .before .before)) (Left (c .before .before .before .before .before .before .before .before .before .before)) ((c .before .before .before .before .before .before .before .before .before .before .before .before .before .before .before .before .before .before .before .before .before .before .before .before .top-of) .result) (X (c .before .before .before .before .before .before .before .before .before .before .before .before .before .before .before .before .before .before .before .before .before .before .before)) (wt (c .before .before .before .before .before .before .before .before .before)) ((c .before .before .before .before .before .before .before .closes) .result) ((c .before .before .before .before .before .before .under) .result) ((c .before .before .before .before .before .before .before .closes) .ensures) (g-is (c .before .before .before .before .before .before))), (c .before .before .before .before .before .before .before .before .before .before .before .before .before .before .before .before .before .before .before .before .before .before .before .before .before .before .before .before .before .before .loop) .inv .within))
+act-requires c κs = (within (act (X (c .before .before .before .before .before .before .before .before .before .before .before .before .before .before .before .before .before .before .before .before .before .before .before))) (x-placed (S (c .before .before .before .before .before .before .before .before .before .before .before .before .before .before .before .before .before .before .before .before .before .before .before .before .before .before .before .before .before .before)) (whole (c .before .before .before .before .before .before .before .before .before .before .before .before .before .before .before .before .before .before .before .before .before .before .before .before .before .before .before .before .before .before)) (size (c .before .before .before .before .before .before .before .before .before .before .before .before .before .before .before .before .before .before .before .before .before .before .before .before .before .before .before .before .before .before)) (K (c .before .before .before .before .before .before .before .before .before .before .before .before .before .before .before .before .before .before .before .before .before .before .before .before .before .before .before .before .before .before)) (Left (c .before .before .before .before .before .before .before .before .before .before)) ((c .before .before .before .before .before .before .before .before .before .before .before .before .before .before .before .before .before .before .before .before .before .before .before .before .top-of) .result) (X (c .before .before .before .before .before .before .before .before .before .before .before .before .before .before .before .before .before .before .before .before .before .before .before)) (wt (c .before .before .before .before .before .before .before .before .before) .stands)), (vars-long (S (c .before .before .before .before .before .before .before .before .before .before .before .before .before .before .before .before .before .before .before .before .before .before .before .before .before .before .before .before .before .before)) (whole (c .before .before .before .before .before .before .before .before .before .before .before .before .before .before .before .before .before .before .before .before .before .before .before .before .before .before .before .before .before .before)) (size (c .before .before .before .before .before .before .before .before .before .before .before .before .before .before .before .before .before .before .before .before .before .before .before .before .before .before .before .before .before .before)) (K (c .before .before .before .before .before .before .before .before .before .before .before .before .before .before .before .before .before .before .before .before .before .before .before .before .before .before .before .before .before .before)) (Left (c .before .before .before .before .before .before .before .before .before .before)) ((c .before .before .before .before .before .before .before .before .before .before .before .before .before .before .before .before .before .before .before .before .before .before .before .before .top-of) .result) (X (c .before .before .before .before .before .before .before .before .before .before .before .before .before .before .before .before .before .before .before .before .before .before .before)) (wt (c .before .before .before .before .before .before .before .before .before) .stands) ((c .before .before .before .before .before .before .under) .result) (g-low (S (c .before .before .before .before .before .before .before .before .before .before .before .before .before .before .before .before .before .before .before .before .before .before .before .before .before .before .before .before .before .before)) (whole (c .before .before .before .before .before .before .before .before .before .before .before .before .before .before .before .before .before .before .before .before .before .before .before .before .before .before .before .before .before .before)) (size (c .before .before .before .before .before .before .before .before .before .before .before .before .before .before .before .before .before .before .before .before .before .before .before .before .before .before .before .before .before .before)) (K (c .before .before .before .before .before .before .before .before .before .before .before .before .before .before .before .before .before .before .before .before .before .before .before .before .before .before .before .before .before .before)) (Left (c .before .before .before .before .before .before .before .before .before .before)) ((c .before .before .before .before .before .before .before .before .before .before .before .before .before .before .before .before .before .before .before .before .before .before .before .before .top-of) .result) (X (c .before .before .before .before .before .before .before .before .before .before .before .before .before .before .before .before .before .before .before .before .before .before .before)) (wt (c .before .before .before .before .before .before .before .before .before)) ((c .before .before .before .before .before .before .before .closes) .result) ((c .before .before .before .before .before .before .under) .result) ((c .before .before .before .before .before .before .before .closes) .ensures) (g-is (c .before .before .before .before .before .before))), (c .before .before .before .before .before .before .before .before .before .before .before .before .before .before .before .before .before .before .before .before .before .before .before .before .before .before .before .before .before .before .loop) .inv .within))
 
 cast-pi : tie.Need-cast-pi Inv-loop2 μ-loop2 Inv-loop μ-loop
 cast-pi c = record { fits = omega (arith, p-low (S (c .before .before .before .before .before .before .before .before .before .before .before .before .before .before .before .before .before .before .before .before .before .before .before .before .before .before .before .before .before .before .before .before .before)) (whole (c .before .before .before .before .before .before .before .before .before .before .before .before .before .before .before .before .before .before .before .before .before .before .before .before .before .before .before .before .before .before .before .before .before)) (size (c .before .before .before .before .before .before .before .before .before .before .before .before .before .before .before .before .before .before .before .before .before .before .before .before .before .before .before .before .before .before .before .before .before)) (K (c .before .before .before .before .before .before .before .before .before .before .before .before .before .before .before .before .before .before .before .before .before .before .before .before .before .before .before .before .before .before .before .before .before)) (Left (c .before .before .before .before .before .before .before .before .before .before .before .before .before)) ((c .before .before .before .before .before .before .before .before .before .before .before .before .before .before .before .before .before .before .before .before .before .before .before .before .before .before .before .top-of) .result) (X (c .before .before .before .before .before .before .before .before .before .before .before .before .before .before .before .before .before .before .before .before .before .before .before .before .before .before)) (wt (c .before .before .before .before .before .before .before .before .before .before .before .before)) ((c .before .before .before .before .before .before .before .before .before .before .closes) .result) ((c .before .before .before .before .before .before .before .before .before .under) .result) ((c .before .before .before .before .before .before .before .before .before .before .closes) .ensures) (g-is (c .before .before .before .before .before .before .before .before .before))) }

@@ -13,6 +13,7 @@ use Rattle.decoding.specs.Decoding.{operandOf, bareOf}
 use Rattle.decoding.specs.declared.Opcode.{Opcode}
 use Rattle.steps.specs.Cut.{goesTo, doesTo, showsTo, unless}
 use Rattle.values.proofs.Again.{again}
+use Rattle.table.specs.Table.{parts}
 use Rattle.starts.specs.Ready.{Placed}
 use Rattle.straight.specs.declared.Tried.{Tried}
 use Rattle.straight.specs.Turns.{columns, turn, straight, triedTurn}
@@ -197,7 +198,7 @@ index-2-call-step-6 : tie.Need-index-2-call-step-6
 index-2-call-step-6 c = search needs
 
 call-step-requires : tie.Need-call-step-requires
-unfolding bareOf
+unfolding bareOf parts
 call-step-requires c κs = ((c .before .before .before .before .before .before .before .before .before .before .before .before .pre) .1 .task, (((c .before .before .before .before .before .before .before .before .before .before .before .before .pre) .1 .frame, (c .before .before .before .before .before .before .before .before .before .before .before .before .pre) .1 .vars), ((subst (λ (k : Opcode). Placed (bareOf k (getD ((c .before .before .before .before .before .before .before .before .before .before .before .before .args) .numbers .now) ((c .before .before .before .before .before .before .before .before .before .before .before .before .args) .p) []) (getD ((c .before .before .before .before .before .before .before .before .before .before .before .before .args) .consts .now) ((c .before .before .before .before .before .before .before .before .before .before .before .before .args) .p) []))) ((c .before .before .before .before .before .before .before .before .before .before .enum-told4) .given .1) ((c .before .before .before .before .before .before .before .before .before .before .before .before .pre) .1 .placed)) .1, (c .before .before .before .before .before .before .before .before .before .before .before .before .pre) .1 .above)))
 
 enum-told-5 : tie.Need-enum-told-5
@@ -213,7 +214,7 @@ index-2-wait-step : tie.Need-index-2-wait-step
 index-2-wait-step c = search needs
 
 wait-step-requires : tie.Need-wait-step-requires
-unfolding bareOf
+unfolding bareOf parts
 wait-step-requires c κs = ((c .before .before .before .before .before .pre) .1 .frame, (subst (λ (k : Opcode). Placed (bareOf k (getD ((c .before .before .before .before .before .args) .numbers .now) ((c .before .before .before .before .before .args) .p) []) (getD ((c .before .before .before .before .before .args) .consts .now) ((c .before .before .before .before .before .args) .p) []))) ((c .before .before .before .enum-told5) .given .1) ((c .before .before .before .before .before .pre) .1 .placed)))
 
 enum-told-6 : tie.Need-enum-told-6
@@ -229,7 +230,7 @@ index-2-signal-step : tie.Need-index-2-signal-step
 index-2-signal-step c = search needs
 
 signal-step-requires : tie.Need-signal-step-requires
-unfolding bareOf
+unfolding bareOf parts
 signal-step-requires c κs = ((c .before .before .before .before .before .pre) .1 .frame, (subst (λ (k : Opcode). Placed (bareOf k (getD ((c .before .before .before .before .before .args) .numbers .now) ((c .before .before .before .before .before .args) .p) []) (getD ((c .before .before .before .before .before .args) .consts .now) ((c .before .before .before .before .before .args) .p) []))) ((c .before .before .before .enum-told6) .given .1) ((c .before .before .before .before .before .pre) .1 .placed)))
 
 enum-told-7 : tie.Need-enum-told-7
@@ -263,7 +264,7 @@ index-2-send-step : tie.Need-index-2-send-step
 index-2-send-step c = search needs
 
 send-step-requires : tie.Need-send-step-requires
-unfolding bareOf
+unfolding bareOf parts
 send-step-requires c κs = ((c .before .before .before .before .before .before .before .before .before .pre) .1 .frame, ((subst (λ (k : Opcode). Placed (bareOf k (getD ((c .before .before .before .before .before .before .before .before .before .args) .numbers .now) ((c .before .before .before .before .before .before .before .before .before .args) .p) []) (getD ((c .before .before .before .before .before .before .before .before .before .args) .consts .now) ((c .before .before .before .before .before .before .before .before .before .args) .p) []))) ((c .before .before .before .before .before .before .before .enum-told7) .given .1) ((c .before .before .before .before .before .before .before .before .before .pre) .1 .placed)), (c .before .before .before .before .before .before .before .before .before .pre) .1 .rows _ (subst (λ (k : Opcode). Placed (bareOf k (getD ((c .before .before .before .before .before .before .before .before .before .args) .numbers .now) ((c .before .before .before .before .before .before .before .before .before .args) .p) []) (getD ((c .before .before .before .before .before .before .before .before .before .args) .consts .now) ((c .before .before .before .before .before .before .before .before .before .args) .p) []))) ((c .before .before .before .before .before .before .before .enum-told7) .given .1) ((c .before .before .before .before .before .before .before .before .before .pre) .1 .placed))))
 
 enum-told-8 : tie.Need-enum-told-8
@@ -288,7 +289,7 @@ index-2-receive-step-2 : tie.Need-index-2-receive-step-2
 index-2-receive-step-2 c = search needs
 
 receive-step-requires : tie.Need-receive-step-requires
-unfolding bareOf
+unfolding bareOf parts
 receive-step-requires c κs = (((c .before .before .before .before .before .before .before .before .pre) .1 .frame, (c .before .before .before .before .before .before .before .before .pre) .1 .vars), ((subst (λ (k : Opcode). Placed (bareOf k (getD ((c .before .before .before .before .before .before .before .before .args) .numbers .now) ((c .before .before .before .before .before .before .before .before .args) .p) []) (getD ((c .before .before .before .before .before .before .before .before .args) .consts .now) ((c .before .before .before .before .before .before .before .before .args) .p) []))) ((c .before .before .before .before .before .before .enum-told8) .given .1) ((c .before .before .before .before .before .before .before .before .pre) .1 .placed)), (c .before .before .before .before .before .before .before .before .pre) .1 .rows _ (subst (λ (k : Opcode). Placed (bareOf k (getD ((c .before .before .before .before .before .before .before .before .args) .numbers .now) ((c .before .before .before .before .before .before .before .before .args) .p) []) (getD ((c .before .before .before .before .before .before .before .before .args) .consts .now) ((c .before .before .before .before .before .before .before .before .args) .p) []))) ((c .before .before .before .before .before .before .enum-told8) .given .1) ((c .before .before .before .before .before .before .before .before .pre) .1 .placed))))
 
 enum-told-9 : tie.Need-enum-told-9

@@ -1,8 +1,9 @@
 use borrow.Author.Needs.{needs}
 use mathlib.Core.Path.{refl}
-use Rattle.table.specs.Table.{arcTo}
-use Rattle.acts.proofs.arc_to.Statement.{statement}
-use Rattle.acts.proofs.arc_to.Tie as tie
+use Rattle.table.specs.Table.{parts}
+use Rattle.steps.specs.Cut.{backBy}
+use Rattle.acts.proofs.leave.Statement.{statement}
+use Rattle.acts.proofs.leave.Tie as tie
 
 enum-told : tie.Need-enum-told
 enum-told c = search needs
@@ -44,59 +45,59 @@ enum-told-2 : tie.Need-enum-told-2
 enum-told-2 c = search needs
 
 returns : tie.Need-returns
-unfolding arcTo
-returns c = rw (c .enum-told .given .1) (refl)
+unfolding parts backBy
+returns c = search needs
 
 returns-2 : tie.Need-returns-2
-unfolding arcTo
-returns-2 c = rw (c .before .x .given .1) (refl)
+unfolding parts backBy
+returns-2 c = search needs
 
 returns-3 : tie.Need-returns-3
-unfolding arcTo
-returns-3 c = rw (c .before .x2 .given .1) (refl)
+unfolding parts backBy
+returns-3 c = rw ((c .before .x2) .given .1) (refl, (refl, refl))
 
 returns-4 : tie.Need-returns-4
-unfolding arcTo
-returns-4 c = rw (c .before .x3 .given .1) (refl)
+unfolding parts backBy
+returns-4 c = rw ((c .before .x3) .given .1) (refl, (refl, refl))
 
 returns-5 : tie.Need-returns-5
-unfolding arcTo
-returns-5 c = rw (c .before .x4 .given .1) (refl)
+unfolding parts backBy
+returns-5 c = search needs
 
 returns-6 : tie.Need-returns-6
-unfolding arcTo
-returns-6 c = rw (c .before .x5 .given .1) (refl)
+unfolding parts backBy
+returns-6 c = rw ((c .before .x5) .given .1) (refl, (refl, refl))
 
 returns-7 : tie.Need-returns-7
-unfolding arcTo
-returns-7 c = rw (c .before .x6 .given .1) (refl)
+unfolding parts backBy
+returns-7 c = search needs
 
 returns-8 : tie.Need-returns-8
-unfolding arcTo
-returns-8 c = rw (c .before .x7 .given .1) (refl)
+unfolding parts backBy
+returns-8 c = search needs
 
 returns-9 : tie.Need-returns-9
-unfolding arcTo
-returns-9 c = rw (c .before .x8 .given .1) (refl)
+unfolding parts backBy
+returns-9 c = rw ((c .before .x8) .given .1) (refl, (refl, refl))
 
 returns-10 : tie.Need-returns-10
-unfolding arcTo
-returns-10 c = rw (c .before .x9 .given .1) (refl)
+unfolding parts backBy
+returns-10 c = rw ((c .before .x9) .given .1) (refl, (refl, refl))
 
 returns-11 : tie.Need-returns-11
-unfolding arcTo
-returns-11 c = rw (c .before .x10 .given .1) (refl)
+unfolding parts backBy
+returns-11 c = search needs
 
 returns-12 : tie.Need-returns-12
-unfolding arcTo
-returns-12 c = rw (c .before .x11 .given .1) (refl)
+unfolding parts backBy
+returns-12 c = search needs
 
 returns-13 : tie.Need-returns-13
-unfolding arcTo
-returns-13 c = rw (c .enum-told2 .given .1) (refl)
+unfolding parts backBy
+returns-13 c = search needs
 
-pub arc-to-spec : {M : Type 1} → statement M
-arc-to-spec =
+pub leave-spec : {M : Type 1} → statement M
+leave-spec =
     tie.close
     (tie.spec
     enum-told
