@@ -13,7 +13,7 @@ use Rattle.machine.specs.declared.Running.{Running}
 use Rattle.machine.specs.Run.{run}
 use Rattle.promise.specs.Calls.{RunCall, CallsAgree, closed-calls}
 use Rattle.callers.specs.declared.Beside.{Beside}
-use Rattle.callers.specs.SideBySide.{besideOf, Partners, Agrees}
+use Rattle.callers.specs.SideBySide.{besideOf, originalOf, Partners, Agrees}
 
 -- `close(t)` answered c, `run(t, ks, vs, most, log)` and `run(c.table, ks, ts, most′, log′)` answered r and r′ and left the logs so
 module _ (t : Table) (c : Closing) (closes : c ≡ close t) (ks : List ℕ) (vs : List ℤ) (most : ℕ) (log : List ℕ) (r : Running) (left : List ℕ) (runs : RunCall t ks vs most log r left)
@@ -35,7 +35,7 @@ module _ (t : Table) (c : Closing) (closes : c ≡ close t) (ks : List ℕ) (vs 
 
   pub beside-agrees : Agrees t ks vs ts most log log′ beside left left′
   beside-agrees ok stop =
-      let d = closed-calls t (close t) refl (rw closes at ok) vs ks most log r left runs stop in
+      let d = closed-calls (originalOf t ks vs most log) (close t) refl (rw closes at ok) r left runs stop in
       record {
         tosses = d .0;
         small = d .1;
@@ -44,15 +44,12 @@ module _ (t : Table) (c : Closing) (closes : c ≡ close t) (ks : List ℕ) (vs 
         here = λ p long. partners (d .0) p (d .3 most′ log′ long);
       }
     where
-      partners : (ws : List ℤ) → ts ≡ ws → CallsAgree t (close t .table) vs ks most most′ log log′ ws → Partners t ks vs ws most log beside left left′
+      partners : (ws : List ℤ) → ts ≡ ws → CallsAgree (originalOf t ks vs most log) (close t .table) (record { tosses = ws; most = most′; log = log′ })
+          → Partners (originalOf t ks vs most log) ws beside left left′
       partners ws p a =
           let u : RunCall (close t .table) ks ws most′ log′ r′ left′ = rw (closes, p) at closed-runs in
-          let v = all-steps t vs most log r left runs in
-          let w = all-steps (close t .table) ws most′ log′ r′ left′ u in
           record {
             completes = a .completes r′ left′ u .0;
             used-up = a .completes r′ left′ u .1;
-            agree = rw take-length at (a .agree (length ks) (omega arith) r r′ left left′ v w);
-            at-standstill = a .at-standstill (length ks) (omega arith) r r′ left left′ v w;
-            at-failure = a .at-failure (length ks) (omega arith) r r′ left left′ v w;
+            agree = a .agree (length ks) (omega arith) r r′ left left′ (all-steps t vs most log r left runs) (all-steps (close t .table) ws most′ log′ r′ left′ u);
           }

@@ -7,31 +7,21 @@ use mathlib.Core.List.{List, [], List·Memᴰ}
 use mathlib.Core.Option.{Option, none, some}
 use lib.ListN.{length, getD, take}
 use lib.IntN.{ℤ, pos}
-use Rattle.table.specs.Table.{procAt, removed}
+use Rattle.table.specs.Table.{procAt, removed, asserted}
 use Rattle.table.specs.declared.Table.{Table}
-use Rattle.table.specs.declared.Node.the-variants.{Assert}
-use Rattle.closing.specs.Dirty.{Dirty, Unkept, settingAt, dropped, blank}
+use Rattle.closing.specs.Dirty.{Dirty, Unkept, settingAt, entryAt, blank}
 use Rattle.closing.specs.Close.{close}
 use Rattle.machine.specs.declared.State.{State}
 use Rattle.machine.specs.State.{openFrames, isLost, frameAt, topmost, semCount, entriesAt, varAt, standsBefore, standstill}
 use Rattle.machine.specs.Step.{failing}
-use Rattle.machine.specs.Run.{Ran, run, completed}
+use Rattle.machine.specs.Run.{Ran, run, completed, SameLog}
 use Rattle.promise.specs.History.{History, history, lastSetting}
 
 -- ---- what agrees
 
--- "Kept nodes executed are read off the logs, task, procedure and node, entry by entry; a log carries a value where its flag is 1":
--- the first n entries of the open log and of the closed one
-pub record SameLog (n : ℕ) (log log′ : List ℕ) : Type 0 where
-  pub task : (i : ℕ) → i < n → getD log (8 * i) 0 ≡ getD log′ (8 * i) 0
-  pub proc : (i : ℕ) → i < n → getD log (8 * i + 1) 0 ≡ getD log′ (8 * i + 1) 0
-  pub node : (i : ℕ) → i < n → getD log (8 * i + 2) 0 ≡ getD log′ (8 * i + 2) 0
-  pub flag : (i : ℕ) → i < n → getD log′ (8 * i + 3) 0 ≡ 1 → getD log (8 * i + 3) 0 ≡ 1
-  pub value : (i b : ℕ) → i < n → b < 4 → getD log′ (8 * i + 3) 0 ≡ 1 → getD log (8 * i + 4 + b) 0 ≡ getD log′ (8 * i + 4 + b) 0
-
--- "it is clean if not among the dirty settings"; the entry is a dirty setting of a dropped parameter
+-- "it is clean if not among the dirty settings"
 abbrev pub CleanSetting : Table → ℕ → ℕ → Option ℕ → Type 0
-CleanSetting t p v none = Dirty t (dropped p v) → ⊥
+CleanSetting t p v none = Dirty t (entryAt p v) → ⊥
 CleanSetting t p v (some n) = Dirty t (settingAt p n) → ⊥
 
 -- a state s of the open run of table t, in which h has been executed, and the state s′ of the closed run
@@ -64,22 +54,40 @@ pub record SameRun (t : Table) (h : History) (n : ℕ) (r r′ : Ran) : Type 0 w
   pub kept-nodes : (i : ℕ) → i < n → Unkept t (getD (r .log) (8 * i + 1) 0) (getD (r .log) (8 * i + 2) 0) → ⊥
   pub states : SameState t h (r .answer .state) (r′ .answer .state)
 
--- ---- the claim, for a table t, inputs vs and task numbers ks
+-- ---- the claim
 
--- the open run of the first n task numbers, with so many dropped nodes allowed and such a log buffer
-abbrev pub openRun : Table → List ℤ → List ℕ → ℕ → List ℕ → ℕ → Ran
-openRun t vs ks most log n = run t (take n ks) vs most log
+-- an open run: table, schedule, inputs, most dropped nodes per step, and what the log buffer held
+pub record OpenRun : Type 0 where
+  pub table : Table
+  pub schedule : List ℕ
+  pub inputs : List ℤ
+  pub most : ℕ
+  pub log : List ℕ
 
--- the closed run of the first n task numbers, with the tosses ts
-abbrev pub closedRun : Table → List ℤ → List ℕ → ℕ → List ℕ → ℕ → Ran
-closedRun t ts ks most log n = run (close t .table) (take n ks) ts most log
+-- the closed run beside it, of the closed table and the same schedule
+pub record ClosedRun : Type 0 where
+  pub tosses : List ℤ
+  pub most : ℕ
+  pub log : List ℕ
 
-pub record Partner (t : Table) (vs : List ℤ) (ks : List ℕ) (most most′ : ℕ) (log log′ : List ℕ) (ts : List ℤ) : Type 0 where
+-- the first n task numbers
+abbrev pub first : OpenRun → ℕ → List ℕ
+first o n = take n (o .schedule)
+
+-- what the two come to over the task numbers ks
+abbrev pub openRan : OpenRun → List ℕ → Ran
+openRan o ks = run (o .table) ks (o .inputs) (o .most) (o .log)
+
+abbrev pub closedRan : OpenRun → ClosedRun → List ℕ → Ran
+closedRan o c ks = run (close (o .table) .table) ks (c .tosses) (c .most) (c .log)
+
+pub record Partner (o : OpenRun) (c : ClosedRun) : Type 0 where
   -- "one list of tosses lets the closed run with the same task numbers complete and is used up"
-  pub completes : run (close t .table) ks ts most′ log′ .answer .stop ≡ 0
-  pub used-up : run (close t .table) ks ts most′ log′ .answer .used ≡ length ts
+  pub completes : closedRan o c (o .schedule) .answer .stop ≡ 0
+  pub used-up : closedRan o c (o .schedule) .answer .used ≡ length (c .tosses)
   -- "At the start and after each step the two agree"
-  pub agree : (n : ℕ) → n ≤ length ks → SameRun t (history t (take n ks) vs most log) n (openRun t vs ks most log n) (closedRun t ts ks most′ log′ n)
+  pub agree : (n : ℕ) → n ≤ length (o .schedule)
+      → SameRun (o .table) (history (o .table) (first o n) (o .inputs) (o .most) (length (o .log))) n (openRan o (first o n)) (closedRan o c (first o n))
 
 -- "value i choosing the i-th from 0": an arc has at most 32 targets, so each toss is one of the 32-bit values that the runner takes
 abbrev pub Toss : ℤ → Type 0
@@ -89,43 +97,37 @@ abbrev pub Tosses : List ℤ → Type 0
 Tosses ts = (z : ℤ) → List·Memᴰ z ts → Toss z
 
 -- One list of tosses, at most one for each step, serves whatever number of dropped nodes the closed run allows and whatever its log buffer held.
-abbrev pub HasPartner : Table → List ℤ → List ℕ → ℕ → List ℕ → Type 0
-HasPartner t vs ks most log =
-    (ts : List ℤ) × Tosses ts × (length ts ≤ length ks)
-    × ((most′ : ℕ) (log′ : List ℕ) → length log′ ≡ length log → Partner t vs ks most most′ log log′ ts)
+abbrev pub HasPartner : OpenRun → Type 0
+HasPartner o =
+    (ts : List ℤ) × Tosses ts × (length ts ≤ length (o .schedule))
+    × ((most : ℕ) (log : List ℕ) → length log ≡ length (o .log) → Partner o (record { tosses = ts; most = most; log = log }))
 
 -- "For every table that the closer accepts, .. for every list of inputs and every list of task numbers, empty ones too: if the open run completes, .."
 abbrev pub Demand3 : Type 0
-Demand3 =
-    (t : Table) → close t .number ≡ 0
-    → (vs : List ℤ) (ks : List ℕ) (most : ℕ) (log : List ℕ)
-    → run t ks vs most log .answer .stop ≡ 0
-    → HasPartner t vs ks most log
+Demand3 = (o : OpenRun) → close (o .table) .number ≡ 0 → openRan o (o .schedule) .answer .stop ≡ 0 → HasPartner o
+
+-- the run of its first n task numbers
+abbrev pub cut : OpenRun → ℕ → OpenRun
+cut o n = record { table = o .table; schedule = first o n; inputs = o .inputs; most = o .most; log = o .log }
 
 -- "one that stops at a step is covered by the run of the schedule before that step": of a run that begins, since with no task number it completes
 abbrev pub Demand3Stopped : Type 0
 Demand3Stopped =
-    (t : Table) → close t .number ≡ 0
-    → (vs : List ℤ) (ks : List ℕ) (most : ℕ) (log : List ℕ)
-    → run t [] vs most log .answer .stop ≡ 0
-    → (run t (take (run t ks vs most log .answer .steps) ks) vs most log ≡ completed (run t ks vs most log))
-    × HasPartner t vs (take (run t ks vs most log .answer .steps) ks) most log
+    (o : OpenRun) → close (o .table) .number ≡ 0 → openRan o [] .answer .stop ≡ 0
+    → let n = openRan o (o .schedule) .answer .steps in (openRan o (first o n) ≡ completed (openRan o (o .schedule))) × HasPartner (cut o n)
 
 -- ---- its consequences, for such a pair of runs after n steps
 
 -- "So the one is at a standstill exactly when the other is"
 abbrev pub SameStandstill : Type 0
 SameStandstill =
-    (t : Table) → close t .number ≡ 0
-    → (vs : List ℤ) (ks : List ℕ) (most most′ : ℕ) (log log′ : List ℕ) (ts : List ℤ) → Partner t vs ks most most′ log log′ ts
-    → (n : ℕ) → n ≤ length ks
-    → standstill t (openRun t vs ks most log n .answer .state) ≡ standstill (close t .table) (closedRun t ts ks most′ log′ n .answer .state)
+    (o : OpenRun) → close (o .table) .number ≡ 0 → (c : ClosedRun) → Partner o c → (n : ℕ) → n ≤ length (o .schedule)
+    → standstill (o .table) (openRan o (first o n) .answer .state) ≡ standstill (close (o .table) .table) (closedRan o c (first o n) .answer .state)
 
 -- "and an assertion that keeps its variable fails in the one exactly when it fails in the other": in the closed run task k stands before it
 abbrev pub SameFailure : Type 0
 SameFailure =
-    (t : Table) → close t .number ≡ 0
-    → (vs : List ℤ) (ks : List ℕ) (most most′ : ℕ) (log log′ : List ℕ) (ts : List ℤ) → Partner t vs ks most most′ log log′ ts
-    → (n k v to : ℕ) → n ≤ length ks → k < t .tasks
-    → standsBefore (close t .table) (closedRun t ts ks most′ log′ n .answer .state) k ≡ Assert v to → (v ≡ removed → ⊥)
-    → failing t (openRun t vs ks most log n .answer .state) k ≡ failing (close t .table) (closedRun t ts ks most′ log′ n .answer .state) k
+    (o : OpenRun) → close (o .table) .number ≡ 0 → (c : ClosedRun) → Partner o c → (n : ℕ) → n ≤ length (o .schedule)
+    → (k v : ℕ) → k < o .table .tasks
+    → asserted (standsBefore (close (o .table) .table) (closedRan o c (first o n) .answer .state) k) ≡ some v → (v ≡ removed → ⊥)
+    → failing (o .table) (openRan o (first o n) .answer .state) k ≡ failing (close (o .table) .table) (closedRan o c (first o n) .answer .state) k

@@ -13,7 +13,7 @@ use Rattle.closing.specs.Close.{close}
 use Rattle.closing.specs.Examples.{Example, closes, gives, joined, p1}
 use Rattle.machine.specs.Computing.{computing}
 use Rattle.machine.specs.Run.{run}
-use Rattle.promise.specs.Demand3.{Partner, HasPartner}
+use Rattle.promise.specs.Demand3.{OpenRun, Partner, HasPartner}
 use Rattle.promise.specs.Theorems.{demand-3}
 
 abbrev lines : Example → List String
@@ -42,8 +42,11 @@ unfolding computing
 completes = refl
 
 -- so it has a partner
-pub partner : HasPartner t inputs ks 5 log
-partner = demand-3 t accepted inputs ks 5 log completes
+abbrev pub original : OpenRun
+original = record { table = t; schedule = ks; inputs = inputs; most = 5; log = log }
+
+pub partner : HasPartner original
+partner = demand-3 original accepted completes
 
 -- the third node executed
 abbrev thirdNode : Table → List ℤ → ℕ
@@ -62,7 +65,7 @@ unfolding computing
 none-stops = refl
 
 -- the toss 0 leads elsewhere, though that run completes too
-pub not-0 : Partner t inputs ks 5 5 log log (pos 0 ∷ []) → ⊥
+pub not-0 : Partner original (record { tosses = pos 0 ∷ []; most = 5; log = log }) → ⊥
 not-0 p =
     let whole : 3 ≤ 3 = omega arith in
     let third : 2 < 3 = omega arith in
@@ -70,5 +73,5 @@ not-0 p =
     absurd (let z : _≡_ {A = ℕ} 5 4 = sym third-open ∙ same ∙ third-0 in omega arith)
 
 -- and with no toss the closed run does not complete
-pub not-none : Partner t inputs ks 5 5 log log [] → ⊥
+pub not-none : Partner original (record { tosses = []; most = 5; log = log }) → ⊥
 not-none p = absurd (let z : _≡_ {A = ℕ} 15 0 = sym none-stops ∙ p .completes in omega arith)

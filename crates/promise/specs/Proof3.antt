@@ -11,17 +11,17 @@ use lib.ListN.{length, take, getD}
 use lib.Seq.{take-all}
 use lib.Dec.{eqb}
 use lib.IntN.{ℤ, pos}
+use Rattle.table.specs.Cases.{cases}
 use Rattle.table.specs.Values.{eqZ}
-use Rattle.table.specs.Table.{nodeAt, procAt, removed, uses}
+use Rattle.table.specs.Table.{nodeAt, procAt, removed, uses, asserted, parts, mapNode}
+use Rattle.table.specs.ByKind.{by-kind}
 use Rattle.table.specs.declared.Node.{Node}
-use Rattle.table.specs.declared.Node.the-variants.{Absent, Start, Set, Test, Read, Call, Wait, Signal, Send, Recv, Assert, Out, Return}
+use Rattle.table.specs.declared.Node.the-variants.{Assert}
 use Rattle.table.specs.declared.Table.{Table}
 use Rattle.text.specs.Writer.{fault}
 use Rattle.text.specs.Reader.{allBelow}
-use Rattle.closing.specs.ReachLaws.{cases}
-use Rattle.closing.specs.Dirty.{useAt, Dirty}
-use Rattle.closing.specs.Closing.{dirty}
-use Rattle.closing.specs.Close.{useOr, closedNode, closedWith, closeTable, close}
+use Rattle.closing.specs.Dirty.{dirtyBefore, Dirty}
+use Rattle.closing.specs.Close.{closedNode, closedWith, closeTable, close}
 use Rattle.closing.specs.CloseLaws.{Accepted, accepted}
 use Rattle.machine.specs.declared.State.{State}
 use Rattle.machine.specs.declared.Running.{Running}
@@ -30,12 +30,13 @@ use Rattle.machine.specs.Step.{valuesSpent, Kept, keptOf, keptIn, fails, failin
 use Rattle.machine.specs.KeptLaws.{allKept, kept-closed}
 use Rattle.machine.specs.StopLaws.{stopped-covered}
 use Rattle.machine.specs.ClosedRun.{AlikeRuns, closed-alike, few-tosses}
-use Rattle.machine.specs.Run.{Ran, runFrom, runBegun, runChecked, run}
+use Rattle.machine.specs.Run.{Ran, courseFrom, runBegun, runChecked, run, SameLog}
+use Rattle.machine.specs.RunLaws.{runFrom, run-begun}
 use Rattle.promise.specs.History.{History, lastSetting, historyFrom, historyBegun, history}
-use Rattle.promise.specs.Demand3.{CleanSetting, SameLog, SameState, Partner, openRun, closedRun, Tosses, Demand3, Demand3Stopped, SameStandstill, SameFailure}
+use Rattle.promise.specs.Demand3.{CleanSetting, SameState, OpenRun, ClosedRun, first, openRan, Partner, Tosses, cut, Demand3, Demand3Stopped, SameStandstill, SameFailure}
 use Rattle.promise.specs.Sim.Wf.{Wf}
 use Rattle.promise.specs.Sim.Locals.{settingOf, D, keptAt, not-dirty}
-use Rattle.promise.specs.Sim.Exec.{closing}
+use Rattle.promise.specs.Sim.Exec.{useOr, closing}
 use Rattle.promise.specs.Sim.Same.{Same}
 use Rattle.promise.specs.Sim.Blocked.{same-state, stands-closed, same-blocked}
 use Rattle.promise.specs.Sim.Log.{same-log, kept-log}
@@ -48,9 +49,9 @@ run-is : (u : Table) (ks : List ℕ) (vs : List ℤ) (most : ℕ) (log : List �
 unfolding run
 run-is u ks vs most log b e i = ap (runChecked u ks vs most log) e ∙ ap (runBegun u ks vs most log) i
 
-history-is : (u : Table) (ks : List ℕ) (vs : List ℤ) (most : ℕ) (log : List ℕ) (b : Begun) → begin u vs ≡ b → history u ks vs most log ≡ historyBegun u ks most log b
+history-is : (u : Table) (ks : List ℕ) (vs : List ℤ) (most room : ℕ) (b : Begun) → begin u vs ≡ b → history u ks vs most room ≡ historyBegun u ks most room b
 unfolding history
-history-is u ks vs most log b i = ap (historyBegun u ks most log) i
+history-is u ks vs most room b i = ap (historyBegun u ks most room) i
 
 -- which nodes count as kept
 open-kept : (t : Table) → t .closed ≡ false → keptIn t ≡ keptAt t
@@ -68,28 +69,29 @@ module _ (wf : (t : Table) → close t .number ≡ 0 → Wf t) (sound : (t : Tab
     acc : Accepted t
     acc = accepted t ok
 
-    abbrev opened : ℕ → Ran
-    opened n = openRun t vs ks most log n
+    abbrev openTo : ℕ → Ran
+    openTo n = run t (take n ks) vs most log
 
     abbrev shut : List ℤ → ℕ → Ran
-    shut ts n = closedRun t ts ks most′ log′ n
+    shut ts n = run (close t .table) (take n ks) ts most′ log′
 
     -- all that the proof knows of the runs
     record Followed (ts : List ℤ) : Type 0 where
       completes : run (close t .table) ks ts most′ log′ .answer .stop ≡ 0
       used-up : run (close t .table) ks ts most′ log′ .answer .used ≡ length ts
       small : Tosses ts
-      each : (n : ℕ) → n ≤ length ks → Strong t t-wf most most′ (history t (take n ks) vs most log) n (opened n) (shut ts n)
+      each : (n : ℕ) → n ≤ length ks → Strong t t-wf most most′ (history t (take n ks) vs most (length log)) n (openTo n) (shut ts n)
 
     open-is : (js : List ℕ) (s : State) (rest : List ℤ) → begin t vs ≡ begun s rest → run t js vs most log ≡ runFrom t (keptAt t) most vs js 0 s rest log
-    open-is js s rest i = run-is t js vs most log (begun s rest) (acc .sound) i ∙ ap (λ (keep : Kept). runFrom t keep most vs js 0 s rest log) (open-kept t (acc .open-form))
+    open-is js s rest i = run-is t js vs most log (begun s rest) (acc .sound) i ∙ run-begun t js vs most log s rest ∙ ap (λ (keep : Kept). runFrom t keep most vs js 0 s rest log) (open-kept t (acc .open-form))
 
-    noted-is : (js : List ℕ) (s : State) (rest : List ℤ) → begin t vs ≡ begun s rest → history t js vs most log ≡ historyFrom t (keptAt t) most js 0 s rest log (λ k j. [])
-    noted-is js s rest i = history-is t js vs most log (begun s rest) i ∙ ap (λ (keep : Kept). historyFrom t keep most js 0 s rest log (λ k j. [])) (open-kept t (acc .open-form))
+    noted-is : (js : List ℕ) (s : State) (rest : List ℤ) → begin t vs ≡ begun s rest → history t js vs most (length log) ≡ historyFrom t s (λ k j. []) (courseFrom t (keptAt t) most (length log) js 0 s rest .steps)
+    noted-is js s rest i = history-is t js vs most (length log) (begun s rest) i ∙ ap (λ (keep : Kept). historyFrom t s (λ k j. []) (courseFrom t keep most (length log) js 0 s rest .steps)) (open-kept t (acc .open-form))
 
     shut-is : (js : List ℕ) (ts : List ℤ) (s : State) → begin (closeTable t) ts ≡ begun s ts → run (close t .table) js ts most′ log′ ≡ runFrom (closeTable t) allKept most′ ts js 0 s ts log′
     shut-is js ts s i = ap (λ (u : Table). run u js ts most′ log′) (acc .answer-is)
         ∙ run-is (closeTable t) js ts most′ log′ (begun s ts) (sym (ap fault (acc .answer-is)) ∙ sound t ok) i
+        ∙ run-begun (closeTable t) js ts most′ log′ s ts
         ∙ ap (λ (keep : Kept). runFrom (closeTable t) keep most′ ts js 0 s ts log′) (kept-closed (closeTable t) (is-closed t))
 
     follow : run t ks vs most log .answer .stop ≡ 0 → (ts : List ℤ) × Followed ts
@@ -141,30 +143,31 @@ module _ (wf : (t : Table) → close t .number ≡ 0 → Wf t) (sound : (t : Tab
       whole : AlikeRuns (run c ks ts 0 log) (run c ks ts most′ log′)
       whole = closed-alike c c-closed ks ts 0 most′ log log′ (sym size)
 
-      partner : Partner t vs ks most most′ log log′ ts
+      partner : Partner (record { table = t; schedule = ks; inputs = vs; most = most; log = log }) (record { tosses = ts; most = most′; log = log′ })
       partner = record {
         completes = ap (λ (r : Running). r .stop) (sym (whole .answers)) ∙ f .completes;
         used-up = ap (λ (r : Running). r .used) (sym (whole .answers)) ∙ f .used-up;
-        agree = λ n l. let g = f .each n l in let a = alike n in let opened = run t (take n ks) vs most log in let shut = run c (take n ks) ts 0 log in record {
+        agree = λ n l. let g = f .each n l in let a = alike n in let open-run = run t (take n ks) vs most log in let shut = run c (take n ks) ts 0 log in record {
           open-completes = g .open-completes;
           closed-completes = ap (λ (r : Running). r .stop) (sym (a .answers)) ∙ g .closed-completes;
           open-steps = g .open-steps;
           closed-steps = ap (λ (r : Running). r .steps) (sym (a .answers)) ∙ g .closed-steps;
-          logs = log-by n (opened .log) (shut .log) (run c (take n ks) ts most′ log′ .log) (λ i h. a .logs i (omega (arith, g .closed-steps))) (same-log t n (opened .log) (shut .log) (g .logs));
-          kept-nodes = kept-log t n (opened .log) (shut .log) (g .logs);
-          states = subst (λ (r : Running). SameState t (history t (take n ks) vs most log) (opened .answer .state) (r .state)) (a .answers) (same-state t _ _ _ (g .states));
+          logs = log-by n (open-run .log) (shut .log) (run c (take n ks) ts most′ log′ .log) (λ i h. a .logs i (omega (arith, g .closed-steps))) (same-log t n (open-run .log) (shut .log) (g .logs));
+          kept-nodes = kept-log t n (open-run .log) (shut .log) (g .logs);
+          states = subst (λ (r : Running). SameState t (history t (take n ks) vs most (length log)) (open-run .answer .state) (r .state)) (a .answers) (same-state t _ _ _ (g .states));
         };
       }
 
   pub demand-3 : Demand3
-  demand-3 t ok vs ks most log c =
-      let r = follow t ok vs ks most 0 log log refl c in
-      (r .0, r .1 .small, few t ok vs ks most log (r .0) (r .1), λ most′ log′ size. partner t ok vs ks most log (r .0) (r .1) most′ log′ size)
+  demand-3 o ok e =
+      let t = o .table in
+      let r = follow t ok (o .inputs) (o .schedule) (o .most) 0 (o .log) (o .log) refl e in
+      (r .0, r .1 .small, few t ok (o .inputs) (o .schedule) (o .most) (o .log) (r .0) (r .1), λ most′ log′ size. partner t ok (o .inputs) (o .schedule) (o .most) (o .log) (r .0) (r .1) most′ log′ size)
 
   pub demand-3-stopped : Demand3Stopped
-  demand-3-stopped t ok vs ks most log c =
-      let e = stopped-covered t ks vs most log c in
-      (e, demand-3 t ok vs _ most log (ap (λ (r : Ran). r .answer .stop) e))
+  demand-3-stopped o ok c =
+      let e = stopped-covered (o .table) (o .schedule) (o .inputs) (o .most) (o .log) c in
+      (e, demand-3 (cut o (openRan o (o .schedule) .answer .steps)) ok (ap (λ (r : Ran). r .answer .stop) e))
 
   -- ---- its consequences: of the open run the proof knows more than a partner says
 
@@ -191,56 +194,50 @@ module _ (wf : (t : Table) → close t .number ≡ 0 → Wf t) (sound : (t : Tab
       clean-of v (some m) c = c
 
       -- a clean use finds the same value
-      same-use : (u : ℕ) → u < procAt t p .vars → (Dirty t (useAt p n u) → ⊥) → varAt (topmost s k .vars) u ≡ varAt (topmost s′ k .vars) u
+      same-use : (u : ℕ) → u < procAt t p .vars → (Dirty t (dirtyBefore p n u) → ⊥) → varAt (topmost s k .vars) u ≡ varAt (topmost s′ k .vars) u
       same-use u l c =
           let j = openFrames s k - 1 in
           let b = r .task k k< in
           let j< : j < openFrames s k = omega (arith, b .some-open) in
           rw (← q .frames k k<) (q .vars k j u k< j< l (clean-of u (lastSetting t p u none (h k j)) (λ d. c (b .frame j j< .locals .reach u l d))))
 
-      fail-assert : (u to : ℕ) → nodeAt t p n ≡ Assert u to → useOr t (dirty t) p n u ≢ removed → fails (topmost s k .vars) (Assert u to) ≡ fails (topmost s′ k .vars) (closing t p n (Assert u to))
-      unfolding fails closedNode uses
-      fail-assert u to e c = cases (D t (useAt p n u))
+      fail-assert : (u to : ℕ) → nodeAt t p n ≡ Assert u to → useOr t p n u ≢ removed → fails (topmost s k .vars) (some u) ≡ fails (topmost s′ k .vars) (some (useOr t p n u))
+      unfolding parts
+      fail-assert u to e c = cases (D t (dirtyBefore p n u))
           (λ b. absurd (c (rw b)))
-          (λ b. rw b (ap (λ (x : ℤ). not (eqb u removed) && eqZ x (pos 0)) (same-use u (w .uses< p n u (rw e (List·Memᴰ·head refl))) (not-dirty t (useAt p n u) b))))
+          (λ b. rw b (ap (λ (x : ℤ). not (eqb u removed) && eqZ x (pos 0)) (same-use u (w .uses< p n u (rw e (List·Memᴰ·head refl))) (not-dirty t (dirtyBefore p n u) b))))
 
-      fail-at : (x : Node) → nodeAt t p n ≡ x → (v to : ℕ) → closing t p n x ≡ Assert v to → v ≢ removed → fails (topmost s k .vars) x ≡ fails (topmost s′ k .vars) (closing t p n x)
-      unfolding fails closedNode
-      fail-at Absent e v to i c = refl
-      fail-at (Start a) e v to i c = refl
-      fail-at (Set u o a b m) e v to i c = refl
-      fail-at (Test o a b y m) e v to i c = refl
-      fail-at (Read u m) e v to i c = refl
-      fail-at (Call f xs m) e v to i c = refl
-      fail-at (Wait a m) e v to i c = refl
-      fail-at (Signal a m) e v to i c = refl
-      fail-at (Send a u m) e v to i c = refl
-      fail-at (Recv a u m) e v to i c = refl
-      fail-at (Assert u m) e v to i c = let z : useOr t (dirty t) p n u ≡ v = cc in fail-assert u m e (λ b. c (sym z ∙ b))
-      fail-at (Out u m) e v to i c = refl
-      fail-at Return e v to i c = refl
+      fail-kept : (u to : ℕ) → nodeAt t p n ≡ Assert u to → (v : ℕ) → asserted (closing t p n (Assert u to)) ≡ some v → v ≢ removed
+          → fails (topmost s k .vars) (asserted (Assert u to)) ≡ fails (topmost s′ k .vars) (asserted (closing t p n (Assert u to)))
+      unfolding closedNode mapNode parts
+      fail-kept u to e v i c = let z : useOr t p n u ≡ v = cc in fail-assert u to e (λ b. c (sym z ∙ b))
 
-      fail-alike : (v to : ℕ) → standsBefore (closeTable t) s′ k ≡ Assert v to → v ≢ removed → failing t s k ≡ failing (closeTable t) s′ k
-      fail-alike v to i c =
+      -- an assertion that keeps its variable
+      fail-at : (x : Node) → nodeAt t p n ≡ x → (v : ℕ) → asserted (closing t p n x) ≡ some v → v ≢ removed → fails (topmost s k .vars) (asserted x) ≡ fails (topmost s′ k .vars) (asserted (closing t p n x))
+      unfolding closedNode mapNode parts
+      fail-at = by-kind (search fail-kept)
+
+      fail-alike : (v : ℕ) → asserted (standsBefore (closeTable t) s′ k) ≡ some v → v ≢ removed → failing t s k ≡ failing (closeTable t) s′ k
+      fail-alike v i c =
           let z = stands-closed t h s s′ w q k k< (r .task k k< .some-open) (r .task k k< .keeps) in
-          fail-at (standsBefore t s k) refl v to (sym z ∙ i) c ∙ ap (fails (topmost s′ k .vars)) (sym z)
+          fail-at (standsBefore t s k) refl v (sym (ap asserted z) ∙ i) c ∙ ap (λ (y : Node). fails (topmost s′ k .vars) (asserted y)) (sym z)
 
   -- what the proof knows of the open run beside a partner
-  module _ (t : Table) (ok : close t .number ≡ 0) (vs : List ℤ) (ks : List ℕ) (most most′ : ℕ) (log log′ : List ℕ) (ts : List ℤ) (f : Partner t vs ks most most′ log log′ ts) where
-    open-is-complete : run t ks vs most log .answer .stop ≡ 0
-    open-is-complete = ap (λ (js : List ℕ). run t js vs most log .answer .stop) (sym (take-all (length ks) ks (omega arith))) ∙ f .agree (length ks) (omega arith) .open-completes
+  module _ (o : OpenRun) (ok : close (o .table) .number ≡ 0) (c : ClosedRun) (f : Partner o c) where
+    open-is-complete : openRan o (o .schedule) .answer .stop ≡ 0
+    open-is-complete = ap (λ (js : List ℕ). openRan o js .answer .stop) (sym (take-all (length (o .schedule)) (o .schedule) (omega arith))) ∙ f .agree (length (o .schedule)) (omega arith) .open-completes
 
-    known : (n : ℕ) → n ≤ length ks → (s″ : State) × Same t (history t (take n ks) vs most log) (openRun t vs ks most log n .answer .state) s″
-    known n l = (_, follow t ok vs ks most 0 log log refl open-is-complete .1 .each n l .states)
+    known : (n : ℕ) → n ≤ length (o .schedule) → (s″ : State) × Same (o .table) (history (o .table) (first o n) (o .inputs) (o .most) (length (o .log))) (openRan o (first o n) .answer .state) s″
+    known n l = (_, follow (o .table) ok (o .inputs) (o .schedule) (o .most) 0 (o .log) (o .log) refl open-is-complete .1 .each n l .states)
 
   pub same-standstill : SameStandstill
-  same-standstill t ok vs ks most most′ log log′ ts f n l =
-      let g = known t ok vs ks most most′ log log′ ts f n l in
-      let a = accepted t ok .answer-is in
-      rw a (stand-still t (wf t ok) _ _ _ (g .0) (rw a at (f .agree n l .states)) (g .1))
+  same-standstill o ok c f n l =
+      let g = known o ok c f n l in
+      let a = accepted (o .table) ok .answer-is in
+      rw a (stand-still (o .table) (wf (o .table) ok) _ _ _ (g .0) (rw a at (f .agree n l .states)) (g .1))
 
   pub same-failure : SameFailure
-  same-failure t ok vs ks most most′ log log′ ts f n k v to l k< i j =
-      let g = known t ok vs ks most most′ log log′ ts f n l in
-      let a = accepted t ok .answer-is in
-      rw a (fail-alike t (wf t ok) _ _ _ (g .0) (rw a at (f .agree n l .states)) (g .1) k k< v to (rw a at i) j)
+  same-failure o ok c f n l k v k< i j =
+      let g = known o ok c f n l in
+      let a = accepted (o .table) ok .answer-is in
+      rw a (fail-alike (o .table) (wf (o .table) ok) _ _ _ (g .0) (rw a at (f .agree n l .states)) (g .1) k k< v (rw a at i) j)

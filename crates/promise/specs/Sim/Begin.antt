@@ -10,12 +10,12 @@ use lib.Seq.{length-take-le, getD-append-add}
 use lib.Dec.{eqb, ltb}
 use lib.IntN.{ℤ, pos}
 use borrow.Author.Tests.{eqb-true, eqb-false, ltb-true, ltb-false, lt-ltb, le-ltb}
+use Rattle.table.specs.Cases.{cases}
 use Rattle.table.specs.Mask.{pick}
 use Rattle.table.specs.Table.{procAt, taskAt}
 use Rattle.table.specs.declared.Table.{Table}
 use Rattle.text.specs.Reader.{concatFrom}
-use Rattle.closing.specs.ReachLaws.{cases}
-use Rattle.closing.specs.Dirty.{here, from-entry, top}
+use Rattle.closing.specs.Dirty.{here, by-entry, from-entry, top}
 use Rattle.closing.specs.Close.{closedWith, closeTable}
 use Rattle.machine.specs.declared.Frame.{Frame}
 use Rattle.machine.specs.declared.Entries.{Entries}
@@ -96,7 +96,7 @@ module _ (t : Table) (wf : Wf t) where
     open-size = length-append xs (replicate (16 - length xs) (pos 0)) ∙ rw length-replicate (omega (arith, wf .params p));
     closed-size = refl;
     agree = λ v l clean. cases (ltb v (length xs))
-        (λ j. absurd (clean (top k (omega (arith, ltb-true v (length xs) j)) k< e)))
+        (λ j. absurd (clean (by-entry (top k (omega (arith, ltb-true v (length xs) j)) k< e))))
         (λ j. past v (wf .vars p) l (ltb-false v (length xs) j));
     reach = λ v l d. from-entry l here d;
   }

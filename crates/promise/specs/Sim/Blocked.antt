@@ -6,11 +6,11 @@ use mathlib.Core.Bool.{true}
 use lib.ListN.{getD}
 use lib.Dec.{eqb, leb}
 use lib.IntN.{pos}
-use Rattle.table.specs.Table.{nodeAt}
-use Rattle.table.specs.declared.Node.{Node}
-use Rattle.table.specs.declared.Node.the-variants.{Absent, Start, Set, Test, Read, Call, Wait, Signal, Send, Recv, Assert, Out, Return}
+use Rattle.table.specs.Table.{nodeAt, Act, alone, waits, signals, sends, receives, calls, returns, act}
+use Rattle.table.specs.NodeLaws.{mapAct, mapped}
 use Rattle.table.specs.declared.Table.{Table}
-use Rattle.closing.specs.Close.{closedNode, closeTable}
+use Rattle.closing.specs.Closing.{dirty}
+use Rattle.closing.specs.Close.{varOr, closedNode, closeTable}
 use Rattle.closing.specs.CloseLaws.{close-cap, kept-node}
 use Rattle.machine.specs.declared.Entries.{Entries}
 use Rattle.machine.specs.declared.State.{State}
@@ -19,7 +19,7 @@ use Rattle.promise.specs.History.{History, lastSetting}
 use Rattle.promise.specs.Demand3.{SameState}
 use Rattle.promise.specs.Sim.Wf.{Declared, Wf}
 use Rattle.promise.specs.Sim.Locals.{keptAt, clean-is}
-use Rattle.promise.specs.Sim.Exec.{closing}
+use Rattle.promise.specs.Sim.Exec.{arcOf, closing}
 use Rattle.promise.specs.Sim.Same.{Same}
 
 module _ (t : Table) (h : History) (s s′ : State) where
@@ -46,21 +46,22 @@ module _ (t : Table) (h : History) (s s′ : State) where
     pub stands-closed : standsBefore (closeTable t) s′ k ≡ closing t (topmost s k .proc) (topmost s k .node) (standsBefore t s k)
     stands-closed = ap₂ (nodeAt (closeTable t)) (sym top-proc) (sym (q .next k k<)) ∙ kept-node t (topmost s k .proc) (topmost s k .node) keeps
 
-    blocked-at : (p n : ℕ) (x : Node) → Declared t x → blockedAt t s k x ≡ blockedAt (closeTable t) s′ k (closing t p n x)
-    unfolding blockedAt closedNode
-    blocked-at p n Absent i = refl
-    blocked-at p n (Start to) i = refl
-    blocked-at p n (Set v o a b to) i = refl
-    blocked-at p n (Test o a b y m) i = refl
-    blocked-at p n (Read v to) i = refl
-    blocked-at p n (Call c xs to) i = ap (leb 8) (q .frames k k<)
-    blocked-at p n (Wait j to) i = ap (λ z. eqb z 0) (q .sems j i)
-    blocked-at p n (Signal j to) i = ap (leb 255) (q .sems j i)
-    blocked-at p n (Send c v to) i = ap₂ leb (sym (close-cap t c)) (q .lengths c i)
-    blocked-at p n (Recv c v to) i = ap (λ z. eqb z 0) (q .lengths c i)
-    blocked-at p n (Assert v to) i = refl
-    blocked-at p n (Out v to) i = refl
-    blocked-at p n Return i = ap (λ z. leb z 1) (q .frames k k<)
+    blocked-at : (var : ℕ → ℕ → ℕ) (a : Act) → Declared t a → blockedAt t s k a ≡ blockedAt (closeTable t) s′ k (mapAct var a)
+    unfolding blockedAt
+    blocked-at var alone i = refl
+    blocked-at var (waits j) i = ap (λ z. eqb z 0) (q .sems j i)
+    blocked-at var (signals j) i = ap (leb 255) (q .sems j i)
+    blocked-at var (sends c v) i = ap₂ leb (sym (close-cap t c)) (q .lengths c i)
+    blocked-at var (receives c v) i = ap (λ z. eqb z 0) (q .lengths c i)
+    blocked-at var (calls c xs) i = ap (leb 8) (q .frames k k<)
+    blocked-at var returns i = ap (λ z. leb z 1) (q .frames k k<)
 
     pub same-blocked : blocked t s k ≡ blocked (closeTable t) s′ k
-    same-blocked = blocked-at (topmost s k .proc) (topmost s k .node) (standsBefore t s k) (wf .declared (topmost s k .proc) (topmost s k .node)) ∙ ap (blockedAt (closeTable t) s′ k) (sym stands-closed)
+    unfolding closedNode
+    same-blocked =
+        let p = topmost s k .proc in
+        let n = topmost s k .node in
+        let x = standsBefore t s k in
+        let var = varOr t (dirty t) p n (act x) in
+        blocked-at var (act x) (wf .declared p n)
+        ∙ ap (blockedAt (closeTable t) s′ k) (sym (mapped (arcOf t p) var x .act) ∙ ap act (sym stands-closed))

@@ -11,15 +11,16 @@ use lib.ListN.{getElem?}
 use lib.Dec.{eqb, ltb}
 use lib.IntN.{ℤ, pos}
 use borrow.Author.Tests.{eqb-true, eq-eqb, ne-eqb, ltb-true, lt-ltb}
-use Rattle.table.specs.Table.{nodeAt, argPlaces, argAt, argList, uses, arcTo, keeping}
+use Rattle.table.specs.Cases.{cases}
+use Rattle.table.specs.Table.{nodeAt, argPlaces, argAt, argList, calls, parts, uses, act, arcTo, mapArgs, mapNode}
 use Rattle.table.specs.declared.Args.{Args}
 use Rattle.table.specs.declared.Node.{Node}
 use Rattle.table.specs.declared.Node.the-variants.{Call}
 use Rattle.table.specs.declared.Table.{Table}
-use Rattle.closing.specs.ReachLaws.{cases}
-use Rattle.closing.specs.Dirty.{dropped, Dirty, here, from-entry, passed}
+use Rattle.closing.specs.Dirty.{dropped, Dirty, here, by-entry, from-entry, passed}
 use Rattle.closing.specs.Closing.{dirty, kept}
-use Rattle.closing.specs.Close.{argOr, argsOr, closedNode}
+use Rattle.closing.specs.Close.{varOr, closedNode}
+use Rattle.closing.specs.ClosedValid.{arg-at}
 use Rattle.machine.specs.State.{varAt}
 use Rattle.machine.specs.Step.{passedAt, entering}
 use Rattle.promise.specs.History.{History, isAt, executed, entered, lastSetting}
@@ -50,51 +51,48 @@ entered-other k j k′ j′ h c = rw (at-other k j k′ j′ c)
 
 -- a procedure's first node is kept
 pub first-kept : (t : Table) (p : ℕ) → Begins t p → keptAt t p zero ≡ true
-unfolding kept keeping
+unfolding kept parts
 first-kept t p b = ap (kept (dirty t) p zero) (b .1)
 
 -- a call is kept, and its arc is closed
 pub call-kept : (t : Table) (p n : ℕ) → IsCall (nodeAt t p n) → keptAt t p n ≡ true
-unfolding kept keeping
+unfolding kept parts
 call-kept t p n c = ap (kept (dirty t) p n) (c .3)
 
 pub call-arc : (t : Table) (p n : ℕ) (x : Node) → IsCall x → arcTo (closing t p n x) ≡ arcOf t p (arcTo x)
-unfolding closedNode arcTo
+unfolding closedNode mapNode parts
 call-arc t p n x c = rw (c .3)
 
 -- ---- what a call passes
 
-arg-or : (t : Table) (c : ℕ) (xs : Args) (v : ℕ) → v < 4 → argAt (argsOr t (dirty t) c xs) v ≡ argOr t (dirty t) c (xs .len) v (argAt xs v)
-arg-or t c xs zero l = refl
-arg-or t c xs (suc zero) l = refl
-arg-or t c xs (suc (suc zero)) l = refl
-arg-or t c xs (suc (suc (suc zero))) l = refl
-arg-or t c xs (suc (suc (suc (suc v)))) l = absurd (omega arith)
+-- the arguments of the closed call
+abbrev pub argsOr : Table → ℕ → Args → Args
+argsOr t c xs = mapArgs (varOr t (dirty t) 0 0 (calls c xs)) xs
 
 module _ (t : Table) (wf : Wf t) (p n c to : ℕ) (xs : Args) (la : Last) (lo lc : List ℤ) (e : nodeAt t p n ≡ Call c xs to) (r : Locals t p n la lo lc) where
-  arg-eq : (v : ℕ) → v < xs .len → (Dirty t (dropped c v) → ⊥) → varAt lo (argAt xs v) ≡ varAt lc (argAt (argsOr t (dirty t) c xs) v)
-  unfolding uses
+  arg-eq : (v : ℕ) → v < xs .len → (Dirty t (dropped c v) → ⊥) → varAt lo (argAt xs v) ≡ varAt lc (argAt (argsOr t c xs) v)
+  unfolding parts
   arg-eq v l clean =
       let count = (rw e at (wf .declared p n)) .0 in
       let l₄ : v < 4 = omega (arith, wf .params c) in
       let u = argAt xs v in
       let at : getElem? (argList xs) v ≡ some u = take-at? (argPlaces xs) (xs .len) v 0 l (omega (arith, wf .params c)) in
-      rw (arg-or t c xs v l₄, lt-ltb v (xs .len) l, D-false t (dropped c v) clean)
-      (clean-use t p n u la lo lc r (wf .uses< p n u (rw e (at-in (argList xs) v u at))) (λ d. clean (passed p n u to xs (omega arith) e at d)))
+      rw (arg-at (varOr t (dirty t) 0 0 (calls c xs)) xs v l₄, lt-ltb v (xs .len) l, D-false t (dropped c v) clean)
+      (clean-use t p n u la lo lc r (wf .uses< p n u (rw e (at-in (argList xs) v u at))) (λ d. clean (passed p n u xs (omega arith) (ap act e) at d)))
 
-  passed-eq : (v : ℕ) → (Dirty t (dropped c v) → ⊥) → passedAt lo xs v ≡ passedAt lc (argsOr t (dirty t) c xs) v
+  passed-eq : (v : ℕ) → (Dirty t (dropped c v) → ⊥) → passedAt lo xs v ≡ passedAt lc (argsOr t c xs) v
   passed-eq v clean = cases (ltb v (xs .len))
       (λ k. rw k (arg-eq v (ltb-true v (xs .len) k) clean))
       (λ k. rw k)
 
-  pub call-locals : Locals t c zero (lastOf t c []) (entering lo c xs .vars) (entering lc c (argsOr t (dirty t) c xs) .vars)
+  pub call-locals : Locals t c zero (lastOf t c []) (entering lo c xs .vars) (entering lc c (argsOr t c xs) .vars)
   unfolding lastSetting
   call-locals = record {
     open-size = concat-length (passedAt lo xs) 16 0;
-    closed-size = concat-length (passedAt lc (argsOr t (dirty t) c xs)) 16 0;
+    closed-size = concat-length (passedAt lc (argsOr t c xs)) 16 0;
     agree = λ v l clean. let l₁₆ : v < 16 = omega (arith, wf .vars c) in
         concat-at (passedAt lo xs) 16 0 v (pos 0) l₁₆
-        ∙ rw zero-add (passed-eq v clean)
-        ∙ sym (concat-at (passedAt lc (argsOr t (dirty t) c xs)) 16 0 v (pos 0) l₁₆);
+        ∙ rw zero-add (passed-eq v (λ d. clean (by-entry d)))
+        ∙ sym (concat-at (passedAt lc (argsOr t c xs)) 16 0 v (pos 0) l₁₆);
     reach = λ v l d. from-entry l here d;
   }

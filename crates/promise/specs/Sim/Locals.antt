@@ -11,11 +11,11 @@ use lib.Seq.{getD-set-same, getD-set-other}
 use lib.Dec.{eqb}
 use lib.IntN.{ℤ, pos}
 use borrow.Author.Tests.{eqb-true, eqb-false, eq-eqb}
+use Rattle.table.specs.Cases.{cases}
 use Rattle.table.specs.Mask.{pick}
 use Rattle.table.specs.Table.{nodeAt, procAt, variableSet, arcs}
 use Rattle.table.specs.declared.Table.{Table}
-use Rattle.closing.specs.ReachLaws.{cases}
-use Rattle.closing.specs.Dirty.{Fact, settingAt, useAt, dropped, blank, Dirty, here, from-node}
+use Rattle.closing.specs.Dirty.{Fact, settingAt, entryAt, dirtyBefore, blank, Dirty, here, from-node}
 use Rattle.closing.specs.Closing.{setsVar, dirty, isDirty, kept}
 use Rattle.closing.specs.DirtyLaws.{dirty-is, use-on, setsVar-other}
 use Rattle.machine.specs.declared.Entries.{Entries}
@@ -28,7 +28,7 @@ abbrev pub Last : Type 0
 Last = ℕ → Option ℕ
 
 abbrev pub settingOf : ℕ → ℕ → Option ℕ → Fact
-settingOf p v none = dropped p v
+settingOf p v none = entryAt p v
 settingOf p v (some n) = settingAt p n
 
 module _ (t : Table) where
@@ -83,10 +83,10 @@ module _ (t : Table) where
     pub open-size : length lo ≡ 16
     pub closed-size : length lc ≡ 16
     pub agree : (v : ℕ) → v < procAt t p .vars → (Dirty t (settingOf p v (la v)) → ⊥) → varAt lo v ≡ varAt lc v
-    pub reach : (v : ℕ) → v < procAt t p .vars → Dirty t (settingOf p v (la v)) → Dirty t (useAt p n v)
+    pub reach : (v : ℕ) → v < procAt t p .vars → Dirty t (settingOf p v (la v)) → Dirty t (dirtyBefore p n v)
 
   -- a use that is not dirty finds the same value
-  pub clean-use : (p n u : ℕ) (la : Last) (lo lc : List ℤ) → Locals p n la lo lc → u < procAt t p .vars → (Dirty t (useAt p n u) → ⊥) → varAt lo u ≡ varAt lc u
+  pub clean-use : (p n u : ℕ) (la : Last) (lo lc : List ℤ) → Locals p n la lo lc → u < procAt t p .vars → (Dirty t (dirtyBefore p n u) → ⊥) → varAt lo u ≡ varAt lc u
   clean-use p n u la lo lc r l c = r .agree u l (λ d. c (r .reach u l d))
 
   -- the same last settings
@@ -118,7 +118,7 @@ module _ (t : Table) where
         (λ j. let i = eqb-true w v j in rw i (rw (getD-set-same lo v x (pos 0) (omega (arith, r .open-size))) (new (rw (i, mark-same p n v la e) at c))))
         (λ j. let i : w ≢ v = eqb-false w v j in rw (getD-set-other lo v w x (pos 0) i) (r .agree w l (rw (mark-other p n w la (not-set w i)) at c) ∙ sym (other w i)))
 
-    set-reach : (w : ℕ) → w < procAt t p .vars → Dirty t (settingOf p w (mark p n la w)) → Dirty t (useAt p m w)
+    set-reach : (w : ℕ) → w < procAt t p .vars → Dirty t (settingOf p w (mark p n la w)) → Dirty t (dirtyBefore p m w)
     set-reach w l d = cases (eqb w v)
         (λ j. let i = eqb-true w v j in from-node n m l (rw i e) a here (rw (i, mark-same p n v la e) at d))
         (λ j. let i : w ≢ v = eqb-false w v j in use-on t (not-set w i) a (r .reach w l (rw (mark-other p n w la (not-set w i)) at d)))

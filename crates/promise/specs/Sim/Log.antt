@@ -12,14 +12,13 @@ use lib.Seq.{sets}
 use lib.Dec.{eqb}
 use lib.IntN.{ℤ}
 use borrow.Author.Tests.{eqb-true, eqb-false}
+use Rattle.table.specs.Cases.{cases}
 use Rattle.table.specs.declared.Table.{Table}
-use Rattle.closing.specs.ReachLaws.{cases}
 use Rattle.closing.specs.Dirty.{Unkept}
 use Rattle.closing.specs.KeptLaws.{unkept-is}
 use Rattle.machine.specs.Step.{Entry}
-use Rattle.machine.specs.Run.{flagged, entryBytes}
+use Rattle.machine.specs.Run.{flagged, entryBytes, SameLog}
 use Rattle.machine.specs.ClosedRun.{bytes-length}
-use Rattle.promise.specs.Demand3.{SameLog}
 use Rattle.promise.specs.Sim.Stores.{sets-before, sets-at}
 use Rattle.promise.specs.Sim.Locals.{keptAt}
 use Rattle.promise.specs.Sim.Exec.{SameValue}

@@ -9,15 +9,16 @@ use lib.Seq.{sets, length-sets}
 use lib.Dec.{ltb}
 use lib.IntN.{ℤ}
 use borrow.Author.Tests.{ltb-true, ltb-false, lt-ltb, le-ltb}
+use Rattle.table.specs.Cases.{cases}
 use Rattle.table.specs.declared.Table.{Table}
-use Rattle.closing.specs.ReachLaws.{cases}
 use Rattle.closing.specs.ListLaws.{all-nil, all-append}
 use Rattle.closing.specs.Close.{closedWith, closeTable}
 use Rattle.machine.specs.declared.State.{State}
 use Rattle.machine.specs.Step.{Stop, noSuchTask, logFull, taskLost, taskBlocked, tooMany, valuesSpent, badToss, stopNumber, Kept, Entry, Step, stopped, stepped, step}
 use Rattle.machine.specs.KeptLaws.{allKept}
-use Rattle.machine.specs.Run.{entryBytes, Ran, turn, afterStep, runFrom}
-use Rattle.promise.specs.History.{History, afterEntry, afterTurn, historyFrom}
+use Rattle.machine.specs.Run.{entryBytes, Ran, turn, andThen, courseFrom, ranFrom}
+use Rattle.machine.specs.RunLaws.{runFrom, afterStep, run-next}
+use Rattle.promise.specs.History.{History, notedAfter, historyFrom}
 use Rattle.promise.specs.Demand3.{Toss, Tosses}
 use Rattle.promise.specs.Sim.Wf.{Wf}
 use Rattle.promise.specs.Sim.Locals.{keptAt}
@@ -37,14 +38,14 @@ stop-number tooMany e = absurd (omega arith)
 stop-number valuesSpent e = absurd (omega arith)
 stop-number badToss e = absurd (omega arith)
 
-module _ (u : Table) (keep : Kept) (most : ℕ) (k : ℕ) (ks : List ℕ) (n : ℕ) (s : State) (rest : List ℤ) (log : List ℕ) where
-  run-step : (all : List ℤ) (r : Step) → turn u keep most k n s rest log ≡ r → runFrom u keep most all (k ∷ ks) n s rest log ≡ afterStep u keep most all (λ m z v l. runFrom u keep most all ks m z v l) n s rest log r
-  unfolding runFrom
-  run-step all r e = ap (afterStep u keep most all (λ m z v l. runFrom u keep most all ks m z v l) n s rest log) e
+module _ (u : Table) (keep : Kept) (most : ℕ) (k : ℕ) (ks : List ℕ) (n : ℕ) (s : State) (rest : List ℤ) where
+  run-step : (log : List ℕ) (all : List ℤ) (r : Step) → turn u keep most (length log) k n s rest ≡ r → runFrom u keep most all (k ∷ ks) n s rest log ≡ afterStep u keep most all ks n s rest log r
+  run-step log all r e = run-next u keep most all k ks n s rest log ∙ ap (afterStep u keep most all ks n s rest log) e
 
-  history-step : (h : History) (r : Step) → turn u keep most k n s rest log ≡ r → historyFrom u keep most (k ∷ ks) n s rest log h ≡ afterTurn u keep most (λ m z v l h₁. historyFrom u keep most ks m z v l h₁) n s log h r
-  unfolding historyFrom
-  history-step h r e = ap (afterTurn u keep most (λ m z v l h₁. historyFrom u keep most ks m z v l h₁) n s log h) e
+  history-step : (room : ℕ) (h : History) (e : Entry) (ns : List ℕ) (z : State) (ws : List ℤ) → turn u keep most room k n s rest ≡ stepped e ns z ws
+      → historyFrom u s h (courseFrom u keep most room (k ∷ ks) n s rest .steps) ≡ historyFrom u z (notedAfter u s e ns h) (courseFrom u keep most room ks (suc n) z ws .steps)
+  unfolding courseFrom historyFrom
+  history-step room h e ns z ws i = ap (λ (r : Step). historyFrom u s h (andThen u keep most room (λ z ws. courseFrom u keep most room ks (suc n) z ws) r .steps)) i
 
 module _ (t : Table) (wf : Wf t) (most most′ : ℕ) where
   abbrev t′ : Table
@@ -58,13 +59,13 @@ module _ (t : Table) (wf : Wf t) (most most′ : ℕ) where
     state′ : State
     tosses : List ℤ
     small : Tosses tosses
-    closes : (ws : List ℤ) → turn t′ allKept most′ k n s′ (tosses ++ ws) log′ ≡ stepped entry′ [] state′ ws
+    closes : (ws : List ℤ) → turn t′ allKept most′ (length log′) k n s′ (tosses ++ ws) ≡ stepped entry′ [] state′ ws
     entries : SameEntry t e entry′
-    states : Same t (afterEntry t s e ns h) s₁ state′
+    states : Same t (notedAfter t s e ns h) s₁ state′
 
-  turn-is : (u : Table) (keep : Kept) (m k n : ℕ) (s : State) (rest : List ℤ) (log : List ℕ) → k < u .tasks → 8 * n + 8 ≤ length log → turn u keep m k n s rest log ≡ step u keep m s k rest
+  turn-is : (u : Table) (keep : Kept) (m room k n : ℕ) (s : State) (rest : List ℤ) → k < u .tasks → 8 * n + 8 ≤ room → turn u keep m room k n s rest ≡ step u keep m s k rest
   unfolding turn
-  turn-is u keep m k n s rest log l r = rw (lt-ltb k (u .tasks) l, le-ltb (length log) (8 * n + 8) r, turn)
+  turn-is u keep m room k n s rest l r = rw (lt-ltb k (u .tasks) l, le-ltb room (8 * n + 8) r, turn)
 
   same-tasks : t′ .tasks ≡ t .tasks
   unfolding closeTable closedWith
@@ -79,12 +80,12 @@ module _ (t : Table) (wf : Wf t) (most most′ : ℕ) where
     state′ = d .state′;
     tosses = d .tosses;
     small = d .small;
-    closes = λ ws. turn-is t′ allKept most′ k n s′ (d .tosses ++ ws) log′ (rw same-tasks k<) (omega arith) ∙ d .closes ws;
+    closes = λ ws. turn-is t′ allKept most′ (length log′) k n s′ (d .tosses ++ ws) (rw same-tasks k<) (omega arith) ∙ d .closes ws;
     entries = d .entries;
     states = d .states;
   }
 
-  turn-sim : (h : History) (s s′ : State) → Same t h s s′ → (k n : ℕ) (rest : List ℤ) (log log′ : List ℕ) → length log′ ≡ length log → WhenStepped (Turned h s s′ k n log log′) (turn t (keptAt t) most k n s rest log)
+  turn-sim : (h : History) (s s′ : State) → Same t h s s′ → (k n : ℕ) (rest : List ℤ) (log log′ : List ℕ) → length log′ ≡ length log → WhenStepped (Turned h s s′ k n log log′) (turn t (keptAt t) most (length log) k n s rest)
   unfolding turn
   turn-sim h s s′ q k n rest log log′ size = cases (ltb k (t .tasks))
       (λ a. cases (ltb (length log) (8 * n + 8))
@@ -109,7 +110,7 @@ module _ (t : Table) (wf : Wf t) (most most′ : ℕ) where
     opens ks n s rest log = runFrom t (keptAt t) most all ks n s rest log
 
     abbrev noted : List ℕ → ℕ → State → List ℤ → List ℕ → History → History
-    noted ks n s rest log h = historyFrom t (keptAt t) most ks n s rest log h
+    noted ks n s rest log h = historyFrom t s h (courseFrom t (keptAt t) most (length log) ks n s rest .steps)
 
     abbrev closes : List ℤ → List ℕ → ℕ → State → List ℤ → List ℕ → Ran
     closes all′ ks n s ts log = runFrom t′ allKept most′ all′ ks n s ts log
@@ -123,15 +124,15 @@ module _ (t : Table) (wf : Wf t) (most most′ : ℕ) where
 
     -- before any step
     none-yet : (n : ℕ) (s s′ : State) (h : History) (rest : List ℤ) (log log′ : List ℕ) (ts all′ : List ℤ) → Same t h s s′ → SameLogs t n log log′ → Strong (noted [] n s rest log h) (n + zero) (opens [] n s rest log) (closes all′ [] n s′ ts log′)
-    unfolding runFrom historyFrom
+    unfolding runFrom courseFrom ranFrom historyFrom
     none-yet n s s′ h rest log log′ ts all′ q l = rw add-zero (record { open-completes = refl; closed-completes = refl; open-steps = refl; closed-steps = refl; logs = l; states = q })
 
     -- one step more
     one-more : (k : ℕ) (ks : List ℕ) (n : ℕ) (s s′ : State) (h : History) (rest : List ℤ) (log log′ : List ℕ) (e : Entry) (ns : List ℕ) (s₁ : State) (vs : List ℤ) (ts all′ : List ℤ)
         → Same t h s s′ → SameLogs t n log log′
-        → turn t (keptAt t) most k n s rest log ≡ stepped e ns s₁ vs
+        → turn t (keptAt t) most (length log) k n s rest ≡ stepped e ns s₁ vs
         → (d : Turned h s s′ k n log log′ e ns s₁ vs)
-        → Follows ks (suc n) s₁ (d .state′) (afterEntry t s e ns h) vs (sets log (8 * n) (entryBytes e)) (sets log′ (8 * n) (entryBytes (d .entry′))) ts all′
+        → Follows ks (suc n) s₁ (d .state′) (notedAfter t s e ns h) vs (sets log (8 * n) (entryBytes e)) (sets log′ (8 * n) (entryBytes (d .entry′))) ts all′
         → Follows (k ∷ ks) n s s′ h rest log log′ (d .tosses ++ ts) all′
     one-more k ks n s s′ h rest log log′ e ns s₁ vs ts all′ q l i d f = record {
       completes = rw (closed-is ks) (f .completes);
@@ -148,26 +149,32 @@ module _ (t : Table) (wf : Wf t) (most most′ : ℕ) where
 
         each : (m : ℕ) → m ≤ length (k ∷ ks) → Strong (noted (take m (k ∷ ks)) n s rest log h) (n + m) (opens (take m (k ∷ ks)) n s rest log) (closes all′ (take m (k ∷ ks)) n s′ us log′)
         each zero a = none-yet n s s′ h rest log log′ us all′ q l
-        each (suc m) a = rw (add-suc, ← suc-add n m, closed-is (take m ks), run-step t (keptAt t) most k (take m ks) n s rest log all (stepped e ns s₁ vs) i, history-step t (keptAt t) most k (take m ks) n s rest log h (stepped e ns s₁ vs) i) (f .each m (omega arith))
+        each (suc m) a = rw (
+          add-suc,
+          ← suc-add n m,
+          closed-is (take m ks),
+          run-step t (keptAt t) most k (take m ks) n s rest log all (stepped e ns s₁ vs) i,
+          history-step t (keptAt t) most k (take m ks) n s rest (length log) h e ns s₁ vs i,
+        ) (rw (length-sets log (8 * n) (entryBytes e)) at (f .each m (omega arith)))
 
     pub run-sim : (ks : List ℕ) (n : ℕ) (s s′ : State) (h : History) (rest : List ℤ) (log log′ : List ℕ) → Same t h s s′ → SameLogs t n log log′ → length log′ ≡ length log
         → opens ks n s rest log .answer .stop ≡ 0 → (ts : List ℤ) × ((all′ : List ℤ) → Follows ks n s s′ h rest log log′ ts all′)
-    unfolding runFrom
+    unfolding runFrom courseFrom ranFrom
     run-sim [] n s s′ h rest log log′ q l size c = ([], λ all′. record { completes = refl; used-up = sub-zero (length all′); small = all-nil Toss; each = each all′ })
       where
         each : (all′ : List ℤ) (m : ℕ) → m ≤ 0 → Strong (noted (take m []) n s rest log h) (n + m) (opens (take m []) n s rest log) (closes all′ (take m []) n s′ [] log′)
         each all′ zero a = none-yet n s s′ h rest log log′ [] all′ q l
         each all′ (suc m) a = absurd (omega arith)
-    run-sim (k ∷ ks) n s s′ h rest log log′ q l size c = go (turn t (keptAt t) most k n s rest log) refl (turn-sim h s s′ q k n rest log log′ size)
+    run-sim (k ∷ ks) n s s′ h rest log log′ q l size c = go (turn t (keptAt t) most (length log) k n s rest) refl (turn-sim h s s′ q k n rest log log′ size)
         (λ n₁ s₁ s₁′ h₁ vs log₁ log₁′ q₁ l₁ size₁ c₁. run-sim ks n₁ s₁ s₁′ h₁ vs log₁ log₁′ q₁ l₁ size₁ c₁)
       where
-        go : (r : Step) → turn t (keptAt t) most k n s rest log ≡ r → WhenStepped (Turned h s s′ k n log log′) r
+        go : (r : Step) → turn t (keptAt t) most (length log) k n s rest ≡ r → WhenStepped (Turned h s s′ k n log log′) r
             → ((n₁ : ℕ) (s₁ s₁′ : State) (h₁ : History) (vs : List ℤ) (log₁ log₁′ : List ℕ) → Same t h₁ s₁ s₁′ → SameLogs t n₁ log₁ log₁′ → length log₁′ ≡ length log₁
             → opens ks n₁ s₁ vs log₁ .answer .stop ≡ 0 → (ts : List ℤ) × ((all′ : List ℤ) → Follows ks n₁ s₁ s₁′ h₁ vs log₁ log₁′ ts all′))
             → (ts : List ℤ) × ((all′ : List ℤ) → Follows (k ∷ ks) n s s′ h rest log log′ ts all′)
         go (stopped z) i d f = absurd (stop-number z (rw (run-step t (keptAt t) most k ks n s rest log all (stopped z) i) at c))
         go (stepped e ns s₁ vs) i d f =
-            let b = f (suc n) s₁ (d .state′) (afterEntry t s e ns h) vs (sets log (8 * n) (entryBytes e)) (sets log′ (8 * n) (entryBytes (d .entry′))) (d .states)
+            let b = f (suc n) s₁ (d .state′) (notedAfter t s e ns h) vs (sets log (8 * n) (entryBytes e)) (sets log′ (8 * n) (entryBytes (d .entry′))) (d .states)
             (log-next t n log log′ e (d .entry′) l (d .entries) size (d .room))
             (length-sets log′ (8 * n) (entryBytes (d .entry′)) ∙ size ∙ sym (length-sets log (8 * n) (entryBytes e)))
             (rw (run-step t (keptAt t) most k ks n s rest log all (stepped e ns s₁ vs) i) at c) in

@@ -11,8 +11,8 @@ use lib.Seq.{sets, set-out, getD-set-same, getD-set-other}
 use lib.Dec.{eqb, ltb}
 use borrow.Author.Tests.{eqb-true, eqb-false, ltb-true, ltb-false}
 use Rattle.text.specs.Reader.{concatFrom}
-use Rattle.closing.specs.ReachLaws.{cases}
 use Rattle.machine.specs.State.{place}
+use Rattle.table.specs.Cases.{cases}
 
 -- ---- two lists of one length, stored to at one place: what relates their elements, place by place, still does
 
