@@ -1,23 +1,25 @@
 -- Reading the cells: each bit is what `dirty` computes, and a node is kept by its cell if and only if it is kept.
 use Prim.Native.Nat.{ℕ, _+_, _*_, _<_, _≤_}
 use mathlib.Core.Path.{_≡_, refl, _∙_}
+use mathlib.Core.Bool.{false}
 use mathlib.Core.List.{List, [], _∷_, List·Memᴰ, List·Memᴰ·head, List·Memᴰ·tail}
-use lib.ListN.{length}
 use Rattle.table.specs.Mask.{bit, maskOf}
-use Rattle.table.specs.MaskLaws.{maskOf-lt, bit-maskOf}
-use Rattle.table.specs.Table.{procAt, nodeAt, Keeping, always, ifClean, never, absent, uses, keeping}
+use Rattle.table.specs.MaskLaws.{bit-maskOf}
+use Rattle.table.specs.Table.{procAt, nodeAt, Keeping, always, ifClean, never, absent, parts, uses, keeping}
 use Rattle.table.specs.declared.Node.{Node}
+use Rattle.table.specs.declared.Node.the-variants.{Absent}
 use Rattle.table.specs.declared.Table.{Table}
 use Rattle.closing.specs.Dirty.{Fact, dirtyBefore, dropped, blank}
 use Rattle.closing.specs.Closing.{dirty, isDirty, anyDirty, kept}
 use Rattle.closing.specs.Closing as K
 use Rattle.closing.specs.DirtyLaws.{dirty-is}
 use Rattle.closing.specs.KeptLaws.{same-test}
-use Rattle.masks.specs.Cells.{cell, Filled, filled-masks}
+use Rattle.masks.specs.Cells.{cell}
 use Rattle.flow.specs.Flow.{anyOf, keptBy, keptWith}
 use Rattle.analysis.specs.Ready.{FitsNode, Ready}
 use Rattle.analysis.specs.Decides.{Decides, KeptMasks}
 use Rattle.analysis.specs.Steps.{keptIn}
+use Rattle.analysis.specs.Marked.{Marked, marked-masks, marked-right}
 use Rattle.analysis.specs.NodeLaws.{var-mod}
 
 -- ---- a node is kept by the variables that are dirty before it
@@ -38,6 +40,11 @@ module _ (d : List Fact) (p n i vars : ℕ) (few : vars ≤ 16) (h : (v : ℕ) �
   unfolding kept
   kept-node t x f = kept-by (keeping x) (uses x) (f .uses)
 
+-- no node is kept where there is none
+not-kept : (x : Node) (i : ℕ) → x ≡ Absent → keptWith x i ≡ false
+unfolding parts
+not-kept x i e = rw e
+
 module _ (t : Table) (o : Ready t) (l : List ℕ) (d : Decides t l) where
   pub read-use : (p n v : ℕ) → p < 8 → n < 32 → bit v (cell l (p * 32 + n)) ≡ isDirty (dirty t) (dirtyBefore p n v)
   read-use p n v hp hn = same-test _ _ (d .uses p n v hp hn) (dirty-is t (dirtyBefore p n v))
@@ -55,8 +62,8 @@ module _ (t : Table) (o : Ready t) (l : List ℕ) (d : Decides t l) where
   pub kept-bit : (p n : ℕ) → p < 8 → n < 32 → bit n (maskOf 32 (keptIn (procAt t p) (p * 32) l)) ≡ kept (dirty t) p n (nodeAt t p n)
   kept-bit p n hp hn = bit-maskOf 32 n (keptIn (procAt t p) (p * 32) l) hn ∙ read-kept p n hp hn
 
-  pub kept-masks : (r : List ℕ) → length r ≡ 8 → Filled (λ p. maskOf 32 (keptIn (procAt t p) (p * 32) l)) 8 r → KeptMasks t r
-  kept-masks r e f = record {
-    masks = filled-masks _ 8 32 r e f (λ p h. maskOf-lt 32 (keptIn (procAt t p) (p * 32) l));
-    right = λ p n hp hn. rw (f p hp) (kept-bit p n hp hn);
+  pub kept-masks : {k : ℕ} {r : List ℕ} → t .procs ≤ k → Marked t (λ p. keptIn (procAt t p) (p * 32) l) k r → KeptMasks t r
+  kept-masks h g = record {
+    masks = marked-masks o g;
+    right = λ p n hp hn. marked-right o g h (λ a b. not-kept (nodeAt t a b) (cell l (a * 32 + b))) p n ∙ read-kept p n hp hn;
   }

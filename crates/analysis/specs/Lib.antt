@@ -5,6 +5,7 @@ pub mod NodeLaws
 pub mod StepLaws
 pub mod Decide
 pub mod Todo
+pub mod Marked
 pub mod Sources
 pub mod Plans
 pub mod Worklist

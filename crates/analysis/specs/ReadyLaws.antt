@@ -14,7 +14,7 @@ use Rattle.text.specs.Writer.{scope, fault}
 use Rattle.table.specs.Shape.{Shaped}
 use Rattle.text.specs.Valid.{Valid, Named, ActValid, ExitValid}
 use Rattle.text.specs.PartsLaws.{parts-of, count-of}
-use Rattle.text.specs.ValidLaws.{valid-of, far-empty, named-open}
+use Rattle.text.specs.ValidLaws.{valid-of, far-empty, outside-absent, named-open}
 use Rattle.analysis.specs.Ready.{One, FitsExit, FitsAct, FitsNode, Ready}
 
 one : {m : ℕ} → (k : ℕ) × (members m ≡ k ∷ []) → One m
@@ -58,10 +58,13 @@ module _ (t : Table) (s : Shaped t) (z : fault t ≡ 0) (o : t .closed ≡ false
     procs-size = s .procs;
     slots-size = s .slots;
     queues-size = s .queues;
+    procs-few = v .lines .procs;
+    nodes-few = λ p. byOrder p (t .procs) (λ l. v .lines .proc p l .nodes) (λ l. omega (arith, far-empty t (v .unused) p l .2));
     tasks-few = v .lines .tasks;
     tops-low = λ k l. below (taskAt t k .top) (v .lines .top k l);
     params-few = λ p. byOrder p (t .procs) (λ l. v .lines .proc p l .params) (λ l. omega (arith, far-empty t (v .unused) p l .0));
     params-are-vars = λ p. byOrder p (t .procs) (λ l. v .lines .proc p l .varsLow) (λ l. omega (arith, far-empty t (v .unused) p l .0));
     vars-few = λ p. byOrder p (t .procs) (λ l. v .lines .proc p l .vars) (λ l. omega (arith, far-empty t (v .unused) p l .1));
     fits = fit;
+    beyond = outside-absent t z;
   }

@@ -1,22 +1,23 @@
 -- The sources: reads and receives. After them a variable can be dirty though none is dirty before them; a receive goes by the blank queues.
-use Prim.Native.Nat.{ℕ, _%_, _^_, _<_}
+use Prim.Native.Nat.{ℕ, _%_, _^_, _<_, _≤_}
 use mathlib.Core.Path.{_≡_, refl, sym, _∙_, ap}
 use mathlib.Core.Option.{Option, none, some}
 use mathlib.Core.Bool.{Bool, true, false, false≢true}
 use mathlib.Core.Logic.{_⊎_, inl, inr, _≢_}
 use mathlib.Core.List.{List}
-use lib.ListN.{length}
 use Rattle.table.specs.Cases.{cases}
-use Rattle.table.specs.Mask.{bit, maskOf}
-use Rattle.table.specs.MaskLaws.{maskOf-lt, bit-maskOf}
+use Rattle.table.specs.Mask.{bit}
 use Rattle.table.specs.Table.{nodeAt, nodeIn, Exit, ends, by, either, Act, alone, waits, signals, sends, receives, calls, returns, parts, variableSet, keeping, act}
 use Rattle.table.specs.declared.Node.{Node}
+use Rattle.table.specs.declared.Node.the-variants.{Absent}
 use Rattle.table.specs.declared.Proc.{Proc}
 use Rattle.table.specs.declared.Table.{Table}
 use Rattle.masks.specs.Bits.{bit-zero}
-use Rattle.masks.specs.Cells.{cell, Masks, Filled, filled-masks}
+use Rattle.masks.specs.Cells.{cell, Masks}
 use Rattle.flow.specs.Flow.{afterSet, isNever, receivesBy, fromBlank, setDirty, afterAny, outBy, addBy, flowOf}
+use Rattle.analysis.specs.Ready.{Ready}
 use Rattle.analysis.specs.Steps.{Held}
+use Rattle.analysis.specs.Marked.{Marked, marked-masks, marked-right}
 use Rattle.analysis.specs.NodeLaws.{after-out, ByRule, by-never, by-use, by-blank, rule-of, passed-out, sent-out}
 
 abbrev pub isRead : Node → Bool
@@ -100,8 +101,5 @@ Reads t r = Marks isRead t r
 abbrev pub Receivers : Table → List ℕ → Type 0
 Receivers t r = Marks isRecv t r
 
-pub marks : (f : Node → Bool) (t : Table) (r : List ℕ) → length r ≡ 8 → Filled (λ p. maskOf 32 (λ n. f (nodeAt t p n))) 8 r → Marks f t r
-marks f t r s h = record {
-  masks = filled-masks (λ p. maskOf 32 (λ n. f (nodeAt t p n))) 8 32 r s h (λ p b. maskOf-lt 32 (λ n. f (nodeAt t p n)));
-  right = λ p n hp hn. rw (h p hp) (bit-maskOf 32 n (λ n. f (nodeAt t p n)) hn);
-}
+pub marks : {t : Table} {p : ℕ} {r : List ℕ} (f : Node → Bool) → f Absent ≡ false → Ready t → t .procs ≤ p → Marked t (λ a n. f (nodeAt t a n)) p r → Marks f t r
+marks f z o h g = record { masks = marked-masks o g; right = λ a n ha hn. marked-right o g h (λ a n e. ap f e ∙ z) a n }

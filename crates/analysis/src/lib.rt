@@ -15,7 +15,7 @@ ghost use Rattle.analysis.specs.Ready.{Ready};
 ghost use Rattle.analysis.specs.Decides.{Decides, KeptMasks};
 ghost use Rattle.analysis.specs.Steps.{entered, passedOn, stepWith, keptIn};
 ghost use Rattle.analysis.specs.Sources.{isRead, isRecv, readIn, recvIn};
-ghost use Rattle.analysis.specs.Plans.{storedFrom, passAt, Planned};
+ghost use Rattle.analysis.specs.Plans.{Tells, storedFrom, passAt, Planned};
 ghost use Rattle.analysis.specs.Worklist.{isNew, todoReached, woken, todoBlank, todoPassed, todoStepped, nextTo, todoTaken, Seen, pendingOf};
 ghost use Rattle.analysis.specs.Work.{Sized, Works};
 
@@ -148,7 +148,7 @@ fn spread(
     Next { on, to: first }
 }
 
-// One node, of which s says what it does if it has one target.
+// One node, of which s says what it does if it has one target; with 32 for the target s says nothing.
 fn visit(
     x: Node,
     s: Pass,
@@ -158,7 +158,7 @@ fn visit(
     todo: &mut [u32; 8],
     recvs: &[u32; 8],
 ) -> Next
-    requires { ⌜ (p < 8) × ((n < 32) × (Sized (now cells) (now todo) × (s ≡ passOf x n))) ⌝ }
+    requires { ⌜ (p < 8) × ((n < 32) × (Sized (now cells) (now todo) × Tells x n s)) ⌝ }
     ensures list { λ r. ⌜ now (cells .exit) ≡ stepWith (flowOf x n (cell (now (cells .entry)) (p * 32 + n)) (cell (now (cells .entry)) 264)) p (now (cells .entry)) ⌝ }
     ensures todo { λ r. ⌜ now (todo .exit) ≡ todoStepped (now (recvs .entry)) (flowOf x n (cell (now (cells .entry)) (p * 32 + n)) (cell (now (cells .entry)) 264)) p (now (cells .entry)) (now (todo .entry)) ⌝ }
     ensures next { λ r. ⌜ r ≡ nextTo (now (cells .entry)) p (flowOf x n (cell (now (cells .entry)) (p * 32 + n)) (cell (now (cells .entry)) 264) .first) (flowOf x n (cell (now (cells .entry)) (p * 32 + n)) (cell (now (cells .entry)) 264) .out) ⌝ }
@@ -284,17 +284,18 @@ fn plan(
     sets: &mut [u32; 256],
     tos: &mut [u8; 256],
 ) -> Sources
-    requires { ⌜ p < 8 ⌝ }
-    ensures uses { λ r. ⌜ now (uses .exit) ≡ storedFrom (p * 32) (λ n. passOf (nodeIn q n) n .uses) 32 (now (uses .entry)) ⌝ }
-    ensures sets { λ r. ⌜ now (sets .exit) ≡ storedFrom (p * 32) (λ n. passOf (nodeIn q n) n .sets) 32 (now (sets .entry)) ⌝ }
-    ensures tos { λ r. ⌜ now (tos .exit) ≡ storedFrom (p * 32) (λ n. passOf (nodeIn q n) n .to) 32 (now (tos .entry)) ⌝ }
-    ensures reads { λ r. ⌜ r .reads ≡ maskOf 32 (readIn q) ⌝ }
-    ensures recvs { λ r. ⌜ r .recvs ≡ maskOf 32 (recvIn q) ⌝ }
+    requires { ⌜ (p < 8) × (q .nodes ≤ 32) ⌝ }
+    ensures uses { λ r. ⌜ now (uses .exit) ≡ storedFrom (p * 32) (λ n. passOf (nodeIn q n) n .uses) (q .nodes) (now (uses .entry)) ⌝ }
+    ensures sets { λ r. ⌜ now (sets .exit) ≡ storedFrom (p * 32) (λ n. passOf (nodeIn q n) n .sets) (q .nodes) (now (sets .entry)) ⌝ }
+    ensures tos { λ r. ⌜ now (tos .exit) ≡ storedFrom (p * 32) (λ n. passOf (nodeIn q n) n .to) (q .nodes) (now (tos .entry)) ⌝ }
+    ensures reads { λ r. ⌜ r .reads ≡ maskOf (q .nodes) (readIn q) ⌝ }
+    ensures recvs { λ r. ⌜ r .recvs ≡ maskOf (q .nodes) (recvIn q) ⌝ }
 {
     let mut reads: u32 = 0;
     let mut recvs: u32 = 0;
+    let nodes = q.nodes as usize;
     let mut n: usize = 0;
-    while n < 32 {
+    while n < nodes {
         let y = q.slots[n];
         let x = y.node;
         let read = is_read(x);
@@ -320,9 +321,10 @@ pub fn dirty_cells(t: Table) -> [u32; 265]
     let mut todo = [0u32; 8];
     let mut uses = [0u32; 256];
     let mut sets = [0u32; 256];
-    let mut tos = [0u8; 256];
+    let mut tos = [32u8; 256];
+    let procs = t.procs as usize;
     let mut p: usize = 0;
-    while p < 8 {
+    while p < procs {
         let q = t.proc[p];
         let s = plan(q, p, &mut uses, &mut sets, &mut tos);
         recvs[p] = s.recvs;
@@ -351,12 +353,13 @@ pub fn dirty_cells(t: Table) -> [u32; 265]
 
 // The kept nodes of a procedure, from what is dirty.
 fn kept_mask(q: Proc, base: usize, cells: &[u32; 265]) -> u32
-    requires { ⌜ base ≤ 224 ⌝ }
-    ensures { λ r. ⌜ r ≡ maskOf 32 (keptIn q base (now (cells .entry))) ⌝ }
+    requires { ⌜ (base ≤ 224) × (q .nodes ≤ 32) ⌝ }
+    ensures { λ r. ⌜ r ≡ maskOf (q .nodes) (keptIn q base (now (cells .entry))) ⌝ }
 {
     let mut m: u32 = 0;
+    let nodes = q.nodes as usize;
     let mut n: usize = 0;
-    while n < 32 {
+    while n < nodes {
         let s = q.slots[n];
         let x = s.node;
         let at = base + n;
@@ -375,8 +378,9 @@ pub fn kept_masks(t: Table) -> [u32; 8]
 {
     let cells = dirty_cells(t);
     let mut r = [0u32; 8];
+    let procs = t.procs as usize;
     let mut p: usize = 0;
-    while p < 8 {
+    while p < procs {
         let q = t.proc[p];
         r[p] = kept_mask(q, p * 32, &cells);
         p += 1;

@@ -2,7 +2,7 @@ use Prim.Native.Nat.{_≤_, _-_}
 use mathlib.Core.Path.{_≡_, refl}
 use Rattle.analysis.specs.Ready.{Ready}
 use Rattle.analysis.specs.StepLaws.{top-is}
-use Rattle.analysis.specs.Plans.{plans-are, Scanned, Known, scanned-start, scanned-next, scanned-known, scanned-reads}
+use Rattle.analysis.specs.Plans.{passes-are, Scanned, Known, scanned-start, scanned-next, scanned-known, scanned-reads}
 use Rattle.analysis.specs.Work.{WorkUpto, Work, Pending, leftOf, work-start, work-top, work-end}
 use Rattle.analysis.specs.WorklistLaws.{enter-moves, pending-right}
 use borrow.Author.Needs.{needs}
@@ -11,22 +11,25 @@ use Rattle.analysis.proofs.dirty_cells.Statement.{statement}
 use Rattle.analysis.proofs.dirty_cells.Tie as tie
 
 abbrev Inv-loop : tie.InvT-loop
-Inv-loop t recvs₀ todo₀ uses₀ sets₀ tos₀ p₀ recvs todo uses sets tos p = Scanned t p recvs todo uses sets tos
+Inv-loop t recvs₀ todo₀ uses₀ sets₀ tos₀ procs p₀ recvs todo uses sets tos p = Scanned t p recvs todo uses sets tos
 
 abbrev μ-loop : tie.MeasureT-loop
-μ-loop t recvs₀ todo₀ uses₀ sets₀ tos₀ p₀ recvs todo uses sets tos p = 8 - p
+μ-loop t recvs₀ todo₀ uses₀ sets₀ tos₀ procs p₀ recvs todo uses sets tos p = t .procs - p
 
 abbrev Inv-loop2 : tie.InvT-loop2
-Inv-loop2 t recvs todo₀ uses sets tos p cells₀ tasks k₀ todo cells k = Known t recvs uses sets tos × ((k ≤ t .tasks) × ((o : Ready t) → WorkUpto t o k cells todo))
+Inv-loop2 t recvs todo₀ uses sets tos procs p cells₀ tasks k₀ todo cells k = Known t recvs uses sets tos × ((k ≤ t .tasks) × ((o : Ready t) → WorkUpto t o k cells todo))
 
 abbrev μ-loop2 : tie.MeasureT-loop2
-μ-loop2 t recvs todo₀ uses sets tos p cells₀ tasks k₀ todo cells k = t .tasks - k
+μ-loop2 t recvs todo₀ uses sets tos procs p cells₀ tasks k₀ todo cells k = t .tasks - k
 
 abbrev Inv-loop3 : tie.InvT-loop3
-Inv-loop3 t recvs todo₀ uses sets tos p₀ cells₀ tasks k todo p cells = Known t recvs uses sets tos × (((o : Ready t) → Work t o cells todo) × Pending todo p)
+Inv-loop3 t recvs todo₀ uses sets tos procs p₀ cells₀ tasks k todo p cells = Known t recvs uses sets tos × (((o : Ready t) → Work t o cells todo) × Pending todo p)
 
 abbrev μ-loop3 : tie.MeasureT-loop3
-μ-loop3 t recvs todo₀ uses sets tos p₀ cells₀ tasks k todo p cells = leftOf cells todo
+μ-loop3 t recvs todo₀ uses sets tos procs p₀ cells₀ tasks k todo p cells = leftOf cells todo
+
+cast-procs : tie.Need-cast-procs Inv-loop μ-loop Inv-loop2 μ-loop2 Inv-loop3 μ-loop3
+cast-procs c = search needs
 
 loop-holds : tie.Need-loop-holds Inv-loop μ-loop Inv-loop2 μ-loop2 Inv-loop3 μ-loop3
 loop-holds c = scanned-start _
@@ -39,19 +42,19 @@ element-copy-out-q :
 element-copy-out-q c = search needs
 
 plan-requires : tie.Need-plan-requires Inv-loop μ-loop Inv-loop2 μ-loop2 Inv-loop3 μ-loop3
-plan-requires c κs = c .before .before .before .before .loop-test .taken
+plan-requires c κs = let o = c .before .before .before .before .before .before .pre in (omega (arith, c .before .before .before .before .loop-test .taken, o .procs-few), o .nodes-few _)
 
 mul-recvs : tie.Need-mul-recvs Inv-loop μ-loop Inv-loop2 μ-loop2 Inv-loop3 μ-loop3
 mul-recvs c = search needs
 
 array-write-recvs : tie.Need-array-write-recvs Inv-loop μ-loop Inv-loop2 μ-loop2 Inv-loop3 μ-loop3
-array-write-recvs c = omega (arith, c .before .before .before .before .before .before .loop .inv .recvs-size)
+array-write-recvs c = omega (arith, c .before .before .before .before .before .before .loop .inv .recvs .size)
 
 mul-todo : tie.Need-mul-todo Inv-loop μ-loop Inv-loop2 μ-loop2 Inv-loop3 μ-loop3
 mul-todo c = search needs
 
 array-write-todo : tie.Need-array-write-todo Inv-loop μ-loop Inv-loop2 μ-loop2 Inv-loop3 μ-loop3
-array-write-todo c = omega (arith, c .before .before .before .before .before .before .loop .inv .reads-size)
+array-write-todo c = omega (arith, c .before .before .before .before .before .before .loop .inv .reads .size)
 
 add-p : tie.Need-add-p Inv-loop μ-loop Inv-loop2 μ-loop2 Inv-loop3 μ-loop3
 add-p c = search needs
@@ -63,14 +66,15 @@ loop-again : tie.Need-loop-again Inv-loop μ-loop Inv-loop2 μ-loop2 Inv-loop3 �
 loop-again c =
     let h = c .before .before .before .before .before .before .loop in
     let k = c .before .before .before .before .before .loop-test .taken in
+    let o = c .before .before .before .before .before .before .before .pre in
     let e = c .plan .ensures in
-    scanned-next (h .p) k (e .1 .1 .1 .1) (e .1 .1 .1 .0) (plans-are _ (h .p) (h .uses) (h .sets) (h .tos) k (e .0) (e .1 .0) (e .1 .1 .0)) (h .inv)
+    scanned-next o (h .inv) k (e .1 .1 .1 .1) (e .1 .1 .1 .0) (passes-are (h .p) _ (omega (arith, k, o .procs-few)) (o .nodes-few (h .p)) (e .0) (e .1 .0) (e .1 .1 .0) (h .inv .passes))
 
 cast-tasks : tie.Need-cast-tasks Inv-loop μ-loop Inv-loop2 μ-loop2 Inv-loop3 μ-loop3
 cast-tasks c = search needs
 
 loop2-holds : tie.Need-loop2-holds Inv-loop μ-loop Inv-loop2 μ-loop2 Inv-loop3 μ-loop3
-loop2-holds c = let h = c .before .loop .inv in (scanned-known (omega (arith, c .loop-test .left)) h, (omega arith, λ o. work-start _ o (scanned-reads (omega (arith, c .loop-test .left)) h)))
+loop2-holds c = let h = c .before .loop .inv in let z = c .loop-test .left in (scanned-known (c .before .before .pre) h z, (omega arith, λ o. work-start _ o (scanned-reads o h z)))
 
 element-copy-out-w :
     tie.Need-element-copy-out-w Inv-loop μ-loop Inv-loop2 μ-loop2 Inv-loop3 μ-loop3
@@ -145,6 +149,7 @@ dirty-cells-spec =
     μ-loop2
     Inv-loop3
     μ-loop3
+    cast-procs
     loop-holds
     mul-q
     element-copy-out-q

@@ -9,10 +9,13 @@ use Rattle.analysis.proofs.kept_mask.Statement.{statement}
 use Rattle.analysis.proofs.kept_mask.Tie as tie
 
 abbrev Inv-loop : tie.InvT-loop
-Inv-loop base cells q m₀ n₀ m n = (n ≤ 32) × (m ≡ maskOf n (keptIn q base cells))
+Inv-loop base cells q m₀ nodes n₀ m n = (n ≤ q .nodes) × (m ≡ maskOf n (keptIn q base cells))
 
 abbrev μ-loop : tie.MeasureT-loop
-μ-loop base cells q m₀ n₀ m n = 32 - n
+μ-loop base cells q m₀ nodes n₀ m n = q .nodes - n
+
+cast-nodes : tie.Need-cast-nodes Inv-loop μ-loop
+cast-nodes c = search needs
 
 loop-holds : tie.Need-loop-holds Inv-loop μ-loop
 unfolding maskOf
@@ -49,7 +52,7 @@ loop-again : tie.Need-loop-again Inv-loop μ-loop
 loop-again c = let h = c .before .before .before .before .before .loop in (omega arith, mask-next _ (h .n) (h .m) _ (h .inv .1) (c .before .kept-node .ensures) (c .with .ensures))
 
 returns : tie.Need-returns Inv-loop μ-loop
-returns c = let h = c .before .loop in let z : h .n ≡ 32 = omega arith in rw z at (h .inv .1)
+returns c = let h = c .before .loop in let z : h .n ≡ c .before .before .args .t1 .nodes = omega arith in rw z at (h .inv .1)
 
 pub kept-mask-spec : {M : Type 1} → statement M
 kept-mask-spec =
@@ -57,6 +60,7 @@ kept-mask-spec =
     (tie.spec
     Inv-loop
     μ-loop
+    cast-nodes
     loop-holds
     mul-s
     element-copy-out-s

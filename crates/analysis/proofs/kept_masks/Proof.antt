@@ -1,27 +1,27 @@
 use Rattle.analysis.specs.KeptLaws.{kept-masks}
 use Rattle.analysis.specs.Steps.{keptIn}
-use Rattle.masks.specs.Cells.{Filled, set-more}
+use Rattle.analysis.specs.Marked.{Marked, marked-start, marked-next}
 use Rattle.table.specs.Table.{procAt}
-use Rattle.table.specs.Mask.{maskOf}
-use lib.ListN.{length, length-set, length-replicate}
-use Prim.Native.Nat.{_*_, ℕ, _≤_, _-_}
-use mathlib.Core.Path.{_≡_}
+use Prim.Native.Nat.{_*_, _-_}
 use borrow.Author.Needs.{needs}
 use native.Mathlib.Omega.{arith}
 use Rattle.analysis.proofs.kept_masks.Statement.{statement}
 use Rattle.analysis.proofs.kept_masks.Tie as tie
 
 abbrev Inv-loop : tie.InvT-loop
-Inv-loop t cells r₀ p₀ r p = (p ≤ 8) × ((length r ≡ 8) × Filled (λ j. maskOf 32 (keptIn (procAt t j) (j * 32) cells)) p r)
+Inv-loop t cells r₀ procs p₀ r p = Marked t (λ j. keptIn (procAt t j) (j * 32) cells) p r
 
 abbrev μ-loop : tie.MeasureT-loop
-μ-loop t cells r₀ p₀ r p = 8 - p
+μ-loop t cells r₀ procs p₀ r p = t .procs - p
 
 dirty-cells-requires : tie.Need-dirty-cells-requires Inv-loop μ-loop
 dirty-cells-requires c κs = c .pre
 
+cast-procs : tie.Need-cast-procs Inv-loop μ-loop
+cast-procs c = search needs
+
 loop-holds : tie.Need-loop-holds Inv-loop μ-loop
-loop-holds c = (search needs, (length-replicate {A = ℕ} 8 0, λ a h. absurd (omega arith)))
+loop-holds c = marked-start _ _
 
 mul-q : tie.Need-mul-q Inv-loop μ-loop
 mul-q c = search needs
@@ -33,7 +33,7 @@ mul-kept-mask : tie.Need-mul-kept-mask Inv-loop μ-loop
 mul-kept-mask c = search needs
 
 kept-mask-requires : tie.Need-kept-mask-requires Inv-loop μ-loop
-kept-mask-requires c κs = search needs
+kept-mask-requires c κs = let o = c .before .before .before .before .before .pre in (omega (arith, c .before .before .loop-test .taken, o .procs-few), o .nodes-few _)
 
 mul-r : tie.Need-mul-r Inv-loop μ-loop
 mul-r c = search needs
@@ -48,10 +48,10 @@ loop-less : tie.Need-loop-less Inv-loop μ-loop
 loop-less c = search needs
 
 loop-again : tie.Need-loop-again Inv-loop μ-loop
-loop-again c = let h = c .before .before .before .before .loop in (omega arith, (simp length-set (h .inv .1 .0), set-more 0 _ (h .p) _ (h .r) (omega arith) (c .kept-mask .ensures) (h .inv .1 .1)))
+loop-again c = let h = c .before .before .before .before .loop in let k = c .before .before .before .loop-test .taken in marked-next (h .p) (omega (arith, k, c .before .before .before .before .before .before .pre .procs-few)) (c .kept-mask .ensures) (h .inv)
 
 returns : tie.Need-returns Inv-loop μ-loop
-returns c = let h = c .before .loop in let z : h .p ≡ 8 = omega arith in kept-masks _ (c .before .before .before .pre) _ (c .before .before .dirty-cells .ensures) (h .r) (h .inv .1 .0) (rw z at (h .inv .1 .1))
+returns c = let h = c .before .loop in kept-masks _ (c .before .before .before .pre) _ (c .before .before .dirty-cells .ensures) (c .loop-test .left) (h .inv)
 
 pub kept-masks-spec : {M : Type 1} → statement M
 kept-masks-spec =
@@ -60,6 +60,7 @@ kept-masks-spec =
     Inv-loop
     μ-loop
     dirty-cells-requires
+    cast-procs
     loop-holds
     mul-q
     element-copy-out-q

@@ -13,10 +13,13 @@ use Rattle.analysis.proofs.plan.Statement.{statement}
 use Rattle.analysis.proofs.plan.Tie as tie
 
 abbrev Inv-loop : tie.InvT-loop
-Inv-loop p uses₀ sets₀ tos₀ q reads₀ recvs₀ n₀ uses sets tos reads recvs n = (n ≤ 32) × ((uses ≡ storedFrom (p * 32) (λ k. passOf (nodeIn q k) k .uses) n uses₀) × ((sets ≡ storedFrom (p * 32) (λ k. passOf (nodeIn q k) k .sets) n sets₀) × ((tos ≡ storedFrom (p * 32) (λ k. passOf (nodeIn q k) k .to) n tos₀) × ((reads ≡ maskOf n (readIn q)) × (recvs ≡ maskOf n (recvIn q))))))
+Inv-loop p uses₀ sets₀ tos₀ q reads₀ recvs₀ nodes n₀ uses sets tos reads recvs n = (n ≤ q .nodes) × ((uses ≡ storedFrom (p * 32) (λ k. passOf (nodeIn q k) k .uses) n uses₀) × ((sets ≡ storedFrom (p * 32) (λ k. passOf (nodeIn q k) k .sets) n sets₀) × ((tos ≡ storedFrom (p * 32) (λ k. passOf (nodeIn q k) k .to) n tos₀) × ((reads ≡ maskOf n (readIn q)) × (recvs ≡ maskOf n (recvIn q))))))
 
 abbrev μ-loop : tie.MeasureT-loop
-μ-loop p uses₀ sets₀ tos₀ q reads₀ recvs₀ n₀ uses sets tos reads recvs n = 32 - n
+μ-loop p uses₀ sets₀ tos₀ q reads₀ recvs₀ nodes n₀ uses sets tos reads recvs n = q .nodes - n
+
+cast-nodes : tie.Need-cast-nodes Inv-loop μ-loop
+cast-nodes c = search needs
 
 loop-holds : tie.Need-loop-holds Inv-loop μ-loop
 unfolding maskOf storedFrom
@@ -62,7 +65,10 @@ element-write-sets : tie.Need-element-write-sets Inv-loop μ-loop
 element-write-sets c = search needs
 
 cast-tos : tie.Need-cast-tos Inv-loop μ-loop
-cast-tos c = omega (arith, pass-small _ _ (c .before .pass-of .ensures) (c .before .before .before .before .before .before .before .before .loop .inv .0))
+cast-tos c =
+    let b = c .before .before .before .before .before .before .before .before in
+    let l : b .loop .n ≤ 32 = omega (arith, b .loop .inv .0, b .before .pre .1) in
+    omega (arith, pass-small _ _ (c .before .pass-of .ensures) l)
 
 element-write-tos : tie.Need-element-write-tos Inv-loop μ-loop
 element-write-tos c = search needs
@@ -96,7 +102,7 @@ loop-again c =
 returns : tie.Need-returns Inv-loop μ-loop
 returns c =
     let h = c .before .loop in
-    let z : h .n ≡ 32 = omega (arith, h .inv .0, c .loop-test .left) in
+    let z : h .n ≡ c .before .before .args .t1 .nodes = omega (arith, h .inv .0, c .loop-test .left) in
     (rw z at (h .inv .1 .0), (rw z at (h .inv .1 .1 .0), (rw z at (h .inv .1 .1 .1 .0), (rw z at (h .inv .1 .1 .1 .1 .0), rw z at (h .inv .1 .1 .1 .1 .1)))))
 
 pub plan-spec : {M : Type 1} → statement M
@@ -105,6 +111,7 @@ plan-spec =
     (tie.spec
     Inv-loop
     μ-loop
+    cast-nodes
     loop-holds
     mul-y
     element-copy-out-y

@@ -1,4 +1,4 @@
-use Rattle.analysis.specs.Plans.{planned-low, planned-is}
+use Rattle.analysis.specs.Plans.{planned-tells}
 use Rattle.analysis.specs.Todo.{leads-low}
 use mathlib.Core.Bool.{false}
 use Rattle.analysis.specs.Work.{leftOf, Going, Along, going-start, along-start, along-end, going-end}
@@ -69,7 +69,7 @@ add-pass-at : tie.Need-add-pass-at Inv-loop2 μ-loop2 Inv-loop μ-loop
 add-pass-at c = omega (arith, c .before .before .before .before .before .before .before .before .before .before .pre .0, c .before .before .before .before .loop2 .inv .0 .leads .low)
 
 pass-at-requires : tie.Need-pass-at-requires Inv-loop2 μ-loop2 Inv-loop μ-loop
-pass-at-requires c κs = let b = c .before .before .before .before .before .before .before .before .before .before .pre in let k = c .before .before .before .before .loop2 .inv .0 .leads .low in (omega (arith, b .0, k), planned-low _ k (b .1 .1 .1 .1))
+pass-at-requires c κs = let b = c .before .before .before .before .before .before .before .before .before .before .pre in let k = c .before .before .before .before .loop2 .inv .0 .leads .low in (omega (arith, b .0, k), b .1 .1 .1 .1 .each _ k .0)
 
 visit-requires : tie.Need-visit-requires Inv-loop2 μ-loop2 Inv-loop μ-loop
 visit-requires c κs =
@@ -81,7 +81,7 @@ visit-requires c κs =
         g .leads .low,
         (
           (g .going .masks .size, taken-size (h .todo) (b .args .p) (h .n) (c .before .before .before .before .take .ensures) (g .going .todo .size)),
-          planned-is _ (g .leads .low) (b .pre .1 .1 .1 .1) (c .before .before .pass-at .ensures),
+          planned-tells _ (g .leads .low) (b .pre .1 .1 .1 .1) (c .before .before .pass-at .ensures),
         ),
       ),
     )
