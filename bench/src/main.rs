@@ -20,8 +20,8 @@ const USAGE: &str = "usage: bench vectors DIR
        bench compare [CASES] [SEED]
        bench show SEED
        bench handmade [CASES SEED]
-       bench speed [read|close|step]
-       bench once proved|plain read|close|step";
+       bench speed [read|close|step|short]
+       bench once proved|plain read|close|step|short";
 
 fn main() -> ExitCode {
     let words: Vec<String> = std::env::args().skip(1).collect();
@@ -49,7 +49,7 @@ fn command(words: &[String]) -> Result<bool, String> {
             compare::show(number(seed)?);
             Ok(true)
         }
-        ["once", side @ ("proved" | "plain"), what @ ("read" | "close" | "step")] => {
+        ["once", side @ ("proved" | "plain"), what @ ("read" | "close" | "step" | "short")] => {
             speed::once(side == "proved", what);
             Ok(true)
         }
@@ -57,7 +57,7 @@ fn command(words: &[String]) -> Result<bool, String> {
             speed::speed("");
             Ok(true)
         }
-        ["speed", what @ ("read" | "close" | "step")] => {
+        ["speed", what @ ("read" | "close" | "step" | "short")] => {
             speed::speed(what);
             Ok(true)
         }

@@ -20,6 +20,12 @@ const LASTS: Duration = Duration::from_millis(5);
 /// The steps of a long run.
 const STEPS: usize = 1_000_000;
 
+/// The steps of short runs.
+const SHORT: [usize; 3] = [1, 10, 100];
+
+/// The table of README.
+const EXAMPLE: &[u8] = include_bytes!("../../crates/close/stdin");
+
 /// What is measured: the seconds that one side takes, the proved one or plain Rust, and the best so far. Both sides work on the
 /// same text and buffer.
 struct Row<'a> {
@@ -55,6 +61,11 @@ pub fn speed(word: &str) {
         rows.extend(closings().map(|(name, table)| closing(name, lines_of(&table))));
     }
     rows.extend(runs.iter().map(steps));
+    if "short".starts_with(word) {
+        for (name, text) in example() {
+            rows.extend(SHORT.map(|n| short(name, text.clone(), n)));
+        }
+    }
     for _ in 0..PASSES {
         rows.iter_mut().for_each(Row::measure);
     }
@@ -80,6 +91,15 @@ pub fn once(by_proved: bool, word: &str) {
             match by_proved {
                 true => _ = black_box(proved::close(&text, &mut out)),
                 false => _ = black_box(close_text(&text, &mut out)),
+            }
+        }
+    }
+    if "short".starts_with(word) {
+        for (_, text) in example() {
+            let mut log = [0; 8];
+            match by_proved {
+                true => _ = black_box(proved::steps(&text, &[0], &[50], MOST, &mut log)),
+                false => _ = black_box(steps_text(&text, &[0], &[50], MOST, &mut log)),
             }
         }
     }
@@ -169,6 +189,38 @@ fn steps(run: &LongRun) -> Row<'_> {
             let seconds = start.elapsed().as_secs_f64();
             assert!(completed, "the run completes");
             seconds
+        },
+    )
+}
+
+/// The table of README, in both forms.
+fn example() -> [(&'static str, Vec<u8>); 2] {
+    let mut closed = vec![0; 1 << 16];
+    let len = close_text(EXAMPLE, &mut closed);
+    closed.truncate(len);
+    [("open", EXAMPLE.to_vec()), ("closed", closed)]
+}
+
+/// A run of so many steps, from the text: the sensor answers 50, and every toss is 0, so that task 0 goes round.
+fn short(name: &str, text: Vec<u8>, steps: usize) -> Row<'static> {
+    let name = format!("run from its text, {name}, steps: {steps}");
+    let schedule = vec![0; steps];
+    let mut values = vec![0; steps + 1];
+    values[0] = if text == EXAMPLE { 50 } else { 0 };
+    let mut log = vec![0; steps * 8];
+    Row::of_calls(
+        name,
+        "ns",
+        |s, _| s * 1e9,
+        1,
+        move |by_proved| {
+            let text = black_box(&text);
+            let completed = match by_proved {
+                true => proved::steps(text, &schedule, &values, MOST, &mut log) == Ok((steps, 0)),
+                false => steps_text(text, &schedule, &values, MOST, &mut log)
+                    .is_ok_and(|a| a.steps == steps && a.stop == 0),
+            };
+            assert!(completed, "the run completes");
         },
     )
 }
