@@ -1,14 +1,14 @@
 -- The runner's answer, case by case.
 use Prim.Native.Nat.{ℕ, zero, suc}
-use mathlib.Core.Path.{_≡_, refl, sym, _∙_, ap}
+use mathlib.Core.Path.{_≡_, refl, _∙_, ap}
 use mathlib.Core.List.{List, []}
 use lib.IntN.{ℤ}
 use Rattle.table.specs.declared.Table.{Table}
 use Rattle.text.specs.Writer.{fault}
 use Rattle.machine.specs.declared.State.{State}
 use Rattle.machine.specs.declared.Running.{Running}
-use Rattle.machine.specs.State.{noState, begin}
-use Rattle.machine.specs.Run.{Ran, ended, runBegun, runChecked, run}
+use Rattle.machine.specs.State.{noState}
+use Rattle.machine.specs.Run.{Ran, ended, runChecked, run}
 
 module _ (t : Table) (ks : List ℕ) (vs : List ℤ) (most : ℕ) (log : List ℕ) where
   abbrev stopped : ℕ → State → Running
@@ -27,6 +27,3 @@ module _ (t : Table) (ks : List ℕ) (vs : List ℤ) (most : ℕ) (log : List �
 
   pub faulty-log : (n : ℕ) → n ≡ fault t → (n ≡ 0 → ⊥) → log ≡ run t ks vs most log .log
   faulty-log n e h = ap (λ (r : Ran). r .log) (refused n e h)
-
-  pub begun-is : (n : ℕ) → n ≡ fault t → n ≡ 0 → runBegun t ks vs most log (begin t vs) ≡ run t ks vs most log
-  begun-is n e h = checked 0 (sym h ∙ e)

@@ -88,8 +88,7 @@ fn run_checked(
             state,
         };
     }
-    let keep = keeps::kept(t);
-    runner::run_ready(t, keep, schedule, values, most, log)
+    runner::run_valid(t, schedule, values, most, log)
 }
 
 // The writer's answer for a table whose fault is n.

@@ -74,6 +74,6 @@ pub extern "C" fn bufshani_steps(
         return pack(r.number, r.line);
     }
     let t = r.table;
-    let a = bufshani::run(t, schedule, values, most, log);
+    let a = runner::run_valid(t, schedule, values, most, log);
     pack(a.stop, a.steps)
 }

@@ -23,7 +23,7 @@ use Rattle.machine.specs.Step.{taskLost, taskBlocked, Memory, Does, exec, choos
 use Rattle.machine.specs.ExecLaws.{Executes, calling, returning, going, stopping, exec-view}
 use Rattle.machine.specs.Run.{Ran, entryBytes, turn, runBegun, runChecked, run}
 use Rattle.machine.specs.RunLaws.{runFrom, afterStep, run-end, run-next, run-begun}
-use Rattle.starts.specs.GoodLaws.{either}
+use Rattle.run_state.specs.ArrayLaws.{after-set}
 
 either-way : {A : Type 0} (P : A → Type 0) (b : Bool) {x y : A} → (b ≡ true → P x) → (b ≡ false → P y) → P (elim b [ true ↦ x | false ↦ y ])
 either-way P true f g = f refl
@@ -53,14 +53,14 @@ settled-keeps e s k j p (halts c) h = tt
 settled-keeps e s k j p (arrives w m vs ns) h = landed-few s k j p w m h
 
 returned-few : (s : State) (k : ℕ) → Few s → Few (returned s k)
-returned-few s k h = record { few = λ i. either (λ (n : ℕ). n ≤ 8) (s .depth) k i (openFrames s k - 1) 0 (omega (arith, h .few k)) (h .few i) }
+returned-few s k h = record { few = λ i. after-set (λ (n : ℕ). n ≤ 8) (s .depth) k i (openFrames s k - 1) 0 (omega (arith, h .few k)) (h .few i) }
 
 module _ (t : Table) (keep : Kept) (most : ℕ) where
   does-keeps : (s : State) (k : ℕ) (f : Frame) (vs : List ℤ) (x : Node) (m : Memory) (d : Does) → Executes x m vs d → Few s → blockedAt t s k (act x) ≡ false → Keeps (stepAs t keep most s k f vs d)
   unfolding blockedAt
   does-keeps s k f vs x m d (calling q xs a e) h b =
       let l : leb 8 (openFrames s k) ≡ false = rw a at b in
-      rw e (record { few = λ i. either (λ (n : ℕ). n ≤ 8) (s .depth) k i (openFrames s k + 1) 0 (omega (arith, leb-false 8 (openFrames s k) l)) (h .few i) })
+      rw e (record { few = λ i. after-set (λ (n : ℕ). n ≤ 8) (s .depth) k i (openFrames s k + 1) 0 (omega (arith, leb-false 8 (openFrames s k) l)) (h .few i) })
   does-keeps s k f vs x m d (returning a e) h b =
       let g = frameAt s k (openFrames s k - 2) in
       rw e

@@ -22,7 +22,7 @@ fn run_table(
     ensures printed { λ r. ⌜ Put 4400000 (now (out .entry)) 0 (runReport t (now (schedule .entry)) (now (values .entry)) most (now (log .entry))) (now (out .exit)) r ⌝ }
     ensures log { λ _. ⌜ now (log .exit) ≡ run t (now (schedule .entry)) (now (values .entry)) most (now (log .entry)) .log ⌝ }
 {
-    let r = bufshani::run(t, schedule, values, most, log);
+    let r = runner::run_valid(t, schedule, values, most, log);
     report::put_report(out, t, r, log)
 }
 

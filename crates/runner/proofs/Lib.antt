@@ -1,8 +1,3 @@
-pub mod Walks
-pub mod Runs
+pub mod Bytes
 pub mod Turns
-pub mod Stores
-pub mod Directs
-pub mod Decoded
-pub mod Holds
-pub mod Returns
+pub mod Starts

@@ -1,376 +1,315 @@
--- One turn of the runner's loop, in the code's own places and numbers.
-use mathlib.Core.Path.{_≡_, refl, sym, _∙_, ap}
+-- What holds before each turn of the run's loop, after it, and behind the loop.
+use mathlib.Core.Path.{_≡_, refl, sym, _∙_, ap, subst}
 use mathlib.Core.Bool.{Bool, true, false}
 use mathlib.Core.List.{List, [], _∷_}
 use mathlib.Core.Option.{Option, none, some}
-use Prim.Native.Nat.{ℕ, suc, _+_, _-_, _*_, _<_, _≤_}
+use Prim.Native.Nat.{ℕ, suc, _+_, _-_, _*_, _/_, _<_, _≤_}
 use native.Mathlib.Omega.{arith}
-use native.Mathlib.Numerals.{add-one}
-use lib.ListN.{length, getD, set, take, drop}
-use lib.Seq.{sets, take-all}
-use lib.Dec.{leb, ltb}
+use lib.ListN.{length, getD, take, drop, length-drop}
+use lib.Seq.{sets, length-sets, take-all}
+use lib.Dec.{eqb, leb, ltb}
 use lib.IntN.{ℤ}
-use borrow.Author.Tests.{leb-false, lt-leb, lt-ltb, eq-eqb, ne-eqb}
+use borrow.Author.Tests.{leb-true, leb-false, ltb-true, ltb-false, eqb-true, eqb-false, lt-ltb, le-ltb}
+use Rattle.table.specs.Cases.{cases}
 use Rattle.table.specs.Mask.{pick}
-use Rattle.table.specs.Table.{noSlot, queueAt, nodeAt, arcTo, Act, alone, waits, signals, sends, receives, calls, returns, act, parts}
-use Rattle.table.specs.declared.Args.{Args}
-use Rattle.table.specs.declared.Node.{Node}
-use Rattle.table.specs.declared.Node.the-variants.{Call}
-use Rattle.table.specs.declared.Slot.{Slot}
 use Rattle.table.specs.declared.Table.{Table}
-use Rattle.text.specs.Reader.{concatFrom}
-use Rattle.machine.specs.declared.Frame.{Frame}
 use Rattle.machine.specs.declared.State.{State}
-use Rattle.machine.specs.State.{noFrame, openFrames, isLost, place, frameAt, topmost, standsBefore, withDepth, withFrames, blockedAt, blocked}
-use Rattle.machine.specs.Step.{noSuchTask, logFull, taskLost, taskBlocked, stopNumber, Memory, Choice, keptIn, Walk, along, walk, Entry, Step, stopped, entering, memory, entryOf}
-use Rattle.machine.specs.Run.{flagged, entryBytes, Ran}
-use Rattle.machine.specs.RunLaws.{runFrom}
-use Rattle.tosses.specs.Tosses.{halting}
-use Rattle.tosses.specs.TossLaws.{Sound, Arrived}
-use Rattle.steps.specs.Cut.{ActWithin, haltsAt, stuckBy, stuckOf, actOf, triedOf, passOf, backBy, backOf, underOf}
-use Rattle.steps.specs.declared.Acted.{Acted}
-use Rattle.tosses.specs.declared.Chosen.{Chosen}
-use Rattle.columns.specs.Columns.{queuesOf}
-use Rattle.starts.specs.Ready.{ActPlaced, Placed, Ready}
-use Rattle.starts.specs.Begins.{frameIn, Good}
-use Rattle.starts.specs.RowLaws.{Row}
-use Rattle.starts.specs.GoodLaws.{FrameGood, good-frame, good-depth}
-use Rattle.runner.proofs.Walks.{Met, halted, met, metOf, withVars, Sane, walking, heading, walk-over, walk-spent, walk-halts, walk-goes, pass-sane, named-stop}
-use Rattle.runner.proofs.Runs.{stuck-is, opensBy, storedIn, shownBy, acts, returnedBy, step-calls, ways, goesOn, step-goes, storedAs, landed-is, runs, stopsAt, after, runs-turn, turn-none, turn-full, turn-lost, turn-blocked, turn-goes, after-halted, after-arrived}
+use Rattle.machine.specs.Step.{Stop, noSuchTask, logFull, taskLost, taskBlocked, tooMany, valuesSpent, badToss, stopNumber, keptIn, Entry, Step, stopped, stepped, step}
+use Rattle.machine.specs.Run.{word, flagged, entryBytes, Ran, ended, turn}
+use Rattle.machine.specs.RunLaws.{runFrom, afterStep, run-end, run-next}
+use Rattle.run_code.specs.Code.{byte}
+use Rattle.run_state.specs.ArrayLaws.{depth-at}
+use Rattle.run_state.specs.StepGood.{step-good, step-rest, step-task}
+use Rattle.run_step.specs.declared.Stepped.{Stepped}
+use Rattle.run_step.specs.Steps.{Held, Lent, flagOf, bitsOf, Steps}
+use Rattle.runner.specs.declared.Advanced.{Advanced}
+use Rattle.runner.specs.Advances.{stopBefore, Holding, Advances}
 
--- ---- the small numbers that go with a node
+-- ---- a turn of the definition
 
-pub back-few : (a : Act) → backBy a ≤ 1
-unfolding backBy
-back-few alone = omega arith
-back-few (waits i) = omega arith
-back-few (signals i) = omega arith
-back-few (sends q v) = omega arith
-back-few (receives q v) = omega arith
-back-few (calls q xs) = omega arith
-back-few returns = omega arith
+module _ (t : Table) (most : ℕ) (vs : List ℤ) (n : ℕ) (s : State) (rest : List ℤ) (log : List ℕ) where
+  abbrev runs : List ℕ → Ran
+  runs ks = runFrom t (keptIn t) most vs ks n s rest log
 
-pub back-below : (a : Act) (d : ℕ) (ss ls cs : List ℕ) → stuckBy a d ss ls cs ≡ false → backBy a ≤ d - 1
-unfolding backBy stuckBy
-back-below alone d ss ls cs f = omega arith
-back-below (waits i) d ss ls cs f = omega arith
-back-below (signals i) d ss ls cs f = omega arith
-back-below (sends q v) d ss ls cs f = omega arith
-back-below (receives q v) d ss ls cs f = omega arith
-back-below (calls q xs) d ss ls cs f = omega arith
-back-below returns d ss ls cs f = omega (arith, leb-false d 1 f)
+  abbrev turns : ℕ → Step
+  turns k = turn t (keptIn t) most (length log) k n s rest
 
-pub within : (a : Act) → ActPlaced a → ActWithin a
-within alone h = tt
-within (waits i) h = h
-within (signals i) h = h
-within (sends q v) h = h
-within (receives q v) h = h
-within (calls q xs) h = tt
-within returns h = tt
+  runs-end : (ks : List ℕ) → length ks ≡ 0 → runs ks ≡ ended 0 vs n s rest log
+  runs-end [] h = run-end t (keptIn t) most vs n s rest log
+  runs-end (k ∷ ks) h = absurd (omega arith)
 
-pub under-le : (f b d : ℕ) → underOf f b d ≤ f
-under-le f b d = go (ltb b d)
-  where
-    go : (t : Bool) → pick t (f - b) f ≤ f
-    go true = omega arith
-    go false = omega arith
+  -- the run after the turn of its first task number
+  runs-turn : (ks : List ℕ) (r : Step) → (length ks ≡ 0 → ⊥) → turns (getD ks 0 0) ≡ r → runs ks ≡ afterStep t (keptIn t) most vs (take (length ks - 1) (drop 1 ks)) n s rest log r
+  runs-turn [] r h e = absurd (h refl)
+  runs-turn (k ∷ ks) r h e =
+      rw (take-all (suc (length ks) - 1) ks (omega arith)) (run-next t (keptIn t) most vs k ks n s rest log ∙ ap (afterStep t (keptIn t) most vs ks n s rest log) e)
 
-pub under-less : (f b d : ℕ) → b < d → d ≤ f + 1 → underOf f b d + b ≡ f
-under-less f b d l h = rw (lt-ltb b d l) (omega arith)
+  turn-none : (k : ℕ) → t .tasks ≤ k → turns k ≡ stopped noSuchTask
+  unfolding turn
+  turn-none k h = rw (turn, le-ltb k (t .tasks) h) refl
 
+  turn-full : (k : ℕ) → k < t .tasks → length log < 8 * n + 8 → turns k ≡ stopped logFull
+  unfolding turn
+  turn-full k l h = rw (turn, lt-ltb k (t .tasks) l, lt-ltb (length log) (8 * n + 8) h) refl
+
+  turn-steps : (k : ℕ) → k < t .tasks → 8 * n + 8 ≤ length log → turns k ≡ step t (keptIn t) most s k rest
+  unfolding turn
+  turn-steps k l h = rw (turn, lt-ltb k (t .tasks) l, le-ltb (length log) (8 * n + 8) h) refl
+
+-- the rest of a schedule is shorter
 pub rest-less : (l : List ℕ) → (length l ≡ 0 → ⊥) → length (take (length l - 1) (drop 1 l)) < length l
 rest-less [] h = absurd (h refl)
 rest-less (k ∷ ks) h = rw (take-all (suc (length ks) - 1) ks (omega arith)) (omega arith)
 
-call-below : (q : ℕ) (xs : Args) (to d : ℕ) (ss ls cs : List ℕ) → stuckOf (Call q xs to) d ss ls cs ≡ false → d < 8
-unfolding stuckBy parts
-call-below q xs to d ss ls cs f = leb-false 8 d f
+-- the bytes of an entry
+entry-bytes : (o : Option ℤ) → _≡_ {A = List ℕ} (flagOf o ∷ word (bitsOf o)) (flagged o)
+entry-bytes none = refl
+entry-bytes (some x) = refl
 
-module _ (t : Table) (keep : List ℕ) (ready : Ready t keep) (most : ℕ) (vs : List ℤ) where
-  -- ---- where the walk over dropped nodes ends, from an arc on
+-- no stop has the number 0
+stop-named : (c : Stop) → stopNumber c ≡ 0 → ⊥
+unfolding stopNumber
+stop-named noSuchTask e = omega arith
+stop-named logFull e = omega arith
+stop-named taskLost e = omega arith
+stop-named taskBlocked e = omega arith
+stop-named tooMany e = omega arith
+stop-named valuesSpent e = omega arith
+stop-named badToss e = omega arith
 
-  -- of task i
-  pub record Ends (i p d : ℕ) (l : List ℤ) (arc us : ℕ) (z : Chosen) : Type 0 where
-    pub is : (mm : Memory) → met (heading t i vs p d (withVars mm l) arc us) ≡ metOf vs (withVars mm l) z
-    pub within : z .used ≤ length vs
-    pub place : z .node < 32
-    pub gone : pick (z .lost) (z .node) 0 ≡ 0
+module _ (keep : List ℕ) (code words : List (List ℕ)) (most : ℕ) (vs : List ℤ) where
+  -- ---- the code's tests before a turn
 
-  module _ (i p d : ℕ) (inside : p < 8) (l : List ℤ) (long : length l ≡ 16) (arc us : ℕ) (w : Chosen) (arrives : Arrived arc (getD keep p 0) vs us w) where
-    abbrev sound : Sound (getD keep p 0) vs w
-    sound = arrives .sound
+  module _ {t : Table} {s : State} {marks : List ℕ} {cells : List (List ℤ)} (h : Held t s keep code words marks cells) where
+    few : t .tasks ≤ 4
+    few = h .marked .ready .tasks
 
-    heads : (mm : Memory) (r : Met) → met (walking t i vs p d (withVars mm l) w) ≡ r → met (heading t i vs p d (withVars mm l) arc us) ≡ r
-    heads mm r e = ap (λ (c : Choice). met (along (λ n m ws. walk t (keptIn t) i p d n m ws) (withVars mm l) c)) (arrives .choice) ∙ e
+    open-at : (k : ℕ) → k < 4 → byte marks k ≡ getD (s .depth) k 0
+    open-at k l = ap (λ (m : List ℕ). byte m k) (h .marked .marksAre) ∙ depth-at s (h .marked .good .shape) k l
 
-    pub ends-over : (z : Chosen) → w .over ≡ true → z ≡ w → Ends i p d l arc us z
-    ends-over z o e = rw e (record { is = λ mm. heads mm _ (walk-over t keep ready i vs p inside d (withVars mm l) w sound o); within = sound .within; place = sound .place; gone = sound .gone })
+    -- what has a frame open is a task
+    is-task : (k : ℕ) → k < 4 → (byte marks k ≡ 0 → ⊥) → k < t .tasks
+    is-task k l e = cases (ltb k (t .tasks)) (λ a. ltb-true k (t .tasks) a) (λ a. absurd (e (open-at k l ∙ h .marked .good .closed k (ltb-false k (t .tasks) a))))
 
-    ends-at : (c : ℕ) → ((mm : Memory) → met (walking t i vs p d (withVars mm l) w) ≡ metOf vs (withVars mm l) (halting c (w .used))) → Ends i p d l arc us (halting c (w .used))
-    ends-at c h = record { is = λ mm. heads mm _ (h mm); within = sound .within; place = omega arith; gone = refl }
+    no-task : (k : ℕ) → k < 4 → byte marks k ≡ 0 → t .tasks ≤ k
+    no-task k l e = cases (ltb k (t .tasks)) (λ a. absurd (omega (arith, open-at k l, h .marked .good .opened k (ltb-true k (t .tasks) a)))) (λ a. ltb-false k (t .tasks) a)
 
-    pub ends-spent : (z r : Chosen) → w .over ≡ false → d ≡ 0 → r ≡ halting 14 (w .used) → z ≡ r → Ends i p d l arc us z
-    ends-spent z r o e h y = rw (y, h) (ends-at 14 (λ mm. walk-spent t keep ready i vs p inside d (withVars mm l) w sound o e))
+    module _ (k room : ℕ) where
+      -- nothing stops the turn
+      pub clear : stopBefore k marks room ≡ 0 → (k < t .tasks) × (8 ≤ room)
+      clear e = go (leb 4 k) (eqb (byte marks k) 0) (ltb room 8) refl refl refl e
+        where
+          go : (x y z : Bool) → leb 4 k ≡ x → eqb (byte marks k) 0 ≡ y → ltb room 8 ≡ z → pick x (stopNumber noSuchTask) (pick y (stopNumber noSuchTask) (pick z (stopNumber logFull) 0)) ≡ 0
+              → (k < t .tasks) × (8 ≤ room)
+          go true y z a b c e = absurd (stop-named noSuchTask e)
+          go false true z a b c e = absurd (stop-named noSuchTask e)
+          go false false true a b c e = absurd (stop-named logFull e)
+          go false false false a b c e = (is-task k (leb-false 4 k a) (eqb-false (byte marks k) 0 b), ltb-false room 8 c)
 
-    pub ends-halts : (z r : Chosen) (a : Acted) → w .over ≡ false → (d ≡ 0 → ⊥) → a ≡ passOf (nodeAt t p (w .node)) l vs (w .used) → (a .stop ≡ 0 → ⊥) → r ≡ halting (a .stop) (w .used) → z ≡ r → Ends i p d l arc us z
-    ends-halts z r a o e k n h y = rw (y, h) (ends-at (a .stop) (λ mm. walk-halts t keep ready i vs p inside d (withVars mm l) w a sound o e long k n))
+      -- something does
+      stops : (n : ℕ) (rest : List ℤ) (log : List ℕ) → 8 * n ≤ length log → room ≡ length log - 8 * n → (b : ℕ) → b ≡ stopBefore k marks room → (b ≡ 0 → ⊥)
+          → (c : Stop) × (b ≡ stopNumber c) × (turn t (keptIn t) most (length log) k n s rest ≡ stopped c)
+      stops n rest log i r b e u = go (leb 4 k) (eqb (byte marks k) 0) (ltb room 8) refl refl refl e
+        where
+          go : (x y z : Bool) → leb 4 k ≡ x → eqb (byte marks k) 0 ≡ y → ltb room 8 ≡ z → b ≡ pick x (stopNumber noSuchTask) (pick y (stopNumber noSuchTask) (pick z (stopNumber logFull) 0))
+              → (c : Stop) × (b ≡ stopNumber c) × (turn t (keptIn t) most (length log) k n s rest ≡ stopped c)
+          go true y z a b c e = (noSuchTask, e, turn-none t most vs n s rest log k (omega (arith, few, leb-true 4 k a)))
+          go false true z a b c e = (noSuchTask, e, turn-none t most vs n s rest log k (no-task k (leb-false 4 k a) (eqb-true (byte marks k) 0 b)))
+          go false false true a b c e = (logFull, e, turn-full t most vs n s rest log k (is-task k (leb-false 4 k a) (eqb-false (byte marks k) 0 b)) (omega (arith, ltb-true room 8 c)))
+          go false false false a b c e = absurd (u e)
 
-    -- a dropped node is executed, and the walk goes on
-    pub goes-within : (a : Acted) → w .over ≡ false → a ≡ passOf (nodeAt t p (w .node)) l vs (w .used) → a .used ≤ length vs
-    goes-within a o k = pass-sane t keep ready i vs p inside (record { vars = l; sems = []; queues = [] }) w a sound o k .within (sound .within)
+    -- ---- a step of the code
 
-    pub goes-on : (a : Acted) → w .over ≡ false → (d ≡ 0 → ⊥) → a ≡ passOf (nodeAt t p (w .node)) l vs (w .used) → a .stop ≡ 0
-        → (mm : Memory) → met (heading t i vs p d (withVars mm l) arc us) ≡ met (heading t i vs p (d - 1) (withVars mm (set l (a .var) (a .value))) (a .arc) (a .used))
-    goes-on a o e k n mm = heads mm _ (walk-goes t keep ready i vs p inside d (withVars mm l) w a sound o e long k n)
+    -- it is completed
+    pub record Went (k used : ℕ) (e : Stepped) (marks′ : List ℕ) (cells′ : List (List ℤ)) : Type 0 where
+      pub entry : Entry
+      pub dropped : List ℕ
+      pub state : State
+      pub rest : List ℤ
+      pub is : step t (keptIn t) most s k (drop used vs) ≡ stepped entry dropped state rest
+      pub held : Held t state keep code words marks′ cells′
+      pub left : drop (e .used) vs ≡ rest
+      pub within : e .used ≤ length vs
+      pub bytes : _≡_ {A = List ℕ} (k ∷ e .proc ∷ e .node ∷ e .flag ∷ word (e .bits)) (entryBytes entry)
 
-  -- ---- a turn, by the first task number
+    module _ (k used : ℕ) (task : k < t .tasks) (within : used ≤ length vs) (e : Stepped) (marks′ : List ℕ) (cells′ : List (List ℤ)) where
+      abbrev told : Step
+      told = step t (keptIn t) most s k (drop used vs)
 
-  module _ (ks : List ℕ) (n : ℕ) (s : State) (used : ℕ) (log : List ℕ) where
-    abbrev pub k : ℕ
+      pub went : Steps vs used s told e marks′ cells′ → e .stop ≡ 0 → Went k used e marks′ cells′
+      went = go told refl
+        where
+          go : (z : Step) → told ≡ z → Steps vs used s z e marks′ cells′ → e .stop ≡ 0 → Went k used e marks′ cells′
+          go (stopped c) i a u = absurd (stop-named c (sym (ap (λ (x : Stepped). x .stop) (a .answer)) ∙ u))
+          go (stepped b ns z rest) i a u =
+              let r = step-rest t most s k vs used within b ns z rest i in
+              let uses = ap (λ (x : Stepped). x .used) (a .answer) in
+              record {
+                entry = b;
+                dropped = ns;
+                state = z;
+                rest = rest;
+                is = i;
+                held = record {
+                  marked = record {
+                    ready = h .marked .ready;
+                    coded = h .marked .coded;
+                    good = step-good t keep (h .marked .ready) s (h .marked .good) most k task (drop used vs) b ns z rest i;
+                    marksAre = a .marksAre;
+                  };
+                  worded = h .worded;
+                  cellsAre = a .cellsAre;
+                };
+                left = ap (λ (x : ℕ). drop x vs) uses ∙ r .0;
+                within = rw uses (r .1);
+                bytes = (λ j. sym (step-task t (keptIn t) most s k (drop used vs) b ns z rest i) j ∷ (a .answer j) .proc ∷ (a .answer j) .node ∷ (a .answer j) .flag ∷ word ((a .answer j) .bits))
+                    ∙ ap (λ (l : List ℕ). b .task ∷ b .proc ∷ b .node ∷ l) (entry-bytes (b .value));
+              }
+
+      -- it is not: "A stopped step leaves state .. as before it"
+      pub record Stayed : Type 0 where
+        pub why : Stop
+        pub is : told ≡ stopped why
+        pub stop : e .stop ≡ stopNumber why
+        pub held : Held t s keep code words marks′ cells′
+
+      pub stayed : Steps vs used s told e marks′ cells′ → (e .stop ≡ 0 → ⊥) → Stayed
+      stayed = go told refl
+        where
+          go : (z : Step) → told ≡ z → Steps vs used s z e marks′ cells′ → (e .stop ≡ 0 → ⊥) → Stayed
+          go (stopped c) i a u = record {
+            why = c;
+            is = i;
+            stop = ap (λ (x : Stepped). x .stop) (a .answer);
+            held = record { marked = record { ready = h .marked .ready; coded = h .marked .coded; good = h .marked .good; marksAre = a .marksAre }; worded = h .worded; cellsAre = a .cellsAre };
+          }
+          go (stepped b ns z rest) i a u = absurd (u (ap (λ (x : Stepped). x .stop) (a .answer)))
+
+  -- ---- the run
+
+  -- n steps of a run of table t are completed: what is left is the run of the rest of the schedule from the state that the arrays hold
+  pub record Runs (t : Table) (ran : Ran) (marks : List ℕ) (cells : List (List ℤ)) (log ks : List ℕ) (at used : ℕ) : Type 0 where
+    pub n : ℕ
+    pub s : State
+    pub held : Held t s keep code words marks cells
+    pub at-n : at ≡ 8 * n
+    pub is : ran ≡ runFrom t (keptIn t) most vs ks n s (drop used vs) log
+
+  abbrev answer : ℕ → ℕ → ℕ → Advanced
+  answer stop at used = record { stop = stop; steps = at / 8; used = used }
+
+  module _ {t : Table} {ran : Ran} {marks : List ℕ} {cells : List (List ℤ)} {log ks : List ℕ} {at used : ℕ} (r : Runs t ran marks cells log ks at used) (within : used ≤ length vs) where
+    abbrev k : ℕ
     k = getD ks 0 0
 
-    abbrev rest : List ℕ
-    rest = take (length ks - 1) (drop 1 ks)
+    -- with arrays that hold the state still
+    ends : (c : ℕ) (marks′ : List ℕ) (cells′ : List (List ℤ)) → Held t (r .s) keep code words marks′ cells′
+        → runFrom t (keptIn t) most vs ks (r .n) (r .s) (drop used vs) log ≡ ended c vs (r .n) (r .s) (drop used vs) log → Advances ran (answer c at used) marks′ cells′ log
+    ends c marks′ cells′ h e =
+        let u : used ≡ length vs - length (drop used vs) = omega (arith, length-drop used vs) in
+        let n : at / 8 ≡ r .n = omega (arith, r .at-n) in
+        subst (λ (x : Ran). Advances x (answer c at used) marks′ cells′ log) (sym (r .is ∙ e))
+        (record { steps = n; used = u; stop = refl; marksAre = h .marked .marksAre; cellsAre = h .cellsAre; logIs = refl })
 
-    abbrev pub going : Ran
-    going = runs t most vs n s used log ks
+    pub at-end : length ks ≡ 0 → Advances ran (answer 0 at used) marks cells log
+    at-end e = ends 0 marks cells (r .held) (runs-end t most vs (r .n) (r .s) (drop used vs) log ks e)
 
-    abbrev pub ending : ℕ → Ran
-    ending c = stopsAt t most vs n s used log c
+    module _ (some : length ks ≡ 0 → ⊥) (room : at ≤ length log) where
+      after : (z : Step) → turn t (keptIn t) most (length log) k (r .n) (r .s) (drop used vs) ≡ z
+          → runFrom t (keptIn t) most vs ks (r .n) (r .s) (drop used vs) log ≡ afterStep t (keptIn t) most vs (take (length ks - 1) (drop 1 ks)) (r .n) (r .s) (drop used vs) log z
+      after z e = runs-turn t most vs (r .n) (r .s) (drop used vs) log ks z some e
 
-    pub stop-none : (length ks ≡ 0 → ⊥) → t .tasks ≤ k → going ≡ ending 10
-    unfolding stopNumber
-    stop-none h l = runs-turn t most vs n s used log ks (stopped noSuchTask) h (turn-none t most vs n s used log k l)
+      pub stop-before : (b : ℕ) → b ≡ stopBefore k marks (length log - at) → (b ≡ 0 → ⊥) → Advances ran (answer b at used) marks cells log
+      stop-before b e u =
+          let q : length log - at ≡ length log - 8 * r .n = ap (λ (x : ℕ). length log - x) (r .at-n) in
+          let z = stops (r .held) k (length log - at) (r .n) (drop used vs) log (omega (arith, room, r .at-n)) q b e u in
+          ends b marks cells (r .held) (after (stopped (z .0)) (z .2) ∙ ap (λ (x : ℕ). ended x vs (r .n) (r .s) (drop used vs) log) (sym (z .1)))
 
-    pub stop-full : (length ks ≡ 0 → ⊥) → k < t .tasks → length log - 8 * n < 8 → going ≡ ending 11
-    unfolding stopNumber
-    stop-full h l r = runs-turn t most vs n s used log ks (stopped logFull) h (turn-full t most vs n s used log k l (omega arith))
+      module _ (task : k < t .tasks) (fits : 8 ≤ length log - at) (e : Stepped) (marks′ : List ℕ) (cells′ : List (List ℤ))
+          (a : Steps vs used (r .s) (step t (keptIn t) most (r .s) k (drop used vs)) e marks′ cells′) where
+        steps : turn t (keptIn t) most (length log) k (r .n) (r .s) (drop used vs) ≡ step t (keptIn t) most (r .s) k (drop used vs)
+        steps = turn-steps t most vs (r .n) (r .s) (drop used vs) log k task (omega (arith, fits, r .at-n))
 
-    pub stop-lost : (length ks ≡ 0 → ⊥) → k < t .tasks → 8 ≤ length log - 8 * n → isLost s k ≡ true → going ≡ ending 12
-    unfolding stopNumber
-    stop-lost h l r e = runs-turn t most vs n s used log ks (stopped taskLost) h (turn-lost t most vs n s used log k l (omega arith) e)
+        pub stop-step : (e .stop ≡ 0 → ⊥) → Advances ran (answer (e .stop) at used) marks′ cells′ log
+        stop-step u =
+            let z = stayed (r .held) k used task within e marks′ cells′ a u in
+            ends (e .stop) marks′ cells′ (z .held) (after (stopped (z .why)) (steps ∙ z .is) ∙ ap (λ (x : ℕ). ended x vs (r .n) (r .s) (drop used vs) log) (sym (z .stop)))
 
-    -- where the task stands: its frame is at place f, its node is x; the queues are columns
-    pub record Standing (f : ℕ) (x : Node) (ls : List ℕ) (is : List (List ℤ)) (cs : List ℕ) : Type 0 where
-      pub some : length ks ≡ 0 → ⊥
-      pub task : k < t .tasks
-      pub room : 8 ≤ length log - 8 * n
-      pub here : isLost s k ≡ false
-      pub good : Good t s
-      pub at : f ≡ 8 * k + (openFrames s k - 1)
-      pub node : x ≡ standsBefore t s k
-      pub queued : s .queues ≡ queuesOf ls is
-      pub even : length ls ≡ length is
-      pub caps : (q : ℕ) → q < 8 → getD cs q 0 ≡ queueAt t q .cap
+        pub next : e .stop ≡ 0 → (log′ : List ℕ) → log′ ≡ sets log at (k ∷ e .proc ∷ e .node ∷ e .flag ∷ word (e .bits)) → Runs t ran marks′ cells′ log′ (take (length ks - 1) (drop 1 ks)) (at + 8) (e .used)
+        next u log′ puts =
+            let z = went (r .held) k used task within e marks′ cells′ a u in
+            let l : sets log (8 * r .n) (entryBytes (z .entry)) ≡ log′ = sym (puts ∙ (λ j. sets log (r .at-n j) (z .bytes j))) in
+            let w = sym (z .left) in
+            record {
+              n = suc (r .n);
+              s = z .state;
+              held = z .held;
+              at-n = omega (arith, r .at-n);
+              is = r .is ∙ after (stepped (z .entry) (z .dropped) (z .state) (z .rest)) (steps ∙ z .is)
+                  ∙ (λ j. runFrom t (keptIn t) most vs (take (length ks - 1) (drop 1 ks)) (suc (r .n)) (z .state) (w j) (l j));
+            }
 
-    pub node-is : (row : List Slot) (f a : ℕ) → Row t row → Good t s → f ≡ 8 * k + (openFrames s k - 1) → a ≡ 32 * frameIn (s .frames) f .proc + frameIn (s .frames) f .node
-        → getD row a noSlot .node ≡ standsBefore t s k
-    node-is row f a r g e h =
-        ap (λ (i : ℕ). getD row i noSlot .node) h ∙ r .nodes _ _ (g .procs f) (g .nodes f) ∙
-        ap (λ (i : ℕ). nodeAt t (frameIn (s .frames) i .proc) (frameIn (s .frames) i .node)) e
+  -- ---- the loop: some table is held, and every table that was held first runs on
+  module _ (schedule : List ℕ) (given : ℕ) (marks₀ : List ℕ) (cells₀ : List (List ℤ)) (log₀ : List ℕ) where
+    abbrev run : Table → State → Ran
+    run t s = runFrom t (keptIn t) most vs schedule 0 s (drop given vs) log₀
 
-    module _ (f : ℕ) (x : Node) (ls : List ℕ) (is : List (List ℤ)) (cs : List ℕ) (st : Standing f x ls is cs) where
-      abbrev pub d : ℕ
-      d = openFrames s k
+    pub record Turning (marks : List ℕ) (cells : List (List ℤ)) (log ks : List ℕ) (at used : ℕ) : Type 0 where
+      pub lent : Holding keep code words marks cells
+      pub within : used ≤ length vs
+      pub room : at ≤ length log
+      pub same : length log ≡ length log₀
+      pub each : (t : Table) (s : State) → Held t s keep code words marks₀ cells₀ → Runs t (run t s) marks cells log ks at used
 
-      abbrev pub blocks : Bool
-      blocks = stuckOf x d (s .sems) ls cs
+    pub first : Holding keep code words marks₀ cells₀ → given ≤ length vs → Turning marks₀ cells₀ log₀ schedule 0 given
+    first l w = record { lent = l; within = w; room = omega arith; same = refl; each = λ t s h. record { n = 0; s = s; held = h; at-n = refl; is = refl } }
 
-      pub placed : Placed x
-      placed = rw (st .node) (ready .nodes _ _ (st .good .procs _) (st .good .nodes _))
+    module _ {marks : List ℕ} {cells : List (List ℤ)} {log ks : List ℕ} {at used : ℕ} (v : Turning marks cells log ks at used) where
+      abbrev pub Ends : ℕ → List ℕ → List (List ℤ) → Type 0
+      Ends c marks′ cells′ = (t : Table) (s : State) → Held t s keep code words marks₀ cells₀ → Advances (run t s) (answer c at used) marks′ cells′ log
 
-      blocks-is : blocked t s k ≡ blocks
-      blocks-is = ap (λ (y : Node). blockedAt t s k (act y)) (sym (st .node)) ∙ stuck-is t s k ls is cs (st .queued) (st .even) (st .caps) (act x) placed
+      -- by other names
+      pub ends-as : {c c′ : ℕ} {m m′ : List ℕ} {l l′ : List (List ℤ)} → Ends c m l → m′ ≡ m → l′ ≡ l → c′ ≡ c → Ends c′ m′ l′
+      ends-as h a b d t s e = let r = h t s e in rw (a, b, d) r
 
-      pub stop-blocked : blocks ≡ true → going ≡ ending 13
-      unfolding stopNumber
-      stop-blocked b = runs-turn t most vs n s used log ks (stopped taskBlocked) (st .some) (turn-blocked t most vs n s used log k (st .task) (let h = st .room in omega arith) (st .here) (blocks-is ∙ b))
+      pub ends-last : length ks ≡ 0 → Ends 0 marks cells
+      ends-last e t s h = at-end (v .each t s h) (v .within) e
 
-      call-blocks : (q : ℕ) (xs : Args) (to : ℕ) → x ≡ Call q xs to → blocks ≡ leb 8 d
-      unfolding stuckBy parts
-      call-blocks q xs to e = rw e refl
+      module _ (some : length ks ≡ 0 → ⊥) (b : ℕ) (before : b ≡ stopBefore (getD ks 0 0) marks (length log - at)) where
+        pub ends-before : (b ≡ 0 → ⊥) → Ends b marks cells
+        ends-before u t s h = stop-before (v .each t s h) (v .within) some (v .room) b before u
 
-      pub call-free : (q : ℕ) (xs : Args) (to : ℕ) → x ≡ Call q xs to → d < 8 → blocks ≡ false
-      call-free q xs to e h = call-blocks q xs to e ∙ lt-leb 8 d h
+        module _ (none : b ≡ 0) where
+          pub asked : (k : ℕ) → k ≡ getD ks 0 0 → Lent k keep code words marks cells
+          asked k e = rw e (record { t = v .lent .t; s = v .lent .s; held = v .lent .held; task = clear (v .lent .held) (getD ks 0 0) (length log - at) (sym before ∙ none) .0 })
 
-      abbrev top : Frame
-      top = frameIn (s .frames) f
+          pub fits : 8 ≤ length log - at
+          fits = clear (v .lent .held) (getD ks 0 0) (length log - at) (sym before ∙ none) .1
 
-      pub stays-here : backOf x ≡ 0 → f ≡ underOf f (backOf x) d
-      stays-here b =
-          let l : backOf x < d = omega (arith, b, st .good .opened k (st .task)) in
-          rw (lt-ltb (backOf x) d l) (omega (arith, b))
+          module _ (e : Stepped) (marks′ : List ℕ) (cells′ : List (List ℤ))
+              (did : (t : Table) (s : State) → Held t s keep code words marks cells → getD ks 0 0 < t .tasks → Steps vs used s (step t (keptIn t) most s (getD ks 0 0) (drop used vs)) e marks′ cells′) where
+            task-in : (t : Table) (s : State) → Held t s keep code words marks cells → getD ks 0 0 < t .tasks
+            task-in t s h = clear h (getD ks 0 0) (length log - at) (sym before ∙ none) .0
 
-      -- ---- what the node answers in the frame at place g, which has its call's arc
+            pub ends-step : (e .stop ≡ 0 → ⊥) → Ends (e .stop) marks′ cells′
+            ends-step u t s h =
+                let r = v .each t s h in
+                let l = task-in t (r .s) (r .held) in
+                stop-step r (v .within) some (v .room) l fits e marks′ cells′ (did t (r .s) (r .held) l) u
 
-      abbrev answerAt : ℕ → Acted
-      answerAt g = let fr = frameIn (s .frames) g in actOf x (arcTo (nodeAt t (fr .proc) (fr .node))) (fr .vars) (s .sems) ls is vs used
-
-      answer-sane : (g : ℕ) → length (frameIn (s .frames) g .vars) ≡ 16 → Sane vs used (answerAt g)
-      answer-sane g long = let fr = frameIn (s .frames) g in acts (memory s fr) ls is vs long (st .queued) (st .even) used t k x (arcTo (nodeAt t (fr .proc) (fr .node))) .sane placed
-
-      -- tried
-
-      module _ (g : ℕ) (o : Acted)
-          (tries : o ≡ triedOf x (arcTo (nodeAt t (frameIn (s .frames) g .proc) (frameIn (s .frames) g .node))) (frameIn (s .frames) g .vars) d (s .sems) ls cs is vs used) where
-        abbrev answer : Acted
-        answer = answerAt g
-
-        halts-blocked : blocks ≡ true → o .stop ≡ 13
-        halts-blocked b = ap (λ (r : Acted). r .stop) tries ∙ ap (λ (b : Bool). (pick b (haltsAt 13 used) answer) .stop) b
-
-        pub freed : o .stop ≡ 0 → blocks ≡ false
-        freed h = go blocks refl
-          where
-            go : (b : Bool) → blocks ≡ b → blocks ≡ false
-            go true e = absurd (omega (arith, h, halts-blocked e))
-            go false e = e
-
-        -- blocked, or what the node itself says
-        pub stop-tried : (blocks ≡ false → going ≡ ending (o .stop)) → going ≡ ending (o .stop)
-        stop-tried h = go blocks refl
-          where
-            go : (b : Bool) → blocks ≡ b → going ≡ ending (o .stop)
-            go true e = stop-blocked e ∙ ap ending (sym (halts-blocked e))
-            go false e = h e
-
-        pub acted : blocks ≡ false → o ≡ answer
-        acted b = tries ∙ ap (λ (b : Bool). pick b (haltsAt 13 used) answer) b
-
-        pub tried-within : length (frameIn (s .frames) g .vars) ≡ 16 → used ≤ length vs → o .used ≤ length vs
-        tried-within long w = rw tries (go blocks)
-          where
-            go : (b : Bool) → (pick b (haltsAt 13 used) answer) .used ≤ length vs
-            go true = w
-            go false = answer-sane g long .within w
-
-      top-is : top ≡ topmost s k
-      top-is = ap (λ (i : ℕ). frameIn (s .frames) i) (st .at)
-
-      abbrev Puts : List ℕ → Option ℤ → Type 0
-      Puts log′ z = log′ ≡ sets log (8 * n) (k ∷ top .proc ∷ top .node ∷ flagged z)
-
-      log-is : (log′ : List ℕ) (z : Option ℤ) → Puts log′ z → log′ ≡ sets log (8 * n) (entryBytes (entryOf k (topmost s k) z))
-      log-is log′ z puts = puts ∙ ap (λ (g : Frame). sets log (8 * n) (k ∷ g .proc ∷ g .node ∷ flagged z)) top-is
-
-      abbrev next : List ℕ → State → ℕ → Ran
-      next log′ s′ u = runFrom t (keptIn t) most vs rest (n + 1) s′ (drop u vs) log′
-
-      module _ (free : blocks ≡ false) where
-        abbrev room′ : 8 * n + 8 ≤ length log
-        room′ = let h = st .room in omega arith
-
-        -- a call
-        module _ (q : ℕ) (xs : Args) (to : ℕ) (calling : x ≡ Call q xs to) (fr : Frame) (enters : fr ≡ entering (top .vars) q xs) where
-          abbrev pub opened : State
-          opened = withFrames (withDepth s (set (s .depth) k (d + 1))) (set (s .frames) (f + 1) fr)
-
-          pub turn-calls : (log′ : List ℕ) → Puts log′ none → going ≡ next log′ opened used
-          turn-calls log′ puts =
-              let a : f + 1 ≡ place k d = omega (arith, st .at, st .good .opened k (st .task)) in
-              let b : fr ≡ entering (topmost s k .vars) q xs = enters ∙ ap (λ (g : Frame). entering (g .vars) q xs) top-is in
-              let e = log-is log′ none puts in
-              runs-turn t most vs n s used log ks _ (st .some)
-              (turn-goes t most vs n s used log k (st .task) room′ (st .here) (blocks-is ∙ free) ∙ step-calls t most s k vs used x q xs to (st .node) calling) ∙
-              sym (λ i. runFrom t (keptIn t) most vs rest (add-one n i) (withFrames (withDepth s (set (s .depth) k (d + 1))) (set (s .frames) (a i) (b i))) (drop used vs) (e i))
-
-          frame-good : FrameGood fr
-          unfolding concatFrom parts
-          frame-good =
-              let h : Placed (Call q xs to) = rw calling at placed in
-              rw enters (record { proc = h .0; node = omega arith; vars = refl })
-
-          pub opened-good : Good t opened
-          opened-good =
-              let b : d < 8 = call-below q xs to d (s .sems) ls cs (rw calling at free) in
-              good-depth opened k (d + 1) (good-frame (withFrames s (set (s .frames) (f + 1) fr)) (f + 1) fr (st .good) frame-good refl refl) (omega arith) (omega arith) refl refl
-
-        -- any other node, executed in the frame at place g
-        module _ (still : opensBy (act x) ≡ false) (g : ℕ) (at-next : g ≡ underOf f (backOf x) d) (o : Acted)
-            (answers : o ≡ actOf x (arcTo (nodeAt t (frameIn (s .frames) g .proc) (frameIn (s .frames) g .node))) (frameIn (s .frames) g .vars) (s .sems) ls is vs used) where
-          abbrev fr : Frame
-          fr = frameIn (s .frames) g
-
-          abbrev p : ℕ
-          p = fr .proc
-
-          abbrev j : ℕ
-          j = d - 1 - backOf x
-
-          back-le : backOf x ≤ d - 1
-          back-le = back-below (act x) d (s .sems) ls cs free
-
-          near : j + backOf x ≡ d - 1
-          near = omega (arith, back-le)
-
-          at-j : g ≡ place k j
-          at-j =
-              let l : backOf x < d = omega (arith, back-le, st .good .opened k (st .task)) in
-              let e : g ≡ f - backOf x = at-next ∙ rw (lt-ltb (backOf x) d l) refl in
-              omega (arith, back-le, st .at, e)
-
-          low : g < 32
-          low = omega (arith, at-j, st .task, ready .tasks, st .good .bounded k (st .task), st .good .opened k (st .task))
-
-          long : length (fr .vars) ≡ 16
-          long = st .good .vars g low
-
-          pub sane : Sane vs used o
-          sane = rw answers (answer-sane g long)
-
-          abbrev way : Walk
-          way = ways t most s k vs used ls is fr o
-
-          abbrev entry : Entry
-          entry = entryOf k (topmost s k) (shownBy o)
-
-          abbrev told : Step
-          told = goesOn t most s k vs used ls is (backOf x) j fr o
-
-          kept-is : going ≡ after t most vs n s used log rest told
-          kept-is =
-              let e : frameAt s k j ≡ fr = ap (λ (i : ℕ). frameIn (s .frames) i) (sym at-j) in
-              let long-j : length (frameAt s k j .vars) ≡ 16 = ap (λ (h : Frame). length (h .vars)) e ∙ long in
-              runs-turn t most vs n s used log ks _ (st .some)
-              (turn-goes t most vs n s used log k (st .task) room′ (st .here) (blocks-is ∙ free) ∙
-              step-goes t most s k vs used ls is x j (st .node) still near long-j (st .queued) (st .even) ∙
-              (λ i. goesOn t most s k vs used ls is (backOf x) j (e i) (actOf x (arcTo (nodeAt t (e i .proc) (e i .node))) (e i .vars) (s .sems) ls is vs used)) ∙
-              ap (goesOn t most s k vs used ls is (backOf x) j fr) (sym answers))
-
-          pub stop-acting : (o .stop ≡ 0 → ⊥) → going ≡ ending (o .stop)
-          stop-acting h =
-              kept-is ∙ after-halted t most vs n s used log rest entry (returnedBy (backOf x) s k) k j p way (o .stop) (rw (ne-eqb (o .stop) 0 h) (ap halted (named-stop (o .stop) (sane .named) h)))
-
-          module _ (on : o .stop ≡ 0) (l₀ : List ℤ) (sets-var : l₀ ≡ set (fr .vars) (o .var) (o .value))
-              (z : Chosen) (l : List ℤ) (ends : (mm : Memory) → met (heading t k vs p most (withVars mm l₀) (o .arc) (o .used)) ≡ metOf vs (withVars mm l) z) where
-            abbrev mem : Memory
-            mem = storedIn (memory s fr) ls is o
-
-            met-is : met way ≡ metOf vs (withVars mem l) z
-            met-is =
-                rw (eq-eqb (o .stop) 0 on)
-                (ap (λ (l : List ℤ). met (heading t k vs p most (withVars mem l) (o .arc) (o .used))) (sym sets-var) ∙ ends mem)
-
-            pub stop-walking : (z .stop ≡ 0 → ⊥) → going ≡ ending (z .stop)
-            stop-walking h = kept-is ∙ after-halted t most vs n s used log rest entry (returnedBy (backOf x) s k) k j p way (z .stop) (met-is ∙ rw (ne-eqb (z .stop) 0 h) refl)
-
-            abbrev frame : Frame
-            frame = record { proc = p; node = z .node; vars = l }
-
-            -- the state after it, where frame b was laid in the topmost place first
-            abbrev pub whole : Frame → State
-            whole b = storedAs s k f g (d - backOf x) b frame (z .lost) (mem .sems) (mem .queues)
-
-            pub turn-walks : (log′ : List ℕ) → Puts log′ (shownBy o) → (b : Frame) → ((backOf x ≡ 0 → ⊥) → b ≡ noFrame) → z .stop ≡ 0 → pick (z .lost) (z .node) 0 ≡ 0 → going ≡ next log′ (whole b) (z .used)
-            turn-walks log′ puts b blank h gone =
-                let e = log-is log′ (shownBy o) puts in
-                kept-is ∙ after-arrived t most vs n s used log rest entry (returnedBy (backOf x) s k) k j p way (pick (z .lost) none (some (z .node))) (withVars mem l) (drop (z .used) vs) (met-is ∙ rw (eq-eqb (z .stop) 0 h) refl) ∙
-                sym
-                (λ i. runFrom t (keptIn t) most vs rest (add-one n i) (landed-is s k f g j (backOf x) p (z .node) (withVars mem l) (st .at) at-j near (st .here) b blank (z .lost) (back-few (act x)) gone i) (drop (z .used) vs) (e i))
-
-            pub stored-good : (b : Frame) → FrameGood b → length l ≡ 16 → z .node < 32 → Good t (whole b)
-            stored-good b fb long′ small =
-                let a = good-frame (withFrames s (set (s .frames) f b)) f b (st .good) fb refl refl in
-                let e = good-frame (withFrames s (set (set (s .frames) f b) g frame)) g frame a (record { proc = st .good .procs g; node = small; vars = long′ }) refl refl in
-                good-depth (whole b) k (d - backOf x) e (omega (arith, back-le, st .good .opened k (st .task))) (omega (arith, st .good .bounded k (st .task))) refl refl
+            pub turned : e .stop ≡ 0 → (log′ : List ℕ) → log′ ≡ sets log at (getD ks 0 0 ∷ e .proc ∷ e .node ∷ e .flag ∷ word (e .bits)) → Turning marks′ cells′ log′ (take (length ks - 1) (drop 1 ks)) (at + 8) (e .used)
+            turned u log′ puts =
+                let t = v .lent .t in
+                let l = task-in t (v .lent .s) (v .lent .held) in
+                let z = went (v .lent .held) (getD ks 0 0) used l (v .within) e marks′ cells′ (did t (v .lent .s) (v .lent .held) l) u in
+                let long : length log′ ≡ length log = ap length puts ∙ length-sets log at (getD ks 0 0 ∷ e .proc ∷ e .node ∷ e .flag ∷ word (e .bits)) in
+                record {
+                  lent = record { t = t; s = z .state; held = z .held };
+                  within = z .within;
+                  room = omega (arith, fits, long, v .room);
+                  same = long ∙ v .same;
+                  each = λ t s h.
+                      let r = v .each t s h in
+                      let l = task-in t (r .s) (r .held) in
+                      next r (v .within) some (v .room) l fits e marks′ cells′ (did t (r .s) (r .held) l) u log′ puts;
+                }

@@ -14,7 +14,7 @@ use borrow.Author.Tests.{eq-eqb, ne-eqb}
 use Rattle.table.specs.Mask.{pick, bit, members}
 use Rattle.table.specs.MaskLaws.{members-few}
 use Rattle.masks.specs.Lowest.{members-none, members-lowest}
-use Rattle.tosses.specs.Tosses.{meeting, losing, targetAt, tossed, arrivedAmong, arrivedOf, oneKept, directOf}
+use Rattle.tosses.specs.Tosses.{meeting, losing, targetAt, tossed, arrivedAmong, arrivedOf, oneKept, straightOf}
 use Rattle.tosses.specs.declared.Chosen.{Chosen}
 
 module _ (m : ℕ) (fits : m < 4294967296) (some-in : m ≡ 0 → ⊥) where
@@ -58,17 +58,17 @@ module _ (arc keep : ℕ) (vs : List ℤ) (used : ℕ) where
 -- ---- the one target of an arc, where it is kept
 
 module _ (arc keep : ℕ) where
-  pub direct-none : arc ≡ 0 → 32 ≡ directOf arc keep
-  direct-none z = sym (ap (oneKept keep) (ap members z ∙ members-none))
+  pub straight-none : arc ≡ 0 → 0 ≡ straightOf arc keep
+  straight-none z = sym (ap (oneKept keep) (ap members z ∙ members-none))
 
-  pub direct-more : (a b : ℕ) (l : List ℕ) → members arc ≡ a ∷ b ∷ l → 32 ≡ directOf arc keep
-  direct-more a b l e = sym (ap (oneKept keep) e)
+  pub straight-more : (a b : ℕ) (l : List ℕ) → members arc ≡ a ∷ b ∷ l → 0 ≡ straightOf arc keep
+  straight-more a b l e = sym (ap (oneKept keep) e)
 
   module _ (j : ℕ) (one : members arc ≡ j ∷ []) where
-    pub direct-kept : keep / 2 ^ j % 2 ≡ 1 → j ≡ directOf arc keep
+    pub straight-kept : keep / 2 ^ j % 2 ≡ 1 → j ≡ straightOf arc keep
     unfolding bit
-    direct-kept h = sym (ap (oneKept keep) one ∙ ap (λ (b : Bool). pick b j 32) (eq-eqb (keep / 2 ^ j % 2) 1 h))
+    straight-kept h = sym (ap (oneKept keep) one ∙ ap (λ (b : Bool). pick b j 0) (eq-eqb (keep / 2 ^ j % 2) 1 h))
 
-    pub direct-dropped : (keep / 2 ^ j % 2 ≡ 1 → ⊥) → 32 ≡ directOf arc keep
+    pub straight-dropped : (keep / 2 ^ j % 2 ≡ 1 → ⊥) → 0 ≡ straightOf arc keep
     unfolding bit
-    direct-dropped h = sym (ap (oneKept keep) one ∙ ap (λ (b : Bool). pick b j 32) (ne-eqb (keep / 2 ^ j % 2) 1 h))
+    straight-dropped h = sym (ap (oneKept keep) one ∙ ap (λ (b : Bool). pick b j 0) (ne-eqb (keep / 2 ^ j % 2) 1 h))

@@ -41,11 +41,11 @@ arrivedAmong (j ∷ k ∷ ms) keep vs used = tossed (j ∷ k ∷ ms) keep vs use
 abbrev pub arrivedOf : ℕ → ℕ → List ℤ → ℕ → Chosen
 arrivedOf arc keep vs used = arrivedAmong (members arc) keep vs used
 
--- the one target of an arc, if it has exactly one and that is kept; else 32
+-- the kept node that an arc leads straight to: its one target, if that is kept; else 0
 abbrev pub oneKept : ℕ → List ℕ → ℕ
-oneKept keep [] = 32
-oneKept keep (j ∷ []) = pick (bit j keep) j 32
-oneKept keep (j ∷ k ∷ l) = 32
+oneKept keep [] = 0
+oneKept keep (j ∷ []) = pick (bit j keep) j 0
+oneKept keep (j ∷ k ∷ l) = 0
 
-abbrev pub directOf : ℕ → ℕ → ℕ
-directOf arc keep = oneKept keep (members arc)
+abbrev pub straightOf : ℕ → ℕ → ℕ
+straightOf arc keep = oneKept keep (members arc)

@@ -3,7 +3,7 @@ ghost use mathlib.Core.Path.{_≡_};
 ghost use Prim.Native.Nat.{_<_, _≤_};
 ghost use lib.ListN.{length, getD};
 ghost use Rattle.table.specs.Mask.{members};
-ghost use Rattle.tosses.specs.Tosses.{meeting, halting, tossed, arrivedOf, directOf};
+ghost use Rattle.tosses.specs.Tosses.{meeting, halting, tossed, arrivedOf, straightOf};
 
 // An arc taken: the node met, or lost, or the stop's number; and whether the walk over dropped nodes is over.
 pub struct Chosen {
@@ -91,20 +91,16 @@ pub fn arrive(arc: u32, keep: u32, values: &[i32], used: usize) -> Chosen
     toss(arc, keep, values, used)
 }
 
-// The one target of an arc, if it has exactly one and that is kept; else 32.
-pub fn direct_target(arc: u32, keep: u32) -> u8
-    ensures { λ r. ⌜ r ≡ directOf arc keep ⌝ }
+// The kept node that an arc leads straight to: its one target, if that is kept; else 0.
+pub fn straight(arc: u32, keep: u32) -> u8
+    ensures { λ r. ⌜ r ≡ straightOf arc keep ⌝ }
 {
     if arc == 0 {
-        return 32;
+        return 0;
     }
     if arc & (arc - 1) != 0 {
-        return 32;
+        return 0;
     }
     let low = u32::trailing_zeros(arc);
-    if (keep >> low) % 2 == 1 {
-        low as u8
-    } else {
-        32
-    }
+    if (keep >> low) % 2 == 1 { low as u8 } else { 0 }
 }

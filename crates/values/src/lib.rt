@@ -5,6 +5,7 @@ ghost use lib.Signed.{ltZ};
 ghost use lib.Bits.{bitAnd, bitOr, bitXor};
 ghost use mir.Syntax.{w32};
 ghost use mir.Val.{ofZ, toZ};
+ghost use Rattle.values.specs.Numbered.{operation};
 ghost use Rattle.table.specs.Values.{wrap, onBits, shr, truth, eqZ, apply};
 
 // The two's complement bits of a value.
@@ -85,17 +86,18 @@ pub fn eq(a: i32, b: i32) -> i32
     if a == b { 1 } else { 0 }
 }
 
-pub fn apply(op: table::Op, a: i32, b: i32) -> i32
-    ensures { λ r. ⌜ r ≡ apply op a b ⌝ }
+// The operation by its number.
+pub fn apply(op: u8, a: i32, b: i32) -> i32
+    ensures { λ r. ⌜ r ≡ apply (operation op) a b ⌝ }
 {
     match op {
-        table::Op::Add => add(a, b),
-        table::Op::Sub => sub(a, b),
-        table::Op::And => and(a, b),
-        table::Op::Or => or(a, b),
-        table::Op::Xor => xor(a, b),
-        table::Op::Shr => shr(a, b),
-        table::Op::Lt => lt(a, b),
-        table::Op::Eq => eq(a, b),
+        0 => add(a, b),
+        1 => sub(a, b),
+        2 => and(a, b),
+        3 => or(a, b),
+        4 => xor(a, b),
+        5 => shr(a, b),
+        6 => lt(a, b),
+        _ => eq(a, b),
     }
 }

@@ -1,9 +1,11 @@
-use mathlib.Core.Path.{_∙_, ap}
-use Rattle.machine.specs.declared.Running.{Running}
-use Rattle.bufshani_c.specs.Texts.{Coded}
-use Rattle.codes.specs.Code.{packed}
-use Rattle.bufshani_c.specs.TextLaws.{stepped-refused, stepped-good}
+-- `bufshani_c::bufshani_steps` refuses a text, or runs its table, which has no fault.
 use borrow.Author.Needs.{needs}
+use mathlib.Core.Path.{sym, _∙_, ap}
+use Rattle.machine.specs.declared.Running.{Running}
+use Rattle.codes.specs.Code.{packed}
+use Rattle.bufshani.specs.PrintLaws.{sound-read}
+use Rattle.bufshani_c.specs.Texts.{Coded}
+use Rattle.bufshani_c.specs.TextLaws.{stepped-refused, stepped-good}
 use Rattle.bufshani_c.proofs.bufshani_steps.Statement.{statement}
 use Rattle.bufshani_c.proofs.bufshani_steps.Tie as tie
 
@@ -14,10 +16,12 @@ pack-requires : tie.Need-pack-requires
 pack-requires c κs = search needs
 
 returns : tie.Need-returns
-returns c = let e = stepped-refused _ _ _ _ _ _ (c .before .before .before .read .ensures) (c .before .if1 .taken) in (c .pack .ensures ∙ ap (λ (x : Coded). x .answer) e, ap (λ (x : Coded). x .buffer) e)
+returns c =
+    let e = stepped-refused _ _ _ _ _ _ (c .before .before .before .read .ensures) (c .before .if1 .taken) in
+    (c .pack .ensures ∙ ap (λ (x : Coded). x .answer) e, ap (λ (x : Coded). x .buffer) e)
 
-run-requires : tie.Need-run-requires
-run-requires c κs = search needs
+run-valid-requires : tie.Need-run-valid-requires
+run-valid-requires c κs = sym (sound-read _ _ (c .before .before .before .before .read .ensures) (c .before .before .if1 .left))
 
 pack-requires-2 : tie.Need-pack-requires-2
 pack-requires-2 c κs = search needs
@@ -26,7 +30,11 @@ same-length : tie.Need-same-length
 same-length c = search needs
 
 returns-2 : tie.Need-returns-2
-returns-2 c = let e = stepped-good _ _ _ _ _ _ (c .before .before .before .before .before .before .before .before .read .ensures) (c .before .before .before .before .before .before .if1 .left) in let w = (c .before .before .before .run .ensures) in (c .pack2 .ensures ∙ ap (λ (x : Running). packed (x .stop) (x .steps)) (w .0) ∙ ap (λ (x : Coded). x .answer) e, w .1 ∙ ap (λ (x : Coded). x .buffer) e)
+returns-2 c =
+    let a = c .before .before .before .before .before .before in
+    let e = stepped-good _ _ _ _ _ _ (a .before .before .read .ensures) (a .if1 .left) in
+    let w = c .before .before .before .run-valid .ensures in
+    (c .pack2 .ensures ∙ ap (λ (x : Running). packed (x .stop) (x .steps)) (w .0) ∙ ap (λ (x : Coded). x .answer) e, w .1 ∙ ap (λ (x : Coded). x .buffer) e)
 
 pub bufshani-steps-spec : {M : Type 1} → statement M
 bufshani-steps-spec =
@@ -35,7 +43,7 @@ bufshani-steps-spec =
     read-requires
     pack-requires
     returns
-    run-requires
+    run-valid-requires
     pack-requires-2
     same-length
     returns-2)

@@ -1,25 +1,71 @@
--- `runner::run_ready` runs a ready table as `runBegun` says, from what `starts::start` starts with.
+-- `runner::run_ready` runs a ready table as `runBegun` says.
 use borrow.Author.Needs.{needs}
-use Rattle.starts.specs.StartLaws.{started-good, started-within, started-goes, started-spent, started-still}
-use Rattle.runner.proofs.Runs.{begun-spent, begun-goes}
+use mathlib.Core.Path.{refl, _∙_}
+use Rattle.table.specs.declared.Table.{Table}
+use Rattle.run_state.specs.Begins.{Takes}
+use Rattle.run_state.specs.BeginLaws.{first-marks}
+use Rattle.runner.specs.Advances.{Starting}
+use Rattle.runner.proofs.Starts.{stated, answers}
 use Rattle.runner.proofs.run_ready.Statement.{statement}
 use Rattle.runner.proofs.run_ready.Tie as tie
 
-start-requires : tie.Need-start-requires
-start-requires c κs = (c .before .before .pre)
+-- ---- stages
 
-returns : tie.Need-returns
-returns c = begun-spent (c .before .before .before .before .before .args .t) (c .before .before .before .before .before .args .schedule .now) (c .before .before .before .before .before .args .values .now) (c .before .before .before .before .before .args .most) (c .before .before .before .before .before .args .log .now) _ _ (started-spent (c .before .before .before .before .before .args .t) (c .before .before .before .before .before .pre) (c .before .before .before .before .before .args .values .now) (c .before .before .start .ensures) (c .if1 .taken)) (started-still (c .before .before .before .before .before .args .t) (c .before .before .before .before .before .pre) (c .before .before .before .before .before .args .values .now) (c .before .before .start .ensures) (c .if1 .taken))
+abbrev start : tie.After-decode → tie.Start
+start c = c .before .before .before .before .before .before
 
-run-from-requires : tie.Need-run-from-requires
-run-from-requires c κs = (c .before .before .before .before .before .before .pre, (started-good (c .before .before .before .before .before .before .args .t) (c .before .before .before .before .before .before .pre) (c .before .before .before .before .before .before .args .values .now) (c .before .before .before .start .ensures), started-within (c .before .before .before .before .before .before .args .t) (c .before .before .before .before .before .before .pre) (c .before .before .before .before .before .before .args .values .now) (c .before .before .before .start .ensures)))
+abbrev decoded : tie.After-begin → tie.After-decode
+decoded c = c .before .before .before .before .before .before
+
+abbrev begun : tie.After-run-begun → tie.After-begin
+begun c = c .before .before .before .before .before .before .before
+
+abbrev table : tie.After-begin → Table
+table c = start (decoded c) .args .t
+
+takes : (c : tie.After-decode) → Takes (start c .args .t) (start c .args .t .tasks) (start c .args .t .task) (c .decode .result)
+takes c = record { keep = _; ready = start c .pre; tasksAre = refl; taskAre = refl; takesAre = c .decode .ensures .1 .1 .0 }
+
+starts : (c : tie.After-begin) → Starting (table c) (start (decoded c) .args .t2) (start (decoded c) .args .values .now) (decoded c .decode .last .1 .1 .0) (decoded c .decode .last .1 .1 .1 .0) (c .begin .result)
+    (c .before .before .before .first .result) (c .begin .last .1 .1 .1 .0)
+starts c =
+    let d = decoded c in
+    record {
+      ready = start d .pre;
+      coded = d .decode .ensures .0;
+      worded = d .decode .ensures .1 .0;
+      first = c .before .before .before .first .ensures ∙ first-marks (table c) _ (start d .pre);
+      begins = c .begin .ensures (table c) (takes d);
+    }
+
+-- ---- the needs
+
+decode-requires : tie.Need-decode-requires
+decode-requires c κs = search needs
+
+first-requires : tie.Need-first-requires
+first-requires c κs = search needs
+
+begin-requires : tie.Need-begin-requires
+begin-requires c κs = (record { t = _; have = takes (c .before .before .before .before .before) }, refl)
+
+run-begun-requires : tie.Need-run-begun-requires
+run-begun-requires c κs = let b = c .before .before .before .before .before .before in record { t = table b; starting = starts b }
+
+answer-requires : tie.Need-answer-requires
+answer-requires c κs =
+    let a = c .before .before .before .before in
+    let b = begun a in
+    stated (starts b) _ _ _ (a .run-begun .ensures (table b) (starts b))
 
 same-length : tie.Need-same-length
 same-length c = search needs
 
-returns-2 : tie.Need-returns-2
-returns-2 c = begun-goes (c .before .before .before .before .before .before .before .before .before .args .t) (c .before .before .before .before .before .before .before .before .before .args .schedule .now) (c .before .before .before .before .before .before .before .before .before .args .values .now) (c .before .before .before .before .before .before .before .before .before .args .most) (c .before .before .before .before .before .before .before .before .before .args .log .now) _ _ _ _ _ (started-goes (c .before .before .before .before .before .before .before .before .before .args .t) (c .before .before .before .before .before .before .before .before .before .pre) (c .before .before .before .before .before .before .before .before .before .args .values .now) (c .before .before .before .before .before .before .start .ensures) (c .before .before .before .before .if1 .left)) (c .before .before .run-from .ensures .0) (c .before .before .run-from .ensures .1)
+returns : tie.Need-returns
+returns c =
+    let a = c .before .before .before .before .before in
+    let b = begun a in
+    answers (starts b) _ _ _ (a .run-begun .ensures (table b) (starts b)) _ (c .answer .ensures)
 
 pub run-ready-spec : {M : Type 1} → statement M
-run-ready-spec =
-    tie.close (tie.spec start-requires returns run-from-requires same-length returns-2)
+run-ready-spec = tie.close (tie.spec decode-requires first-requires begin-requires run-begun-requires answer-requires same-length returns)

@@ -1,0 +1,4 @@
+pub mod Ready
+pub mod ReadyLaws
+pub mod Code
+pub mod CodeLaws

@@ -1,0 +1,7 @@
+pub mod Good
+pub mod Arrays
+pub mod ArrayLaws
+pub mod Begins
+pub mod GoodLaws
+pub mod BeginLaws
+pub mod StepGood

@@ -1,0 +1,12 @@
+pub mod Effects
+pub mod EffectLaws
+pub mod Walks
+pub mod Steps
+pub mod GoLaws
+pub mod BlockedLaws
+pub mod Dropped
+pub mod Standing
+pub mod StepLaws
+pub mod Arms
+pub mod FrameLaws
+pub mod Whole
