@@ -1,18 +1,18 @@
 -- Laws of a word's list, item by item: each says what a step of the code shows.
-use Prim.Native.Nat.{ℕ, suc, _+_, _-_, _≤_, _<_}
+use Prim.Native.Nat.{ℕ, _+_, _-_, _≤_, _<_}
 use mathlib.Core.Path.{_≡_, refl, sym, _∙_, ap}
 use mathlib.Core.List.{List, [], _∷_, _++_, append-nil, append-assoc}
 use mathlib.Core.Option.{Option, none, some}
 use mathlib.Core.Bool.{Bool, true, false}
 use native.Mathlib.Omega.{arith}
-use native.Mathlib.Nat.{add-zero, add-suc, suc-add}
 use native.Mathlib.Numerals.{add-one}
 use lib.Dec.{leb}
 use lib.ListN.{length, set, take, drop, length-append}
-use lib.Seq.{sets, length-sets, set-out, sets-eq, take-append-seam}
+use lib.Seq.{sets, length-sets, sets-eq, take-append-seam}
 use borrow.Author.Tests.{le-leb, lt-leb, lt-ltb, le-ltb, leb-true}
 use Rattle.table.specs.Cases.{cases}
 use Rattle.table.specs.Mask.{pick}
+use Rattle.table.specs.Places.{sets-append, sets-out}
 use Rattle.text.specs.Number.{bytes}
 use Rattle.text.specs.Value.{same, split, each, followed}
 use Rattle.machine.specs.Program.{filtered, saidItems}
@@ -21,16 +21,6 @@ use Rattle.lists.specs.ItemLaws.{comma-split}
 use Rattle.arguments.specs.declared.Number.{Number}
 use Rattle.arguments.specs.declared.Number.the-variants.{Is, Not}
 use Rattle.arguments.specs.Answers.{countOf, before, leadingOf, leading}
-
--- ---- stores one after another
-
-sets-append : {A : Type 0} (t u l : List A) (at : ℕ) → sets l at (t ++ u) ≡ sets (sets l at t) (at + length t) u
-sets-append [] u l at = rw add-zero
-sets-append (b ∷ t) u l at = sets-append t u _ (suc at) ∙ rw (suc-add, ← add-suc at (length t))
-
-sets-out : {A : Type 0} (t l : List A) (at : ℕ) → length l ≤ at → sets l at t ≡ l
-sets-out [] l at h = refl
-sets-out (b ∷ t) l at h = rw (set-out l at b h) (sets-out t l (suc at) (omega arith))
 
 -- ---- the items so far
 

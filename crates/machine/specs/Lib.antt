@@ -9,4 +9,5 @@ pub mod ExecLaws
 pub mod RunLaws
 pub mod KeptLaws
 pub mod StopLaws
+pub mod ClosedStep
 pub mod ClosedRun

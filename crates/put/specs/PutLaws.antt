@@ -1,19 +1,15 @@
 -- Laws of writing: one piece after another, a field, a line.
-use Prim.Native.Nat.{ℕ, suc, _+_, _-_, _/_, _%_, _≤_, _<_}
+use Prim.Native.Nat.{ℕ, _+_, _-_, _/_, _%_, _≤_, _<_}
 use mathlib.Core.Path.{_≡_, refl, sym, _∙_, ap}
 use mathlib.Core.List.{List, [], _∷_, _++_, append-assoc}
 use native.Mathlib.Omega.{arith}
-use native.Mathlib.Nat.{add-zero, add-suc, suc-add}
 use native.Mathlib.Numerals.{add-one}
 use lib.ListN.{length, set, getD, take, drop, length-append, take-append-drop, length-take}
 use lib.Seq.{sets, sets-eq, length-sets, set-out, take-suc, take-all, take-at, length-take-le}
+use Rattle.table.specs.Places.{sets-append, sets-out}
 use Rattle.text.specs.Number.{digits}
 use Rattle.text.specs.NumberLaws.{digits-small, digits-large}
 use Rattle.put.specs.Put.{Put, PutField}
-
-sets-append : (t u l : List ℕ) (at : ℕ) → sets l at (t ++ u) ≡ sets (sets l at t) (at + length t) u
-sets-append [] u l at = rw add-zero
-sets-append (b ∷ t) u l at = sets-append t u _ (suc at) ∙ rw (suc-add, ← add-suc at (length t))
 
 -- one piece after another
 pub put-after : {k j : ℕ} {l m n t u : List ℕ} {at p q : ℕ} → Put k l at t m p → Put j m p u n q → Put (k + j) l at (t ++ u) n q
@@ -46,10 +42,6 @@ filled-few {m = m} {n = n} a h = omega (arith, length-take n m, a .few, a .next)
 -- a byte past the end
 pub put-past : {l : List ℕ} {at b : ℕ} → length l ≤ at → Put 1 l at (b ∷ []) l (at + 1)
 put-past {l} {at} {b} h = record { few = omega arith; bytes = sym (set-out l at b h); same = refl; next = refl }
-
-sets-out : (t l : List ℕ) (at : ℕ) → length l ≤ at → sets l at t ≡ l
-sets-out [] l at h = refl
-sets-out (b ∷ t) l at h = rw (set-out l at b h) (sets-out t l (suc at) (omega arith))
 
 -- a text past the end, and one that the end cuts
 pub put-skip : {l t : List ℕ} {at : ℕ} → length l ≤ at → Put (length t) l at t l (at + length t)

@@ -1,4 +1,4 @@
--- A step of a good state leaves a good one, and so does a run; the values left are a rest of the values, and the entry has the task.
+-- A step of a good state leaves a good one, and so does a run; the values left are a rest of the values.
 use Prim.Native.Nat.{ℕ, zero, suc, _+_, _-_, _*_, _<_, _≤_}
 use native.Mathlib.Omega.{arith}
 use mathlib.Core.Path.{_≡_, refl, sym, _∙_, ap, subst}
@@ -23,7 +23,7 @@ use Rattle.machine.specs.declared.Frame.{Frame}
 use Rattle.machine.specs.declared.Entries.{Entries}
 use Rattle.machine.specs.declared.State.{State}
 use Rattle.machine.specs.State.{noFrame, withDepth, withLost, withSems, withQueues, openFrames, isLost, place, frameAt, topmost, entriesAt, standsBefore, blockedAt, blocked}
-use Rattle.machine.specs.Step.{Stop, noSuchTask, logFull, taskLost, taskBlocked, tooMany, Memory, assign, withSem, withEntries, appended, shortened, entering, Does, opens, closes, goes, stops, readOf, exec, Choice, nowhere, node, bad, tossed, toss, chooseFrom, choose, Kept, keptIn, Walk, halts, arrives, along, onward, noting, walk, Entry, Step, stopped, stepped, landed, settled, called, returned, memory, entryOf, stepAs, stepOf, before, unless, step}
+use Rattle.machine.specs.Step.{noSuchTask, logFull, taskLost, taskBlocked, tooMany, Memory, assign, withSem, withEntries, appended, shortened, entering, Does, opens, closes, goes, stops, readOf, exec, Choice, nowhere, node, bad, tossed, toss, chooseFrom, choose, Kept, keptIn, Walk, halts, arrives, along, onward, noting, walk, Entry, Step, stopped, stepped, landed, settled, called, returned, memory, entryOf, stepAs, stepOf, before, unless, step}
 use Rattle.machine.specs.Run.{entryBytes, turn}
 use Rattle.machine.specs.RunLaws.{runFrom, afterStep, run-end, run-next}
 use Rattle.machine.specs.ExecLaws.{Executes, calling, returning, going, stopping, exec-view}
@@ -341,35 +341,6 @@ step-rest t most s k vs used l e ns z rest h =
     first (λ f few u. first) (λ more. (first, lands)) lands)
     in
     (r .0, omega arith)
-
--- ---- the entry is the task's own
-
-module _ (t : Table) (keep : Kept) (most : ℕ) (s : State) (k : ℕ) where
-  abbrev OfTask : Step → Type 0
-  OfTask (stopped c) = Unit {0}
-  OfTask (stepped e ns z ws) = e .task ≡ k
-
-  settled-task : (f : Frame) (o : Option ℤ) (z : State) (j p : ℕ) (w : Walk) → OfTask (settled (entryOf k f o) z k j p w)
-  settled-task f o z j p (halts c) = tt
-  settled-task f o z j p (arrives w m ws ns) = refl
-
-  as-task : (f : Frame) (vs : List ℤ) (d : Does) → OfTask (stepAs t keep most s k f vs d)
-  as-task f vs (opens g) = refl
-  as-task f vs closes =
-      let g = frameAt s k (openFrames s k - 2) in
-      let w = along (λ n m ws. walk t keep k (g .proc) most n m ws) (memory s g) (choose (arcTo (nodeAt t (g .proc) (g .node))) vs) in
-      settled-task f none (returned s k) (openFrames s k - 2) (g .proc) w
-  as-task f vs (goes arc m ws o) = settled-task f o s (openFrames s k - 1) (f .proc) (along (λ n m vs. walk t keep k (f .proc) most n m vs) m (choose arc ws))
-  as-task f vs (stops c) = tt
-
-  unless-task : (o : Option Stop) (r : Step) → OfTask r → OfTask (unless o r)
-  unless-task none r h = h
-  unless-task (some c) r h = tt
-
-  pub step-task : (vs : List ℤ) (e : Entry) (ns : List ℕ) (z : State) (rest : List ℤ) → step t keep most s k vs ≡ stepped e ns z rest → e .task ≡ k
-  unfolding step stepOf
-  step-task vs e ns z rest h =
-      subst OfTask h (unless-task (before t s k) (stepOf t keep most s k vs) (as-task (topmost s k) vs (exec t k (standsBefore t s k) (memory s (topmost s k)) vs)))
 
 -- ---- a run
 

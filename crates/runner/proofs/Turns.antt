@@ -16,10 +16,11 @@ use Rattle.table.specs.declared.Table.{Table}
 use Rattle.machine.specs.declared.State.{State}
 use Rattle.machine.specs.Step.{Stop, noSuchTask, logFull, taskLost, taskBlocked, tooMany, valuesSpent, badToss, stopNumber, keptIn, Entry, Step, stopped, stepped, step}
 use Rattle.machine.specs.Run.{word, flagged, entryBytes, Ran, ended, turn}
+use Rattle.machine.specs.StepLaws.{step-task}
 use Rattle.machine.specs.RunLaws.{runFrom, afterStep, run-end, run-next}
 use Rattle.run_code.specs.Code.{byte}
 use Rattle.run_state.specs.ArrayLaws.{depth-at}
-use Rattle.run_state.specs.StepGood.{step-good, step-rest, step-task}
+use Rattle.run_state.specs.StepGood.{step-good, step-rest}
 use Rattle.run_step.specs.declared.Stepped.{Stepped}
 use Rattle.run_step.specs.Steps.{Held, Lent, flagOf, bitsOf, Steps}
 use Rattle.runner.specs.declared.Advanced.{Advanced}

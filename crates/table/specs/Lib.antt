@@ -1,4 +1,5 @@
 pub mod Cases
+pub mod Places
 pub mod Mask
 pub mod MaskLaws
 pub mod Values

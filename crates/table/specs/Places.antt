@@ -1,11 +1,12 @@
--- A list filled place by place.
-use Prim.Native.Nat.{ℕ, _+_, _<_}
+-- Lists whose places are set, one after another or several at a time.
+use Prim.Native.Nat.{ℕ, suc, _+_, _≤_, _<_}
 use native.Mathlib.Omega.{arith}
+use native.Mathlib.Nat.{add-zero, add-suc, suc-add}
 use mathlib.Core.Path.{_≡_, refl, _∙_}
 use mathlib.Core.Bool.{Bool, true, false}
-use mathlib.Core.List.{List}
+use mathlib.Core.List.{List, [], _∷_, _++_}
 use lib.ListN.{length, getD, set, length-set}
-use lib.Seq.{getD-set-same, getD-set-other}
+use lib.Seq.{sets, set-out, getD-set-same, getD-set-other}
 use lib.Dec.{eqb}
 use borrow.Author.Tests.{eqb-true, eqb-false}
 
@@ -19,3 +20,14 @@ fill d n f r i x low e h = (length-set r i x ∙ h .0, λ j k. go j k (eqb j i) 
     go : (j : ℕ) → j < i + 1 → (b : Bool) → eqb j i ≡ b → getD (set r i x) j d ≡ f j
     go j k true y = rw (eqb-true j i y) (getD-set-same r i x d (omega (arith, h .0)) ∙ e)
     go j k false y = let z = eqb-false j i y in getD-set-other r i j x d z ∙ h .1 j (omega (arith, z))
+
+-- ---- several places
+
+pub sets-append : {A : Type 0} (t u l : List A) (at : ℕ) → sets l at (t ++ u) ≡ sets (sets l at t) (at + length t) u
+sets-append [] u l at = rw add-zero
+sets-append (b ∷ t) u l at = sets-append t u _ (suc at) ∙ rw (suc-add, ← add-suc at (length t))
+
+-- behind the end nothing is set
+pub sets-out : {A : Type 0} (t l : List A) (at : ℕ) → length l ≤ at → sets l at t ≡ l
+sets-out [] l at h = refl
+sets-out (b ∷ t) l at h = rw (set-out l at b h) (sets-out t l (suc at) (omega arith))
