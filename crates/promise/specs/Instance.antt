@@ -1,20 +1,26 @@
 -- Demand 3 at P1's table, with the sensor answering 120 and the task numbers 0, 0, 0: its premises hold, so the theorem gives tosses; and not every list of
--- tosses will do.
+-- tosses will do. Line 2 of the sheet at that run: explored two deep nothing is found, and it is its third step that leads to a standstill.
 use Prim.Native.Nat.{ℕ, _≤_, _<_}
 use Prim.Native.String.{String}
 use mathlib.Core.Path.{_≡_, refl, sym, _∙_}
+use mathlib.Core.Bool.{true, false}
 use mathlib.Core.List.{List, [], _∷_}
 use native.Mathlib.Omega.{arith}
-use lib.ListN.{length, getD, replicate}
+use lib.ListN.{getD, replicate}
 use lib.IntN.{ℤ, pos}
 use Rattle.table.specs.declared.Table.{Table}
 use Rattle.text.specs.Reader.{read}
 use Rattle.closing.specs.Close.{close}
 use Rattle.closing.specs.Examples.{Example, closes, gives, joined, p1}
-use Rattle.machine.specs.Computing.{computing}
+use Rattle.machine.specs.State.{standstill}
 use Rattle.machine.specs.Run.{run}
-use Rattle.promise.specs.Demand3.{OpenRun, Partner, HasPartner}
+use Rattle.exploring.specs.Computing.{computing}
+use Rattle.exploring.specs.Answers.{noneAnswer}
+use Rattle.exploring.specs.Explore.{explore}
+use Rattle.promise.specs.Demand3.{OpenRun, openRan, first, Partner, HasPartner, cut}
 use Rattle.promise.specs.Theorems.{demand-3}
+use Rattle.promise.specs.Explored.{Cleared}
+use Rattle.promise.specs.ExploredHold.{no-standstill}
 
 abbrev lines : Example → List String
 lines (closes s r) = s
@@ -75,3 +81,27 @@ not-0 p =
 -- and with no toss the closed run does not complete
 pub not-none : Partner original (record { tosses = []; most = 5; log = log }) → ⊥
 not-none p = absurd (let z : _≡_ {A = ℕ} 15 0 = sym none-stops ∙ p .completes in omega arith)
+
+-- ---- line 2 of the sheet
+
+begins : run t [] inputs 5 log .answer .stop ≡ 0
+unfolding computing
+begins = refl
+
+two-steps : openRan original (first original 2) .answer .steps ≡ 2
+unfolding computing
+two-steps = refl
+
+none-found : explore (close t .table) 2 3 ≡ noneAnswer 3
+unfolding computing
+none-found = refl
+
+cleared : Cleared (cut original 2) 2 3 3
+cleared = record { accepted = accepted; begins = begins; short = omega (arith, two-steps); none = none-found }
+
+pub two-stand : standstill t (openRan original (first original 2) .answer .state) ≡ false
+two-stand = no-standstill (cut original 2) 2 3 3 cleared 2 (omega (arith, two-steps))
+
+pub three-still : standstill t (openRan original ks .answer .state) ≡ true
+unfolding computing
+three-still = refl

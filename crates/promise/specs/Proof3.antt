@@ -31,17 +31,17 @@ use Rattle.machine.specs.KeptLaws.{allKept, kept-closed}
 use Rattle.machine.specs.StopLaws.{stopped-covered}
 use Rattle.machine.specs.ClosedRun.{AlikeRuns, closed-alike, few-tosses}
 use Rattle.machine.specs.Run.{Ran, courseFrom, runBegun, runChecked, run, SameLog}
-use Rattle.machine.specs.RunLaws.{runFrom, run-begun}
+use Rattle.machine.specs.RunLaws.{runFrom, run-begun, stop-number}
 use Rattle.promise.specs.History.{History, lastSetting, historyFrom, historyBegun, history}
-use Rattle.promise.specs.Demand3.{CleanSetting, SameState, OpenRun, ClosedRun, first, openRan, Partner, Tosses, cut, Demand3, Demand3Stopped, SameStandstill, SameFailure}
+use Rattle.promise.specs.Demand3.{CleanSetting, SameState, OpenRun, ClosedRun, first, openRan, closedRan, Partner, Tosses, cut, Demand3, Demand3Stopped, SameStandstill, SameFailure}
 use Rattle.promise.specs.Sim.Wf.{Wf}
 use Rattle.promise.specs.Sim.Locals.{settingOf, D, keptAt, not-dirty}
 use Rattle.promise.specs.Sim.Exec.{useOr, closing}
 use Rattle.promise.specs.Sim.Same.{Same}
-use Rattle.promise.specs.Sim.Blocked.{same-state, stands-closed, same-blocked}
+use Rattle.promise.specs.Sim.Blocked.{same-state, top-proc, stands-closed, same-blocked}
 use Rattle.promise.specs.Sim.Log.{same-log, kept-log}
 use Rattle.promise.specs.Sim.Begin.{WhenBegun, BothBegin, begin-sim}
-use Rattle.promise.specs.Sim.Run.{stop-number, Strong, run-sim}
+use Rattle.promise.specs.Sim.Run.{Strong, run-sim}
 
 -- ---- the two runs, from their first states on
 
@@ -241,3 +241,12 @@ module _ (wf : (t : Table) → close t .number ≡ 0 → Wf t) (sound : (t : Tab
       let g = known o ok c f n l in
       let a = accepted (o .table) ok .answer-is in
       rw a (fail-alike (o .table) (wf (o .table) ok) _ _ _ (g .0) (rw a at (f .agree n l .states)) (g .1) k k< v (rw a at i) j)
+
+  -- in the closed table, the node before which a task stands in the open run is the one before which it stands in the closed run
+  pub same-node : (o : OpenRun) → close (o .table) .number ≡ 0 → (c : ClosedRun) → Partner o c → (n : ℕ) → n ≤ length (o .schedule) → (k : ℕ) → k < o .table .tasks
+      → let f = topmost (openRan o (first o n) .answer .state) k in
+      nodeAt (close (o .table) .table) (f .proc) (f .node) ≡ standsBefore (close (o .table) .table) (closedRan o c (first o n) .answer .state) k
+  same-node o ok c f n l k k< =
+      let g = known o ok c f n l .1 .task k k< in
+      let q = f .agree n l .states in
+      ap₂ (nodeAt (close (o .table) .table)) (top-proc (o .table) _ _ _ (wf (o .table) ok) q k k< (g .some-open) (g .keeps)) (q .next k k<)

@@ -25,7 +25,7 @@ use Rattle.promise.specs.Sim.Wf.{Wf}
 use Rattle.promise.specs.Sim.Grants.{wf}
 use Rattle.promise.specs.Proof3
 
-granted : (t : Table) → close t .number ≡ 0 → Wf t
+pub granted : (t : Table) → close t .number ≡ 0 → Wf t
 granted t ok = let a = accepted t ok in wf t (a .sound) (a .open-form)
 
 -- "The closed table is exactly the one that the published closing algorithm, as laid down in document 01, gives"

@@ -8,16 +8,16 @@ use lib.ListN.{length, take}
 use lib.Seq.{sets, length-sets}
 use lib.Dec.{ltb}
 use lib.IntN.{ℤ}
-use borrow.Author.Tests.{ltb-true, ltb-false, lt-ltb, le-ltb}
+use borrow.Author.Tests.{ltb-true, ltb-false}
 use Rattle.table.specs.Cases.{cases}
 use Rattle.table.specs.declared.Table.{Table}
 use Rattle.closing.specs.ListLaws.{all-nil, all-append}
 use Rattle.closing.specs.Close.{closedWith, closeTable}
 use Rattle.machine.specs.declared.State.{State}
-use Rattle.machine.specs.Step.{Stop, noSuchTask, logFull, taskLost, taskBlocked, tooMany, valuesSpent, badToss, stopNumber, Kept, Entry, Step, stopped, stepped, step}
+use Rattle.machine.specs.Step.{Kept, Entry, Step, stopped, stepped, step}
 use Rattle.machine.specs.KeptLaws.{allKept}
 use Rattle.machine.specs.Run.{entryBytes, Ran, turn, andThen, courseFrom, ranFrom}
-use Rattle.machine.specs.RunLaws.{runFrom, afterStep, run-next}
+use Rattle.machine.specs.RunLaws.{runFrom, afterStep, run-next, stop-number, turn-is}
 use Rattle.promise.specs.History.{History, notedAfter, historyFrom}
 use Rattle.promise.specs.Demand3.{Toss, Tosses}
 use Rattle.promise.specs.Sim.Wf.{Wf}
@@ -27,16 +27,6 @@ use Rattle.promise.specs.Sim.Step.{WhenStepped, SameEntry, Done, step-si
 use Rattle.promise.specs.Sim.Log.{SameLogs, log-next}
 
 -- ---- a run's first step
-
-pub stop-number : (c : Stop) → stopNumber c ≡ 0 → ⊥
-unfolding stopNumber
-stop-number noSuchTask e = absurd (omega arith)
-stop-number logFull e = absurd (omega arith)
-stop-number taskLost e = absurd (omega arith)
-stop-number taskBlocked e = absurd (omega arith)
-stop-number tooMany e = absurd (omega arith)
-stop-number valuesSpent e = absurd (omega arith)
-stop-number badToss e = absurd (omega arith)
 
 module _ (u : Table) (keep : Kept) (most : ℕ) (k : ℕ) (ks : List ℕ) (n : ℕ) (s : State) (rest : List ℤ) where
   run-step : (log : List ℕ) (all : List ℤ) (r : Step) → turn u keep most (length log) k n s rest ≡ r → runFrom u keep most all (k ∷ ks) n s rest log ≡ afterStep u keep most all ks n s rest log r
@@ -62,10 +52,6 @@ module _ (t : Table) (wf : Wf t) (most most′ : ℕ) where
     closes : (ws : List ℤ) → turn t′ allKept most′ (length log′) k n s′ (tosses ++ ws) ≡ stepped entry′ [] state′ ws
     entries : SameEntry t e entry′
     states : Same t (notedAfter t s e ns h) s₁ state′
-
-  turn-is : (u : Table) (keep : Kept) (m room k n : ℕ) (s : State) (rest : List ℤ) → k < u .tasks → 8 * n + 8 ≤ room → turn u keep m room k n s rest ≡ step u keep m s k rest
-  unfolding turn
-  turn-is u keep m room k n s rest l r = rw (lt-ltb k (u .tasks) l, le-ltb room (8 * n + 8) r, turn)
 
   same-tasks : t′ .tasks ≡ t .tasks
   unfolding closeTable closedWith

@@ -18,7 +18,7 @@ use Rattle.closing.specs.ArcLaws.{leads-below, arc-is}
 use Rattle.machine.specs.Step.{Memory, Does, opens, closes, goes, stops, exec, choose, Walk, halts, arrives, along, onward, noting, walk}
 use Rattle.machine.specs.StepLaws.{choose-one, choose-some}
 use Rattle.machine.specs.KeptLaws.{allKept}
-use Rattle.machine.specs.ClosedRun.{closed-walk}
+use Rattle.machine.specs.ClosedStep.{closed-walk}
 use Rattle.promise.specs.History.{lastSetting}
 use Rattle.promise.specs.Demand3.{Toss, Tosses}
 use Rattle.promise.specs.Sim.Wf.{Wf}
