@@ -23,6 +23,7 @@ use Rattle.machine.specs.declared.Entries.{Entries}
 use Rattle.machine.specs.declared.State.{State}
 use Rattle.machine.specs.State.{semCount, entriesAt, varAt}
 use Rattle.machine.specs.Step.{valuesSpent, stopNumber, Memory, assign, withSem, withEntries, appended, oldest, shortened, valueOf, goes, stops, readOf, exec, keptIn, stopped, memory, stepOf}
+use Rattle.machine.specs.RunLaws.{stop-number}
 use Rattle.run_code.specs.Code.{byte, nodeOf}
 use Rattle.run_code.specs.CodeLaws.{is-start, is-set, is-test, is-read, is-wait, is-signal, is-send, is-recv, is-assert, is-out, is-absent}
 use Rattle.run_state.specs.Good.{frameIn, Shape}
@@ -35,7 +36,7 @@ use Rattle.run_step.specs.Effects.{goesTo, haltsAt, readTo}
 use Rattle.run_step.specs.EffectLaws.{resultOf}
 use Rattle.run_step.specs.Steps.{Stands, Goes, wayOf, wentTo, Did, goneDone, Plain, Shown, shiftedOf}
 use Rattle.run_step.specs.Standing.{shape-of, frame-long, vars-here, name-here, stands-as, arc-absent, GoesOn, goes-to, free-wait, free-signal, free-send, free-recv}
-use Rattle.run_step.specs.StepLaws.{stop-some, shownDone, sharedIn, went-sems, went-queues, went-shape, way-lands, Onto, step-does, did-stop, did-go, did-shown, did-plain}
+use Rattle.run_step.specs.StepLaws.{shownDone, sharedIn, went-sems, went-queues, went-shape, way-lands, Onto, step-does, did-stop, did-go, did-shown, did-plain}
 
 -- ---- a queue's row
 
@@ -74,7 +75,7 @@ reads-on v vs used arc near o e n = go (leb (length vs) used) refl
     by c k = e ∙ ap (λ (c : Bool). pick c (haltsAt (stopNumber valuesSpent) used) (goesTo v (getD vs used (pos 0)) (used + 1) arc near)) k
 
     go : (c : Bool) → leb (length vs) used ≡ c → Reads v vs used arc near o
-    go true k = absurd (stop-some valuesSpent (sym (ap (λ (y : Effect). y .stop) (by true k)) ∙ n))
+    go true k = absurd (stop-number valuesSpent (sym (ap (λ (y : Effect). y .stop) (by true k)) ∙ n))
     go false k = record { more = leb-false (length vs) used k; effect = by false k }
 
 -- row i, as `push` leaves it

@@ -18,6 +18,7 @@ use Rattle.machine.specs.declared.Frame.{Frame}
 use Rattle.machine.specs.declared.State.{State}
 use Rattle.machine.specs.State.{noVars, noFrame, withDepth, withFrames, openFrames, place, standsBefore}
 use Rattle.machine.specs.Step.{entering, Does, opens, closes, exec, choose, keptIn, Walk, halts, arrives, along, walk, Entry, Step, stepped, settled, called, returned, memory, entryOf, stepOf}
+use Rattle.machine.specs.RunLaws.{stop-number}
 use Rattle.run_code.specs.Code.{byte, nodeOf}
 use Rattle.run_code.specs.CodeLaws.{is-call, is-return}
 use Rattle.run_state.specs.Good.{frameIn, Shape}
@@ -29,7 +30,7 @@ use Rattle.run_step.specs.Effects.{goesTo}
 use Rattle.run_step.specs.Steps.{Stands, Going, Goes, wayOf, goneOf, wentTo, Did, goneDone, arcIn}
 use Rattle.run_step.specs.GoLaws.{proc-is, node-is, arc-is}
 use Rattle.run_step.specs.Standing.{shape-of, task-low, depth-low, depth-high, frame-low, stands-as, used-is, free-call, free-return}
-use Rattle.run_step.specs.StepLaws.{stop-some, shownDone, Ends, went-shape, way-lands, step-does, did-by}
+use Rattle.run_step.specs.StepLaws.{shownDone, Ends, went-shape, way-lands, step-does, did-by}
 use Rattle.run_step.specs.Arms.{stays}
 
 -- ---- a frame put at place g, and the frames open of task k
@@ -201,7 +202,7 @@ module _ {t : Table} {s : State} {keep : List ℕ} {code words : List (List ℕ)
 
     end-back : (w : Walk) → goneOf vs w .stop ≡ 0
         → Ends vs s (settled entry (returned s (f / 8)) (f / 8) ((f - 1) % 8) (frameIn (s .frames) (f - 1) .proc) w) (shownDone none (goneOf vs w)) (emptied (wentTo s (f - 1) w))
-    end-back (halts c) h = absurd (stop-some c h)
+    end-back (halts c) h = absurd (stop-number c h)
     end-back (arrives (some n) m ws ns) h = record {
       done = refl;
       state = λ i. record {

@@ -1,9 +1,8 @@
 -- What a step is, by how its node goes on, and what each arm of the code leaves.
 use Prim.Native.Nat.{ℕ, _-_, _/_, _%_}
-use native.Mathlib.Omega.{arith}
 use mathlib.Core.Path.{_≡_, refl, sym, _∙_, ap, subst}
 use mathlib.Core.Bool.{Bool, true, false}
-use mathlib.Core.List.{List}
+use mathlib.Core.List.{List, _∷_}
 use mathlib.Core.Option.{Option, none, some}
 use lib.ListN.{length, set, drop, length-set}
 use lib.Dec.{eqb}
@@ -14,7 +13,9 @@ use Rattle.machine.specs.declared.Frame.{Frame}
 use Rattle.machine.specs.declared.Entries.{Entries}
 use Rattle.machine.specs.declared.State.{State}
 use Rattle.machine.specs.State.{withLost, withFrames, withSems, withQueues, place, standsBefore}
-use Rattle.machine.specs.Step.{Stop, noSuchTask, logFull, taskLost, taskBlocked, tooMany, valuesSpent, badToss, stopNumber, Memory, Does, goes, exec, choose, keptIn, Walk, halts, arrives, along, walk, Entry, Step, settled, memory, entryOf, stepAs, stepOf}
+use Rattle.machine.specs.Step.{Memory, Does, goes, exec, choose, keptIn, Walk, halts, arrives, along, walk, Entry, Step, settled, memory, entryOf, stepAs, stepOf}
+use Rattle.machine.specs.Run.{word, flagged}
+use Rattle.machine.specs.RunLaws.{stop-number}
 use Rattle.run_state.specs.Good.{frameIn, Shape}
 use Rattle.run_state.specs.Arrays.{marksOf, cellsOf}
 use Rattle.run_state.specs.ArrayLaws.{shape-lost, shape-frames}
@@ -25,17 +26,12 @@ use Rattle.run_step.specs.Steps.{Stands, Goes, wayOf, goneOf, wentTo, Di
 use Rattle.run_step.specs.Dropped.{mem, sharing, Lands, walk-shared}
 use Rattle.run_step.specs.Standing.{level-is, frame-is, frame-long}
 
--- ---- a walk's end
+-- the bytes of a value in the log, from its flag on
+pub entry-bytes : (o : Option ℤ) → _≡_ {A = List ℕ} (flagOf o ∷ word (bitsOf o)) (flagged o)
+entry-bytes none = refl
+entry-bytes (some x) = refl
 
-pub stop-some : (c : Stop) → stopNumber c ≡ 0 → ⊥
-unfolding stopNumber
-stop-some noSuchTask e = omega arith
-stop-some logFull e = omega arith
-stop-some taskLost e = omega arith
-stop-some taskBlocked e = omega arith
-stop-some tooMany e = omega arith
-stop-some valuesSpent e = omega arith
-stop-some badToss e = omega arith
+-- ---- a walk's end
 
 -- a node that shows a value
 abbrev pub shownDone : Option ℤ → Gone → Done
@@ -59,7 +55,7 @@ module _ (vs : List ℤ) (s : State) (f : ℕ) (e : Entry) (a : List ℕ) (b : L
   end-stopped (arrives o m ws ns) h = absurd (h refl)
 
   end-gone : (w : Walk) → goneOf vs w .stop ≡ 0 → Ends vs s (endsIn s f e a b w) (shownDone (e .value) (goneOf vs w)) (sharedIn (wentTo s f w) a b)
-  end-gone (halts c) h = absurd (stop-some c h)
+  end-gone (halts c) h = absurd (stop-number c h)
   end-gone (arrives none m ws ns) h = record { done = refl; state = refl }
   end-gone (arrives (some n) m ws ns) h = record { done = refl; state = refl }
 

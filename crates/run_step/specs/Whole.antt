@@ -14,6 +14,7 @@ use Rattle.machine.specs.declared.Frame.{Frame}
 use Rattle.machine.specs.declared.State.{State}
 use Rattle.machine.specs.State.{openFrames, isLost, place, frameAt, topmost, standsBefore, blocked}
 use Rattle.machine.specs.Step.{Stop, taskLost, taskBlocked, Does, opens, closes, goes, stops, exec, choose, Kept, keptIn, Walk, halts, arrives, along, Step, stopped, stepped, settled, returned, memory, entryOf, dropping, stepAs, stepOf, before, unless, step}
+use Rattle.machine.specs.RunLaws.{stop-number}
 use Rattle.run_code.specs.Code.{byte}
 use Rattle.run_state.specs.Good.{frameIn}
 use Rattle.run_state.specs.Arrays.{marksOf, cellsOf}
@@ -21,7 +22,6 @@ use Rattle.run_step.specs.declared.Done.{Done}
 use Rattle.run_step.specs.Steps.{Held, Asked, beforeOf, topIn, rowIn, Stands, Plain, Shown, Did, stoppedBy, Steps}
 use Rattle.run_step.specs.GoLaws.{proc-is, node-is}
 use Rattle.run_step.specs.BlockedLaws.{top-is, top-asks, row-asks}
-use Rattle.run_step.specs.StepLaws.{stop-some}
 
 -- ---- the log's entry names the node that was executed
 
@@ -55,7 +55,7 @@ module _ (vs : List ℤ) (used : ℕ) (s : State) (fr : Frame) (r : Done) (marks
 
   pub steps-by : (z : Step) → Did vs s z r marks cells → r .stop ≡ 0 → Names fr z
       → Steps vs used s z (record { stop = 0; proc = fr .proc; node = fr .node; flag = r .flag; bits = r .bits; used = r .used }) marks cells
-  steps-by (stopped c) d h n = absurd (stop-some c (sym (ap (λ (x : Done). x .stop) (d .answer)) ∙ h))
+  steps-by (stopped c) d h n = absurd (stop-number c (sym (ap (λ (x : Done). x .stop) (d .answer)) ∙ h))
   steps-by (stepped e ns s₂ rest) d h n = record {
     answer = λ i. record { stop = 0; proc = sym (n .0) i; node = sym (n .1) i; flag = d .answer i .flag; bits = d .answer i .bits; used = d .answer i .used };
     marksAre = d .marksAre;
@@ -76,8 +76,8 @@ module _ (t : Table) (s : State) (k : ℕ) where
   before-open e = go (isLost s k) (blocked t s k) refl refl e
     where
       go : (l b : Bool) → isLost s k ≡ l → blocked t s k ≡ b → beforeOf (elim l [ true ↦ some taskLost | false ↦ pick b (some taskBlocked) none ]) ≡ 0 → Open
-      go true b x y h = absurd (stop-some taskLost h)
-      go false true x y h = absurd (stop-some taskBlocked h)
+      go true b x y h = absurd (stop-number taskLost h)
+      go false true x y h = absurd (stop-number taskBlocked h)
       go false false x y h = record { nothing = rw (before, x, y) refl; here = x; free = y }
 
   module _ (vs : List ℤ) (used most : ℕ) (marks : List ℕ) (cells : List (List ℤ)) where

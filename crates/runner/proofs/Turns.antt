@@ -2,7 +2,7 @@
 use mathlib.Core.Path.{_≡_, refl, sym, _∙_, ap, subst}
 use mathlib.Core.Bool.{Bool, true, false}
 use mathlib.Core.List.{List, [], _∷_}
-use mathlib.Core.Option.{Option, none, some}
+use mathlib.Core.Option.{none, some}
 use Prim.Native.Nat.{ℕ, suc, _+_, _-_, _*_, _/_, _<_, _≤_}
 use native.Mathlib.Omega.{arith}
 use lib.ListN.{length, getD, take, drop, length-drop}
@@ -14,15 +14,16 @@ use Rattle.table.specs.Cases.{cases}
 use Rattle.table.specs.Mask.{pick}
 use Rattle.table.specs.declared.Table.{Table}
 use Rattle.machine.specs.declared.State.{State}
-use Rattle.machine.specs.Step.{Stop, noSuchTask, logFull, taskLost, taskBlocked, tooMany, valuesSpent, badToss, stopNumber, keptIn, Entry, Step, stopped, stepped, step}
-use Rattle.machine.specs.Run.{word, flagged, entryBytes, Ran, ended, turn}
+use Rattle.machine.specs.Step.{Stop, noSuchTask, logFull, stopNumber, keptIn, Entry, Step, stopped, stepped, step}
+use Rattle.machine.specs.Run.{word, entryBytes, Ran, ended, turn}
 use Rattle.machine.specs.StepLaws.{step-task}
-use Rattle.machine.specs.RunLaws.{runFrom, afterStep, run-end, run-next}
+use Rattle.machine.specs.RunLaws.{runFrom, afterStep, run-end, run-next, stop-number}
 use Rattle.run_code.specs.Code.{byte}
 use Rattle.run_state.specs.ArrayLaws.{depth-at}
 use Rattle.run_state.specs.StepGood.{step-good, step-rest}
 use Rattle.run_step.specs.declared.Stepped.{Stepped}
-use Rattle.run_step.specs.Steps.{Held, Lent, flagOf, bitsOf, Steps}
+use Rattle.run_step.specs.StepLaws.{entry-bytes}
+use Rattle.run_step.specs.Steps.{Held, Lent, Steps}
 use Rattle.runner.specs.declared.Advanced.{Advanced}
 use Rattle.runner.specs.Advances.{stopBefore, Holding, Advances}
 
@@ -62,22 +63,6 @@ pub rest-less : (l : List ℕ) → (length l ≡ 0 → ⊥) → length (take (le
 rest-less [] h = absurd (h refl)
 rest-less (k ∷ ks) h = rw (take-all (suc (length ks) - 1) ks (omega arith)) (omega arith)
 
--- the bytes of an entry
-entry-bytes : (o : Option ℤ) → _≡_ {A = List ℕ} (flagOf o ∷ word (bitsOf o)) (flagged o)
-entry-bytes none = refl
-entry-bytes (some x) = refl
-
--- no stop has the number 0
-stop-named : (c : Stop) → stopNumber c ≡ 0 → ⊥
-unfolding stopNumber
-stop-named noSuchTask e = omega arith
-stop-named logFull e = omega arith
-stop-named taskLost e = omega arith
-stop-named taskBlocked e = omega arith
-stop-named tooMany e = omega arith
-stop-named valuesSpent e = omega arith
-stop-named badToss e = omega arith
-
 module _ (keep : List ℕ) (code words : List (List ℕ)) (most : ℕ) (vs : List ℤ) where
   -- ---- the code's tests before a turn
 
@@ -102,9 +87,9 @@ module _ (keep : List ℕ) (code words : List (List ℕ)) (most : ℕ) (vs : Lis
         where
           go : (x y z : Bool) → leb 4 k ≡ x → eqb (byte marks k) 0 ≡ y → ltb room 8 ≡ z → pick x (stopNumber noSuchTask) (pick y (stopNumber noSuchTask) (pick z (stopNumber logFull) 0)) ≡ 0
               → (k < t .tasks) × (8 ≤ room)
-          go true y z a b c e = absurd (stop-named noSuchTask e)
-          go false true z a b c e = absurd (stop-named noSuchTask e)
-          go false false true a b c e = absurd (stop-named logFull e)
+          go true y z a b c e = absurd (stop-number noSuchTask e)
+          go false true z a b c e = absurd (stop-number noSuchTask e)
+          go false false true a b c e = absurd (stop-number logFull e)
           go false false false a b c e = (is-task k (leb-false 4 k a) (eqb-false (byte marks k) 0 b), ltb-false room 8 c)
 
       -- something does
@@ -141,7 +126,7 @@ module _ (keep : List ℕ) (code words : List (List ℕ)) (most : ℕ) (vs : Lis
       went = go told refl
         where
           go : (z : Step) → told ≡ z → Steps vs used s z e marks′ cells′ → e .stop ≡ 0 → Went k used e marks′ cells′
-          go (stopped c) i a u = absurd (stop-named c (sym (ap (λ (x : Stepped). x .stop) (a .answer)) ∙ u))
+          go (stopped c) i a u = absurd (stop-number c (sym (ap (λ (x : Stepped). x .stop) (a .answer)) ∙ u))
           go (stepped b ns z rest) i a u =
               let r = step-rest t most s k vs used within b ns z rest i in
               let uses = ap (λ (x : Stepped). x .used) (a .answer) in
