@@ -1,6 +1,7 @@
 // The library: what a user calls. Each call first checks a hand-made table.
 
 use closing::Closing;
+use exploring::Exploring;
 use machine::Entries;
 use machine::Frame;
 use machine::Running;
@@ -15,6 +16,7 @@ ghost use Rattle.machine.specs.State.{noState};
 ghost use Rattle.machine.specs.Run.{run};
 ghost use Rattle.closing.specs.Close.{close, refusal};
 ghost use Rattle.closing.specs.Program.{printed};
+ghost use Rattle.exploring.specs.Explore.{explore};
 ghost use Rattle.put.specs.Put.{Put};
 
 fn refused(n: u8) -> Closing
@@ -91,6 +93,23 @@ fn run_checked(
     runner::run_valid(t, schedule, values, most, log)
 }
 
+// The explorer's answer for a table whose fault is n.
+fn explore_checked(t: Table, n: u8, depth: usize, bound: u64) -> Exploring
+    requires { ⌜ n ≡ fault t ⌝ }
+    ensures { λ r. ⌜ r ≡ explore t depth bound ⌝ }
+{
+    if n != 0 {
+        return explore_answer::refused(n);
+    }
+    if t.closed {
+        if 24 < depth {
+            return explore_answer::refused(17);
+        }
+        return explore_answer::explore_ready(t, depth, bound);
+    }
+    explore_answer::refused(9)
+}
+
 // The writer's answer for a table whose fault is n.
 fn write_checked(t: Table, n: u8, out: &mut [u8]) -> Writing
     requires { ⌜ n ≡ fault t ⌝ }
@@ -145,6 +164,14 @@ pub fn run(t: Table, schedule: &[u8], values: &[i32], most: usize, log: &mut [u8
 {
     let n = faults::fault(t);
     run_checked(t, n, schedule, values, most, log)
+}
+
+// The first path of at most `depth` steps of a closed table that comes to a standstill or fails an assertion, in the order in which paths are tried, at most `bound` of them.
+pub fn explore(t: Table, depth: usize, bound: u64) -> Exploring
+    ensures { λ r. ⌜ r ≡ explore t depth bound ⌝ }
+{
+    let n = faults::fault(t);
+    explore_checked(t, n, depth, bound)
 }
 
 // What the closing program prints for a text: its bytes as far as the buffer reaches, and their number, at most 65,536.
