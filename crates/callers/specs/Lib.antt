@@ -2,3 +2,4 @@ pub mod WrittenAndRead
 pub mod SideBySide
 pub mod WrittenAndReadLaws
 pub mod SideBySideLaws
+pub mod LineTwo

@@ -1,5 +1,6 @@
 // Callers of the library, which get what the theorems of `promise` say of its calls. They ask nothing of their callers.
 
+use exploring::Exploring;
 use machine::Running;
 use table::Table;
 use text::Reading;
@@ -10,6 +11,7 @@ ghost use Rattle.closing.specs.Close.{close};
 ghost use Rattle.machine.specs.Run.{run};
 ghost use Rattle.callers.specs.WrittenAndRead.{writtenAndRead};
 ghost use Rattle.callers.specs.SideBySide.{besideOf, Agrees};
+ghost use Rattle.callers.specs.LineTwo.{sheetOf, Clears};
 
 // The number of a refusal, with a table all 0.
 fn refused(number: u8) -> Reading
@@ -69,5 +71,26 @@ pub fn side_by_side(
         number: c.number,
         original,
         closed,
+    }
+}
+
+// The closer's number, and what the explorer answers of the closed table.
+pub struct Sheet {
+    pub number: u8,
+    pub explored: Exploring,
+}
+
+// Closes a table and explores the closed one. Where nothing is found, no run of the open table of at most `depth` steps comes to a standstill or fails an
+// assertion that keeps its variable.
+pub fn line_two(t: Table, depth: usize, bound: u64) -> Sheet
+    ensures answer { λ r. ⌜ r ≡ sheetOf t depth bound ⌝ }
+    ensures line_2 { λ r. ⌜ Clears t depth r ⌝ }
+{
+    let c = bufshani::close(t);
+    let table = c.table;
+    let explored = bufshani::explore(table, depth, bound);
+    Sheet {
+        number: c.number,
+        explored,
     }
 }

@@ -1,6 +1,6 @@
--- Demand 3 for calls of the library: each premise is what the contract of a call says, as crates/bufshani states it.
+-- Demand 3 and line 2 of the sheet for calls of the library: each premise is what the contract of a call says, as crates/bufshani states it.
 use Prim.Native.Nat.{ℕ, _<_, _≤_}
-use mathlib.Core.Path.{_≡_, sym}
+use mathlib.Core.Path.{_≡_, sym, _∙_, subst}
 use mathlib.Core.List.{List}
 use mathlib.Core.Option.{some}
 use lib.ListN.{length}
@@ -13,9 +13,16 @@ use Rattle.machine.specs.declared.Running.{Running}
 use Rattle.machine.specs.State.{standsBefore, standstill}
 use Rattle.machine.specs.Step.{failing}
 use Rattle.machine.specs.Run.{Ran, run}
+use Rattle.exploring.specs.declared.Found.the-variants.{Nothing}
+use Rattle.exploring.specs.declared.Exploring.{Exploring}
+use Rattle.exploring.specs.Answers.{noneAnswer}
+use Rattle.exploring.specs.Explore.{explore}
+use Rattle.exploring.specs.AnswerLaws.{none-answer}
 use Rattle.promise.specs.History.{history}
 use Rattle.promise.specs.Demand3.{SameRun, OpenRun, ClosedRun, first, Tosses}
 use Rattle.promise.specs.Theorems.{demand-3, same-standstill, same-failure}
+use Rattle.promise.specs.Explored.{Clear}
+use Rattle.promise.specs.ExploredHold.{line-two}
 
 -- `run(t, schedule, values, most, log)` answered r and left the log so
 pub record RunCall (t : Table) (schedule : List ℕ) (values : List ℤ) (most : ℕ) (log : List ℕ) (r : Running) (left : List ℕ) : Type 0 where
@@ -63,3 +70,10 @@ closed-calls o c e ok r left m stop =
         };
       }),
     )
+
+-- `close(t)` answered c with number 0, and `explore(c.table, depth, bound)` answered r with number 0 and nothing found: this is line 2 of the sheet
+pub explored-calls : (t : Table) (c : Closing) → c ≡ close t → c .number ≡ 0 → (depth bound : ℕ) (r : Exploring) → r ≡ explore (c .table) depth bound → r .number ≡ 0 → r .found ≡ Nothing → Clear t depth
+explored-calls t c e ok depth bound r is sound none =
+    let n = none-answer (c .table) depth bound r is sound none in
+    let found : explore (c .table) depth bound ≡ noneAnswer (n .0) = sym is ∙ n .1 in
+    line-two t depth bound (n .0) (rw e at ok) (subst (λ (z : Closing). explore (z .table) depth bound ≡ noneAnswer (n .0)) e found)

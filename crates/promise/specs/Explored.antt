@@ -1,5 +1,5 @@
 -- What line 2 of the sheet says: `none` for the closed table of an accepted open table means that no open run of at most that many steps comes to a standstill or fails an
--- assertion that keeps its variable. Demand 3 carries it over from closed runs. These are the statements; their proofs are in ExploredHold.
+-- assertion that keeps its variable. Demand 3 carries it over from closed runs. This is the statement; its proof is ExploredHold.
 use Prim.Native.Nat.{ℕ, _<_, _≤_}
 use mathlib.Core.Path.{_≡_}
 use mathlib.Core.Bool.{false}
@@ -22,21 +22,19 @@ pub record Keeps (t : Table) (s : State) (k : ℕ) : Type 0 where
   pub asserts : asserted (nodeAt (close t .table) (topmost s k .proc) (topmost s k .node)) ≡ some v
   pub keeps : v ≡ removed → ⊥
 
--- the open run begins and completes at most so many steps, whether or not it then stops; its closed table is explored to that depth, and none is found
-pub record Cleared (o : OpenRun) (depth bound tried : ℕ) : Type 0 where
-  pub accepted : close (o .table) .number ≡ 0
+-- an open run of t that begins and completes at most so many steps, whether or not it then stops
+pub record ShortRun (t : Table) (depth : ℕ) (o : OpenRun) : Type 0 where
+  pub of-table : o .table ≡ t
   pub begins : openRan o [] .answer .stop ≡ 0
   pub short : openRan o (o .schedule) .answer .steps ≤ depth
-  pub none : explore (close (o .table) .table) depth bound ≡ noneAnswer tried
 
--- then after none of its steps it is at a standstill,
-abbrev pub NoStandstill : Type 0
-NoStandstill =
-    (o : OpenRun) (depth bound tried : ℕ) → Cleared o depth bound tried → (n : ℕ) → n ≤ openRan o (o .schedule) .answer .steps
-    → standstill (o .table) (openRan o (first o n) .answer .state) ≡ false
+pub record Clear (t : Table) (depth : ℕ) : Type 0 where
+  -- at the start and after each of its steps it is at no standstill,
+  pub no-standstill : (o : OpenRun) → ShortRun t depth o → (n : ℕ) → n ≤ openRan o (o .schedule) .answer .steps → standstill t (openRan o (first o n) .answer .state) ≡ false
+  -- and no step, of task k after n others, fails such an assertion
+  pub no-failure : (o : OpenRun) → ShortRun t depth o → (n k : ℕ) → n < openRan o (o .schedule) .answer .steps → getElem? (o .schedule) n ≡ some k
+      → Keeps t (openRan o (first o n) .answer .state) k → failing t (openRan o (first o n) .answer .state) k ≡ false
 
--- and no step, of task k after n others, fails such an assertion
-abbrev pub NoFailure : Type 0
-NoFailure =
-    (o : OpenRun) (depth bound tried : ℕ) → Cleared o depth bound tried → (n k : ℕ) → n < openRan o (o .schedule) .answer .steps → getElem? (o .schedule) n ≡ some k
-    → Keeps (o .table) (openRan o (first o n) .answer .state) k → failing (o .table) (openRan o (first o n) .answer .state) k ≡ false
+-- the closer accepts t, and its closed table is explored to that depth: none is found
+abbrev pub LineTwo : Type 0
+LineTwo = (t : Table) (depth bound tried : ℕ) → close t .number ≡ 0 → explore (close t .table) depth bound ≡ noneAnswer tried → Clear t depth

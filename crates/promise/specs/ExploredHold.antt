@@ -25,7 +25,7 @@ use Rattle.promise.specs.Demand3.{OpenRun, ClosedRun, first, openRan, Pa
 use Rattle.promise.specs.Sim.Stores.{at-in}
 use Rattle.promise.specs.Theorems.{granted, closed-sound, demand-3, demand-3-stopped, same-standstill, same-failure}
 use Rattle.promise.specs.Proof3
-use Rattle.promise.specs.Explored.{Keeps, NoStandstill, NoFailure}
+use Rattle.promise.specs.Explored.{Keeps, LineTwo}
 
 last-of : {A : Type 0} (l : List A) (n : ℕ) (a : A) → length l ≡ suc n → getElem? l n ≡ some a → l ≡ take n l ++ (a ∷ [])
 last-of [] n a e i = absurd (omega arith)
@@ -100,13 +100,23 @@ module _ (o : OpenRun) (ok : close (o .table) .number ≡ 0) (begins : openRan o
   first-completes : (n : ℕ) → n ≤ steps → openRan o (first o n) .answer .stop ≡ 0
   first-completes n l = rw (take-take n steps (o .schedule) l) at (all-partner .agree n (omega (arith, all-long)) .open-completes)
 
-pub no-standstill : NoStandstill
-no-standstill o depth bound tried h n l =
-    not-still (cut o n) (h .accepted) depth bound tried (h .none) (first-completes o (h .accepted) (h .begins) n l) (omega (arith, first-long o (h .accepted) (h .begins) n l, h .short))
+module _ (o : OpenRun) (ok : close (o .table) .number ≡ 0) (depth bound tried : ℕ) (none : explore (close (o .table) .table) depth bound ≡ noneAnswer tried)
+    (begins : openRan o [] .answer .stop ≡ 0) (short : openRan o (o .schedule) .answer .steps ≤ depth) where
+  never-still : (n : ℕ) → n ≤ openRan o (o .schedule) .answer .steps → standstill (o .table) (openRan o (first o n) .answer .state) ≡ false
+  never-still n l = not-still (cut o n) ok depth bound tried none (first-completes o ok begins n l) (omega (arith, first-long o ok begins n l))
 
-pub no-failure : NoFailure
-no-failure o depth bound tried h n k l at keeps =
-    let long = first-long o (h .accepted) (h .begins) (suc n) l in
-    subst (λ ks. Keeps (o .table) (openRan o ks .answer .state) k → failing (o .table) (openRan o ks .answer .state) k ≡ false) (take-take n (suc n) (o .schedule) (omega arith))
-    (not-failing (cut o (suc n)) (h .accepted) depth bound tried (h .none) (first-completes o (h .accepted) (h .begins) (suc n) l) (omega (arith, long, h .short)) n k long
-    (at-first (o .schedule) n ∙ at)) keeps
+  never-failing : (n k : ℕ) → n < openRan o (o .schedule) .answer .steps → getElem? (o .schedule) n ≡ some k → Keeps (o .table) (openRan o (first o n) .answer .state) k
+      → failing (o .table) (openRan o (first o n) .answer .state) k ≡ false
+  never-failing n k l at keeps =
+      let long = first-long o ok begins (suc n) l in
+      subst (λ ks. Keeps (o .table) (openRan o ks .answer .state) k → failing (o .table) (openRan o ks .answer .state) k ≡ false) (take-take n (suc n) (o .schedule) (omega arith))
+      (not-failing (cut o (suc n)) ok depth bound tried none (first-completes o ok begins (suc n) l) (omega (arith, long)) n k long (at-first (o .schedule) n ∙ at)) keeps
+
+pub line-two : LineTwo
+line-two t depth bound tried ok none = record {
+  no-standstill = λ o s n l.
+      subst (λ (u : Table). standstill u (openRan o (first o n) .answer .state) ≡ false) (s .of-table)
+      (never-still o (rw (s .of-table) ok) depth bound tried (rw (s .of-table) none) (s .begins) (s .short) n l);
+  no-failure = λ o s n k l at. subst (λ (u : Table). Keeps u (openRan o (first o n) .answer .state) k → failing u (openRan o (first o n) .answer .state) k ≡ false) (s .of-table)
+      (never-failing o (rw (s .of-table) ok) depth bound tried (rw (s .of-table) none) (s .begins) (s .short) n k l at);
+}

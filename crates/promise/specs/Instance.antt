@@ -19,8 +19,8 @@ use Rattle.exploring.specs.Answers.{noneAnswer}
 use Rattle.exploring.specs.Explore.{explore}
 use Rattle.promise.specs.Demand3.{OpenRun, openRan, first, Partner, HasPartner, cut}
 use Rattle.promise.specs.Theorems.{demand-3}
-use Rattle.promise.specs.Explored.{Cleared}
-use Rattle.promise.specs.ExploredHold.{no-standstill}
+use Rattle.promise.specs.Explored.{Clear}
+use Rattle.promise.specs.ExploredHold.{line-two}
 
 abbrev lines : Example → List String
 lines (closes s r) = s
@@ -96,11 +96,11 @@ none-found : explore (close t .table) 2 3 ≡ noneAnswer 3
 unfolding computing
 none-found = refl
 
-cleared : Cleared (cut original 2) 2 3 3
-cleared = record { accepted = accepted; begins = begins; short = omega (arith, two-steps); none = none-found }
+clear : Clear t 2
+clear = line-two t 2 3 3 accepted none-found
 
 pub two-stand : standstill t (openRan original (first original 2) .answer .state) ≡ false
-two-stand = no-standstill (cut original 2) 2 3 3 cleared 2 (omega (arith, two-steps))
+two-stand = clear .no-standstill (cut original 2) (record { of-table = refl; begins = begins; short = omega (arith, two-steps) }) 2 (omega (arith, two-steps))
 
 pub three-still : standstill t (openRan original ks .answer .state) ≡ true
 unfolding computing
