@@ -41,11 +41,14 @@ logged log i b = getD log (8 * i + b) 0
 abbrev pub loggedValue : List ℕ → ℕ → ℤ
 loggedValue log i = toZ w32 (logged log i 4 + 256 * logged log i 5 + 65536 * logged log i 6 + 16777216 * logged log i 7)
 
--- `step=i task=t proc=p node=n flag=f value=v`
+-- `step=i task=t proc=p node=n flag=f value=v`, of the log's entry j
+abbrev pub stepFields : ℕ → List ℕ → ℕ → List ℕ
+stepFields i log j =
+    keyed (bytes "step=") i (keyed (bytes " task=") (logged log j 0) (keyed (bytes " proc=") (logged log j 1)
+    (keyed (bytes " node=") (logged log j 2) (keyed (bytes " flag=") (logged log j 3) (bytes " value=" ++ spellValue (loggedValue log j))))))
+
 abbrev pub stepLine : List ℕ → ℕ → List ℕ
-stepLine log i =
-    keyed (bytes "step=") i (keyed (bytes " task=") (logged log i 0) (keyed (bytes " proc=") (logged log i 1)
-    (keyed (bytes " node=") (logged log i 2) (keyed (bytes " flag=") (logged log i 3) (bytes " value=" ++ (spellValue (loggedValue log i) ++ (10 ∷ [])))))))
+stepLine log i = stepFields i log i ++ (10 ∷ [])
 
 -- `frame=j proc=p node=n vars=a,b`, with so many variables
 abbrev pub frameLine : ℕ → Frame → ℕ → List ℕ
@@ -71,11 +74,13 @@ semLine i c = keyed (bytes "sem=") i (keyed (bytes " count=") c (10 ∷ []))
 abbrev pub queueLine : ℕ → Entries → List ℕ
 queueLine i x = keyed (bytes "queue=") i (bytes " entries=" ++ (valuesText (x .items) (x .len) ++ (10 ∷ [])))
 
+-- the state: its tasks, semaphores and queues
+unfoldable pub stateLines : Table → State → List ℕ
+stateLines t s =
+    concatFrom (taskLines t s) (t .tasks) 0
+    ++ (concatFrom (λ i. semLine i (semCount (s .sems) i)) (t .sems) 0
+    ++ concatFrom (λ i. queueLine i (entriesAt (s .queues) i)) (t .queues) 0)
+
 -- the answer, the completed steps as the log has them, and the state
 unfoldable pub report : Table → Running → List ℕ → List ℕ
-report t r log =
-    answerLine r
-    ++ (concatFrom (stepLine log) (r .steps) 0
-    ++ (concatFrom (taskLines t (r .state)) (t .tasks) 0
-    ++ (concatFrom (λ i. semLine i (semCount (r .state .sems) i)) (t .sems) 0
-    ++ concatFrom (λ i. queueLine i (entriesAt (r .state .queues) i)) (t .queues) 0)))
+report t r log = answerLine r ++ (concatFrom (stepLine log) (r .steps) 0 ++ stateLines t (r .state))

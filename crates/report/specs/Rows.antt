@@ -1,16 +1,21 @@
--- What writing a report asks for.
+-- What writing a state and a report asks for.
 use Prim.Native.Nat.{ℕ, _*_, _≤_}
 use mathlib.Core.List.{List}
 use lib.ListN.{length}
 use Rattle.table.specs.declared.Table.{Table}
+use Rattle.machine.specs.declared.State.{State}
 use Rattle.machine.specs.declared.Running.{Running}
 use Rattle.report_tasks.specs.Rows.{Few}
 
--- no count passes its array, and each step is in the log, of at most 65,536
-pub record Reportable (t : Table) (r : Running) (log : List ℕ) : Type 0 where
+-- no count passes its array
+pub record Shown (t : Table) (s : State) : Type 0 where
   pub tasks : t .tasks ≤ 4
   pub sems : t .sems ≤ 8
   pub queues : t .queues ≤ 8
+  pub depth : Few (s .depth)
+
+-- and each step is in the log, of at most 65,536
+pub record Reportable (t : Table) (r : Running) (log : List ℕ) : Type 0 where
+  pub shown : Shown t (r .state)
   pub steps : r .steps ≤ 65536
   pub logged : 8 * r .steps ≤ length log
-  pub depth : Few (r .state .depth)

@@ -1,4 +1,4 @@
--- The whole report, from its parts.
+-- A state's lines and the whole report, from their parts.
 use Prim.Native.Nat.{ℕ, _*_}
 use mathlib.Core.Path.{_≡_}
 use mathlib.Core.List.{List}
@@ -9,31 +9,33 @@ use Rattle.text.specs.Reader.{concatFrom}
 use Rattle.put.specs.Put.{Put}
 use Rattle.put.specs.PutLaws.{put-after, put-more}
 use Rattle.put.specs.RowLaws.{concat-same}
+use Rattle.machine.specs.declared.State.{State}
 use Rattle.machine.specs.declared.Running.{Running}
 use Rattle.machine.specs.State.{semCount, entriesAt}
-use Rattle.machine.specs.Report.{answerLine, stepLine, frameLineOf, taskLines, semLine, queueLine, report}
+use Rattle.machine.specs.Report.{answerLine, stepLine, frameLineOf, taskLines, semLine, queueLine, stateLines, report}
 use Rattle.report_tasks.specs.Rows.{VariableCounts, frameRow, taskRow}
-use Rattle.report.specs.Rows.{Reportable}
+use Rattle.report.specs.Rows.{Shown, Reportable}
 
-module _ (t : Table) (r : Running) (log counts : List ℕ) (v : VariableCounts (t .proc) counts) where
+module _ (t : Table) (s : State) (counts : List ℕ) (v : VariableCounts (t .proc) counts) where
   abbrev tasks : ℕ → List ℕ
-  tasks = taskRow (r .state .depth) (r .state .lost) (r .state .frames) counts
+  tasks = taskRow (s .depth) (s .lost) (s .frames) counts
 
-  frame-rows : (k j : ℕ) → frameLineOf t (r .state) k j ≡ frameRow (r .state .frames) counts k j
+  frame-rows : (k j : ℕ) → frameLineOf t s k j ≡ frameRow (s .frames) counts k j
   frame-rows k j = rw (v .same _)
 
-  task-rows : (k : ℕ) → taskLines t (r .state) k ≡ tasks k
-  task-rows k = rw (concat-same (frameLineOf t (r .state) k) (frameRow (r .state .frames) counts k) (frame-rows k) (getD (r .state .depth) k 0) 0)
+  task-rows : (k : ℕ) → taskLines t s k ≡ tasks k
+  task-rows k = rw (concat-same (frameLineOf t s k) (frameRow (s .frames) counts k) (frame-rows k) (getD (s .depth) k 0) 0)
 
-  -- the parts, one after another
-  pub report-put : {l m n o i j : List ℕ} {p q u w x : ℕ} → Reportable t r log
-      → Put 70 l 0 (answerLine r) m p
-      → Put (65 * r .steps) m p (concatFrom (stepLine log) (r .steps) 0) n q
-      → Put (24920 * t .tasks) n q (concatFrom tasks (t .tasks) 0) o u
-      → Put (40 * t .sems) o u (concatFrom (λ a. semLine a (semCount (r .state .sems) a)) (t .sems) 0) i w
-      → Put (3090 * t .queues) i w (concatFrom (λ a. queueLine a (entriesAt (r .state .queues) a)) (t .queues) 0) j x
-      → Put 4400000 l 0 (report t r log) j x
-  unfolding report
-  report-put h a b c d e =
-      rw (concat-same (taskLines t (r .state)) tasks task-rows (t .tasks) 0)
-      (put-more (omega (arith, h .tasks, h .sems, h .queues, h .steps)) (put-after a (put-after b (put-after c (put-after d e)))))
+  pub state-put : {l m n o : List ℕ} {at p q r : ℕ} → Shown t s
+      → Put (24920 * t .tasks) l at (concatFrom tasks (t .tasks) 0) m p
+      → Put (40 * t .sems) m p (concatFrom (λ a. semLine a (semCount (s .sems) a)) (t .sems) 0) n q
+      → Put (3090 * t .queues) n q (concatFrom (λ a. queueLine a (entriesAt (s .queues) a)) (t .queues) 0) o r
+      → Put 124720 l at (stateLines t s) o r
+  unfolding stateLines
+  state-put h a b c = rw (concat-same (taskLines t s) tasks task-rows (t .tasks) 0) (put-more (omega (arith, h .tasks, h .sems, h .queues)) (put-after a (put-after b c)))
+
+pub report-put : {l m n o log : List ℕ} {p q e : ℕ} (t : Table) (r : Running) → Reportable t r log
+    → Put 70 l 0 (answerLine r) m p → Put (65 * r .steps) m p (concatFrom (stepLine log) (r .steps) 0) n q → Put 124720 n q (stateLines t (r .state)) o e
+    → Put 4400000 l 0 (report t r log) o e
+unfolding report
+report-put t r h a b c = put-more (omega (arith, h .steps)) (put-after a (put-after b c))

@@ -4,6 +4,7 @@
 use lines::put_pair_line;
 use machine::Entries;
 use machine::Running;
+use machine::State;
 use put::put_byte;
 use put_fields::put_count;
 use put_fields::put_size;
@@ -16,8 +17,8 @@ ghost use Prim.Native.Nat.{_*_, _≤_};
 ghost use Rattle.text.specs.Reader.{concatFrom};
 ghost use Rattle.put.specs.Put.{Put, LinesAt};
 ghost use Rattle.machine.specs.State.{semCount, entriesAt};
-ghost use Rattle.machine.specs.Report.{answerLine, semLine, queueLine, report};
-ghost use Rattle.report.specs.Rows.{Reportable};
+ghost use Rattle.machine.specs.Report.{answerLine, semLine, queueLine, stateLines, report};
+ghost use Rattle.report.specs.Rows.{Shown, Reportable};
 
 fn put_answer_line(out: &mut [u8], at: usize, r: Running) -> usize
     requires { ⌜ LinesAt at ⌝ }
@@ -68,6 +69,23 @@ fn put_queues(out: &mut [u8], at: usize, queues: [Entries; 8], n: u8) -> usize
     p
 }
 
+// A state: its tasks, semaphores and queues.
+pub fn put_state(out: &mut [u8], at: usize, t: Table, s: State) -> usize
+    requires { ⌜ (at ≤ 600000000) × Shown t s ⌝ }
+    ensures { λ e. ⌜ Put 124720 (now (out .entry)) at (stateLines t s) (now (out .exit)) e ⌝ }
+{
+    let procs = t.proc;
+    let counts = variable_counts(procs);
+    let depth = s.depth;
+    let lost = s.lost;
+    let frames = s.frames;
+    let a = put_tasks(out, at, t.tasks, depth, lost, frames, counts);
+    let sems = s.sems;
+    let b = put_sems(out, a, sems, t.sems);
+    let queues = s.queues;
+    put_queues(out, b, queues, t.queues)
+}
+
 // The report of a run, from the buffer's start.
 pub fn put_report(out: &mut [u8], t: Table, r: Running, log: &[u8]) -> usize
     requires { ⌜ Reportable t r (now log) ⌝ }
@@ -75,15 +93,6 @@ pub fn put_report(out: &mut [u8], t: Table, r: Running, log: &[u8]) -> usize
 {
     let a = put_answer_line(out, 0, r);
     let b = put_steps(out, a, log, r.steps);
-    let procs = t.proc;
-    let counts = variable_counts(procs);
     let s = r.state;
-    let depth = s.depth;
-    let lost = s.lost;
-    let frames = s.frames;
-    let c = put_tasks(out, b, t.tasks, depth, lost, frames, counts);
-    let sems = s.sems;
-    let d = put_sems(out, c, sems, t.sems);
-    let queues = s.queues;
-    put_queues(out, d, queues, t.queues)
+    put_state(out, b, t, s)
 }

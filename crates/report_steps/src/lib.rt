@@ -13,7 +13,7 @@ ghost use lib.ListN.{length};
 ghost use Rattle.text.specs.Number.{bytes};
 ghost use Rattle.text.specs.Reader.{concatFrom};
 ghost use Rattle.put.specs.Put.{Put, LinesAt};
-ghost use Rattle.machine.specs.Report.{spellValue, loggedValue, stepLine};
+ghost use Rattle.machine.specs.Report.{spellValue, loggedValue, stepFields, stepLine};
 
 // Four bytes, lowest first.
 fn word(a: u8, b: u8, c: u8, d: u8) -> u32
@@ -32,14 +32,28 @@ fn logged_value(log: &[u8], i: usize) -> i32
     values::of_bits(w)
 }
 
-// A step's line from its value on.
-fn put_value_line(out: &mut [u8], at: usize, v: i32) -> usize
+// A step's value.
+fn put_value(out: &mut [u8], at: usize, v: i32) -> usize
     requires { ⌜ at ≤ 940000000 ⌝ }
-    ensures { λ r. ⌜ Put 19 (now (out .entry)) at (bytes " value=" ++ (spellValue v ++ (10 ∷ []))) (now (out .exit)) r ⌝ }
+    ensures { λ r. ⌜ Put 18 (now (out .entry)) at (bytes " value=" ++ spellValue v) (now (out .exit)) r ⌝ }
 {
     let a = put_text(out, at, b" value=");
-    let b = put_constant(out, a, v);
-    put_byte(out, b, 10)
+    put_constant(out, a, v)
+}
+
+// Step i without its line's end, as the log's entry j has it.
+pub fn put_step_fields(out: &mut [u8], at: usize, i: usize, log: &[u8], j: usize) -> usize
+    requires { ⌜ (LinesAt at) × (8 * j + 8 ≤ length (now log)) × (i < 65536) ⌝ }
+    ensures { λ r. ⌜ Put 64 (now (out .entry)) at (stepFields i (now (log .entry)) j) (now (out .exit)) r ⌝ }
+{
+    let k = 8 * j;
+    let a = put_size(out, at, b"step=", i);
+    let b = put_count(out, a, b" task=", log[k]);
+    let c = put_count(out, b, b" proc=", log[k + 1]);
+    let d = put_count(out, c, b" node=", log[k + 2]);
+    let e = put_count(out, d, b" flag=", log[k + 3]);
+    let v = logged_value(log, j);
+    put_value(out, e, v)
 }
 
 // The line of the log's entry i.
@@ -47,14 +61,8 @@ fn put_step_line(out: &mut [u8], at: usize, log: &[u8], i: usize) -> usize
     requires { ⌜ (LinesAt at) × (8 * i + 8 ≤ length (now log)) × (i < 65536) ⌝ }
     ensures { λ r. ⌜ Put 65 (now (out .entry)) at (stepLine (now (log .entry)) i) (now (out .exit)) r ⌝ }
 {
-    let k = 8 * i;
-    let a = put_size(out, at, b"step=", i);
-    let b = put_count(out, a, b" task=", log[k]);
-    let c = put_count(out, b, b" proc=", log[k + 1]);
-    let d = put_count(out, c, b" node=", log[k + 2]);
-    let e = put_count(out, d, b" flag=", log[k + 3]);
-    let v = logged_value(log, i);
-    put_value_line(out, e, v)
+    let a = put_step_fields(out, at, i, log, i);
+    put_byte(out, a, 10)
 }
 
 // The lines of the first n steps.

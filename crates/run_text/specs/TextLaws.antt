@@ -32,12 +32,9 @@ reportable t ks vs m l z h e d =
     let c = counts t (sym z) in
     let o = sound t ks vs m l in
     rw (e, d) (record {
-      tasks = c .front .tasks;
-      sems = c .front .sems;
-      queues = c .front .queues;
+      shown = record { tasks = c .front .tasks; sems = c .front .sems; queues = c .front .queues; depth = record { few = λ k i. o .few .few k } };
       steps = omega (arith, o .steps);
       logged = omega (arith, o .steps, o .size);
-      depth = record { few = λ k i. o .few .few k };
     })
 
 pub report-is : {k : ℕ} {b a : List ℕ} {n : ℕ} (t : Table) (ks : List ℕ) (vs : List ℤ) (m : ℕ) (l : List ℕ) {r : Running} {l′ : List ℕ}
