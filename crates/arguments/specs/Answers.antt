@@ -8,7 +8,7 @@ use lib.IntN.{ℤ}
 use Rattle.table.specs.Mask.{pick}
 use Rattle.text.specs.Number.{bytes, allDigits, value}
 use Rattle.text.specs.Value.{same, split}
-use Rattle.machine.specs.Program.{filtered}
+use Rattle.machine.specs.Words.{filtered}
 use Rattle.arguments.specs.declared.Number.{Number}
 use Rattle.arguments.specs.declared.Number.the-variants.{Is, Not}
 use Rattle.arguments.specs.declared.Value.{Value}

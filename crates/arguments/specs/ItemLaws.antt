@@ -17,7 +17,8 @@ use Rattle.text.specs.Line.{took, refused, verdict, judged}
 use Rattle.operands.specs.declared.Operand.{Operand as Answer}
 use Rattle.operands.specs.declared.Operand.the-variants.{Is as IsOperand, Not as NotOperand}
 use Rattle.operands.specs.Answer.{OperandJudged}
-use Rattle.machine.specs.Program.{filtered, saidUpTo, fitting, asValue, saidValue}
+use Rattle.machine.specs.Words.{filtered, saidUpTo}
+use Rattle.machine.specs.Program.{fitting, asValue, saidValue}
 use Rattle.arguments.specs.declared.Number.{Number}
 use Rattle.arguments.specs.declared.Number.the-variants.{Is, Not}
 use Rattle.arguments.specs.declared.Value.{Value}

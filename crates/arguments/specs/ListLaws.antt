@@ -15,7 +15,8 @@ use Rattle.table.specs.Mask.{pick}
 use Rattle.table.specs.Places.{sets-append, sets-out}
 use Rattle.text.specs.Number.{bytes}
 use Rattle.text.specs.Value.{same, split, each, followed}
-use Rattle.machine.specs.Program.{filtered, saidItems}
+use Rattle.machine.specs.Words.{filtered}
+use Rattle.machine.specs.Program.{saidItems}
 use Rattle.lists.specs.Items.{CommaAt, part, more}
 use Rattle.lists.specs.ItemLaws.{comma-split}
 use Rattle.arguments.specs.declared.Number.{Number}

@@ -12,7 +12,7 @@ use lib.Seq.{drop-cons}
 use borrow.Author.Tests.{le-leb, lt-leb, ne-eqb}
 use Rattle.table.specs.Mask.{pick}
 use Rattle.text.specs.Number.{allDigits, isDigit, spelt, value, valueFrom}
-use Rattle.machine.specs.Program.{filtered, saidUpTo}
+use Rattle.machine.specs.Words.{filtered, saidUpTo}
 use Rattle.arguments.specs.declared.Number.{Number}
 use Rattle.arguments.specs.declared.Number.the-variants.{Is, Not}
 use Rattle.arguments.specs.Answers.{numberOf, digitsUpTo}

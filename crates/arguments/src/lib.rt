@@ -5,7 +5,8 @@ ghost use lib.ListN.{length};
 ghost use lib.Seq.{sets};
 ghost use Rattle.text.specs.Value.{numeral, asVar, asConst, asNegative, saidOperand};
 ghost use Rattle.operands.specs.Answer.{OperandJudged};
-ghost use Rattle.machine.specs.Program.{saidUpTo, saidValue, saidItems, mostNodes, mostBytes};
+ghost use Rattle.machine.specs.Words.{saidUpTo};
+ghost use Rattle.machine.specs.Program.{saidValue, saidItems, mostNodes, mostBytes};
 ghost use Rattle.arguments.specs.Answers.{digitsUpTo, numberOf, valueOf, countOf, leading};
 
 // A number, or the word says none.

@@ -5,7 +5,8 @@ ghost use mathlib.Core.Path.{_≡_};
 ghost use mathlib.Core.List.{List, [], _∷_};
 ghost use Prim.Native.Nat.{ℕ};
 ghost use lib.IntN.{ℤ};
-ghost use Rattle.log_word.specs.Words.{given, fromLog, restWords, RestFits};
+ghost use Rattle.machine.specs.Words.{given};
+ghost use Rattle.log_word.specs.Words.{fromLog, restWords, RestFits};
 
 // The length of the log buffer; or LOG is missing or can't be read, or there is a further word.
 pub enum Rest {

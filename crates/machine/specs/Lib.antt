@@ -2,6 +2,7 @@ pub mod State
 pub mod Step
 pub mod Run
 pub mod Report
+pub mod Words
 pub mod Program
 pub mod Computing
 pub mod StepLaws
@@ -11,3 +12,4 @@ pub mod KeptLaws
 pub mod StopLaws
 pub mod ClosedStep
 pub mod ClosedRun
+pub mod WordLaws

@@ -2,32 +2,22 @@
 use Prim.Native.Nat.{ℕ, zero, suc}
 use mathlib.Core.List.{List, [], _∷_, _++_}
 use mathlib.Core.Option.{Option, none, some}
-use mathlib.Core.Bool.{Bool}
 use lib.Dec.{leb}
 use lib.ListN.{length, replicate}
 use lib.IntN.{ℤ}
-use Rattle.table.specs.Mask.{pick}
 use Rattle.table.specs.declared.Operand.{Operand}
 use Rattle.table.specs.declared.Operand.the-variants.{Var, Const}
 use Rattle.text.specs.declared.Fault.{Fault}
 use Rattle.text.specs.declared.Reading.{Reading}
 use Rattle.text.specs.Number.{bytes}
-use Rattle.text.specs.Value.{numeral, saidOperand, saidList, operandFault}
+use Rattle.text.specs.Value.{saidOperand, saidList, operandFault}
 use Rattle.text.specs.Reader.{read}
 use Rattle.closing.specs.Program.{refusedLine}
+use Rattle.machine.specs.Words.{filtered, saidUpTo, Words, asks, unread, next, last}
 use Rattle.machine.specs.Run.{run}
 use Rattle.machine.specs.Report.{report}
 
 -- ---- what a word says, spelt as in a table's text
-
--- what was said, if it passes a test
-abbrev pub filtered : {A : Type 0} → (A → Bool) → Option A → Option A
-filtered f none = none
-filtered f (some a) = pick (f a) (some a) none
-
--- a number up to m
-unfoldable pub saidUpTo : ℕ → List ℕ → Option ℕ
-saidUpTo m s = filtered (λ n. leb n m) (numeral s)
 
 abbrev pub fitting : ℤ → Option Fault → Option ℤ
 fitting z none = some z
@@ -67,31 +57,13 @@ pub record Request : Type 0 where
   pub most : ℕ
   pub log : ℕ
 
-pub data Words : Type 0 where
-  asks : Request → Words
-  -- the first word that can't be read, is missing or is too many
-  unread : Word → Words
-
-abbrev pub orUnread : {A : Type 0} → Word → Option A → (A → Words) → Words
-orUnread w none go = unread w
-orUnread w (some a) go = go a
-
--- the next word, then those after it
-abbrev pub next : {A : Type 0} → Word → (List ℕ → Option A) → List (List ℕ) → (A → List (List ℕ) → Words) → Words
-next w f [] go = unread w
-next w f (x ∷ xs) go = orUnread w (f x) (λ a. go a xs)
-
-abbrev pub last : Request → List (List ℕ) → Words
-last q [] = asks q
-last q (x ∷ xs) = unread further
-
-unfoldable pub said : List (List ℕ) → Words
+unfoldable pub said : List (List ℕ) → Words Word Request
 said xs =
     next schedule (saidItems mostItems (saidUpTo 255)) xs (λ ks xs₁.
     next values (saidItems mostItems saidValue) xs₁ (λ vs xs₂.
     next most (saidUpTo mostNodes) xs₂ (λ m xs₃.
     next log (saidUpTo mostBytes) xs₃ (λ n xs₄.
-    last (record { schedule = ks; values = vs; most = m; log = n }) xs₄))))
+    last further (record { schedule = ks; values = vs; most = m; log = n }) xs₄))))
 
 -- which word, and what was expected
 abbrev pub wordLine : Word → List ℕ
@@ -113,7 +85,7 @@ unfoldable pub runText : List ℕ → List ℕ → List ℤ → ℕ → List ℕ
 runText s ks vs m l = let r = read s in reported (r .number) r ks vs m l
 
 -- the words are judged before the text
-abbrev pub printedFor : Words → List ℕ → List ℕ
+abbrev pub printedFor : Words Word Request → List ℕ → List ℕ
 printedFor (asks q) s = runText s (q .schedule) (q .values) (q .most) (replicate (q .log) 0)
 printedFor (unread w) s = wordLine w
 

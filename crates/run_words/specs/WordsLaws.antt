@@ -7,16 +7,17 @@ use native.Mathlib.Omega.{arith}
 use lib.ListN.{length, take, replicate, length-replicate}
 use lib.Seq.{take-all}
 use lib.IntN.{ℤ, pos}
-use Rattle.machine.specs.Program.{schedule, values, most, log, further, Words, next, saidUpTo, saidValue, saidItems, mostItems, mostNodes, mostBytes, said, wordLine, runText, printedFor, runPrinted}
+use Rattle.machine.specs.Words.{Words, next, given, saidUpTo}
+use Rattle.machine.specs.WordLaws.{next-missing, next-unread, next-said}
+use Rattle.machine.specs.Program.{Word, Request, schedule, values, most, log, further, saidValue, saidItems, mostItems, mostNodes, mostBytes, said, wordLine, runText, printedFor, runPrinted}
 use Rattle.put.specs.Put.{Put}
 use Rattle.log_word.specs.declared.Rest.{Rest}
 use Rattle.log_word.specs.declared.Rest.the-variants.{Log, NoLog, Further}
-use Rattle.log_word.specs.Words.{given, fromLog, restWords, RestFits}
-use Rattle.log_word.specs.WordLaws.{next-missing, next-unread, next-said}
+use Rattle.log_word.specs.Words.{fromLog, restWords, RestFits}
 use Rattle.run_words.specs.Words.{fromMost, fromValues}
 
-pub printed-as : {x y : Words} {k at r : ℕ} {b a : List ℕ} (s : List ℕ) → x ≡ y → Put k b at (printedFor y s) a r → Put k b at (printedFor x s) a r
-printed-as {x} {y} {k} {at} {r} {b} {a} s e p = subst (λ (u : Words). Put k b at (printedFor u s) a r) (sym e) p
+pub printed-as : {x y : Words Word Request} {k at r : ℕ} {b a : List ℕ} (s : List ℕ) → x ≡ y → Put k b at (printedFor y s) a r → Put k b at (printedFor x s) a r
+printed-as {x} {y} {k} {at} {r} {b} {a} s e p = subst (λ (u : Words Word Request). Put k b at (printedFor u s) a r) (sym e) p
 
 pub printed-all : (ws : List (List ℕ)) (s : List ℕ) → printedFor (next schedule (saidItems mostItems (saidUpTo 255)) ws (λ ks ys. fromValues ks ys)) s ≡ runPrinted ws s
 unfolding runPrinted said
@@ -69,7 +70,7 @@ module _ (s : List ℕ) where
         printed-as s (says e) (subst (λ (y : List ℕ). Put k b 0 (runText s ks vs m y) a r) (zeros mostBytes j z h) p)
 
   module _ (ks : List ℕ) (vs : List ℤ) (c d : List ℕ) (n : ℕ) where
-    abbrev mostWords : Words
+    abbrev mostWords : Words Word Request
     mostWords = fromMost ks vs (given n (c ∷ d ∷ []))
 
     pub most-missing : {k r : ℕ} {b a : List ℕ} → n ≡ 0 → Put k b 0 (wordLine most) a r → Put k b 0 (printedFor mostWords s) a r
@@ -82,7 +83,7 @@ module _ (s : List ℕ) where
     most-said h e p = printed-as s (next-said most (saidUpTo mostNodes) (λ m ys. fromLog ks vs m ys) c (d ∷ []) n h e) p
 
   module _ (ks x c d : List ℕ) (n : ℕ) where
-    abbrev valuesWords : Words
+    abbrev valuesWords : Words Word Request
     valuesWords = fromValues ks (given n (x ∷ c ∷ d ∷ []))
 
     pub values-missing : {k r : ℕ} {b a : List ℕ} → n ≡ 0 → Put k b 0 (wordLine values) a r → Put k b 0 (printedFor valuesWords s) a r

@@ -7,9 +7,10 @@ ghost use mathlib.Core.List.{_∷_, [], _++_};
 ghost use Prim.Native.Nat.{_≤_};
 ghost use lib.IntN.{pos};
 ghost use lib.ListN.{length, replicate};
+ghost use Rattle.machine.specs.Words.{given};
 ghost use Rattle.machine.specs.Program.{schedule, values, most, log, further, wordLine, printedFor, runPrinted};
 ghost use Rattle.put.specs.Put.{Put};
-ghost use Rattle.log_word.specs.Words.{given, fromLog};
+ghost use Rattle.log_word.specs.Words.{fromLog};
 ghost use Rattle.run_words.specs.Words.{fromMost, fromValues};
 
 // Two texts and an LF.

@@ -1,6 +1,6 @@
 use Prim.Native.Nat.{_-_}
 use lib.ListN.{length, length-set}
-use Rattle.machine.specs.Program.{saidUpTo}
+use Rattle.machine.specs.Words.{saidUpTo}
 use Rattle.lists.specs.ItemLaws.{comma-from, comma-to}
 use Rattle.arguments.specs.ItemLaws.{number-is, number-none, number-small}
 use Rattle.arguments.specs.ListLaws.{Taking, none-answer, none-list, taking-start, taking-same, bad-answer, bad-list, full-answer, full-list, last-answer, last-list, taking-turn}

@@ -2,7 +2,7 @@ use Rattle.arguments.specs.ListLaws.{list-read, list-unread}
 use Rattle.run_words.specs.WordsLaws.{schedule-missing, schedule-unread, schedule-said}
 use mathlib.Core.Path.{sym}
 use lib.Seq.{length-take-le}
-use Rattle.machine.specs.Program.{saidUpTo}
+use Rattle.machine.specs.Words.{saidUpTo}
 use borrow.Author.Needs.{needs}
 use Rattle.run_words.proofs.run_words.Statement.{statement}
 use Rattle.run_words.proofs.run_words.Tie as tie
