@@ -51,7 +51,7 @@ fn digits_up_to(t: &[u8], m: usize) -> Number
 }
 
 // The number that bytes spell, if it is at most m.
-fn up_to(t: &[u8], m: usize) -> Number
+pub fn up_to(t: &[u8], m: usize) -> Number
     ensures { λ r. ⌜ r ≡ numberOf (saidUpTo m (now (t .entry))) ⌝ }
 {
     let n = t.len();

@@ -1,0 +1,4 @@
+pub mod Text
+pub mod RowText
+pub mod Reached
+pub mod TextLaws
