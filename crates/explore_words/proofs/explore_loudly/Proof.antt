@@ -1,8 +1,7 @@
 -- `explore_words::explore_loudly` answers as the search of the bound asked for does.
 use Prim.Native.Nat.{_-_, _≤_, min}
-use mathlib.Core.Path.{_≡_, refl, _∙_, ap}
+use mathlib.Core.Path.{_≡_, refl}
 use native.Mathlib.Omega.{arith}
-use lib.ListN.{length}
 use Rattle.explore_words.specs.WordsLaws.{loud-printed, loud-same, loud-bound}
 use borrow.Author.Needs.{needs}
 use Rattle.explore_words.proofs.explore_loudly.Statement.{statement}
