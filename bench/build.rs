@@ -1,23 +1,25 @@
-//! Finds the proved static library of the repository.
+//! Finds the proved static libraries of the repository.
 
 use std::path::Path;
+
+/// The libraries; each has its C functions as its only global symbols, so that both can be linked.
+const LIBRARIES: [&str; 2] = ["bufshani_c", "explore_c"];
 
 fn main() {
     println!("cargo:rustc-check-cfg=cfg(proved)");
     if std::env::var_os("CARGO_FEATURE_PLAIN_ONLY").is_some() {
         return;
     }
-    let folder = Path::new("../target/staticlib");
-    println!("cargo:rerun-if-changed=../target/staticlib/libbufshani_c.a");
-    match folder.canonicalize() {
-        Ok(found) if found.join("libbufshani_c.a").is_file() => {
-            println!("cargo:rustc-link-search=native={}", found.display());
-            println!("cargo:rustc-link-lib=static=bufshani_c");
-            println!("cargo:rustc-cfg=proved");
-        }
-        _ => {
-            eprintln!("run rt staticlib bufshani_c first");
+    for library in LIBRARIES {
+        let archive = format!("../target/staticlib/lib{library}.a");
+        println!("cargo:rerun-if-changed={archive}");
+        let Ok(found) = Path::new(&archive).canonicalize() else {
+            eprintln!("run rt staticlib {library} first");
             std::process::exit(1);
-        }
+        };
+        let folder = found.parent().unwrap_or(&found).display();
+        println!("cargo:rustc-link-search=native={folder}");
+        println!("cargo:rustc-link-lib=static={library}");
     }
+    println!("cargo:rustc-cfg=proved");
 }

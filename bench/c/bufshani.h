@@ -1,4 +1,5 @@
-/* The proved library for C: target/staticlib/libbufshani_c.a, made by `rt staticlib bufshani_c`.
+/* The proved libraries for C: target/staticlib/libbufshani_c.a, made by `rt staticlib bufshani_c`,
+   and for `bufshani_explore` target/staticlib/libexplore_c.a, made by `rt staticlib explore_c`.
    A lent slice is a pointer, which is not NULL, and a length. Every call ends; it reads and writes
    only what is lent to it. A buffer that is written overlaps no other slice of the call. */
 #ifndef BUFSHANI_H
@@ -33,6 +34,11 @@ size_t bufshani_run(const uint8_t *text, size_t text_len, const uint8_t *schedul
 uint64_t bufshani_steps(const uint8_t *text, size_t text_len, const uint8_t *schedule,
                         size_t schedule_len, const int32_t *values, size_t values_len, size_t most,
                         uint8_t *log, size_t log_len);
+
+/* What the program `explore` prints for a text, as far as the buffer reaches; gives its length. It
+   tries at most `bound` steps. */
+size_t bufshani_explore(const uint8_t *text, size_t text_len, size_t depth, uint64_t bound,
+                        uint8_t *out, size_t out_len);
 
 #ifdef __cplusplus
 }

@@ -1,7 +1,9 @@
-//! Comparison of the proved library with the plain implementation on generated cases.
+//! Comparison of the proved libraries with the plain implementation on generated cases.
 
+use crate::generate::explorations::Limits;
 use crate::generate::{self, extremes, Case, Kind, KINDS};
-use crate::plain::programs::{close_text, run_text, steps_text, write_text, LOG};
+use crate::plain::explore::DEPTH;
+use crate::plain::programs::{close_text, explore_text, run_text, steps_text, write_text, LOG};
 use crate::plain::read::read;
 use crate::plain::run::ENTRY;
 use crate::plain::table::Table;
@@ -24,17 +26,31 @@ const BEHIND: usize = 16;
 /// The steps of a run that fills the longest log.
 const STEPS: usize = 66_000;
 
+/// The bound of a search of a table for long runs.
+const BOUND: u64 = 100_000;
+
 /// The count of cases, of numbers met, and the seeds of cases that differ.
 #[derive(Default)]
 struct Tally {
     kinds: [u64; KINDS.len()],
     accepted: [u64; KINDS.len()],
-    numbers: [u64; 17],
+    numbers: [u64; 19],
     runs: u64,
     completed: u64,
     steps: u64,
+    explored: Explored,
     differ: u64,
     named: Vec<String>,
+}
+
+/// The count of explorations of accepted texts, by what they found, and of the steps tried in these.
+#[derive(Clone, Copy, Default)]
+struct Explored {
+    all: u64,
+    standstills: u64,
+    failures: u64,
+    none: u64,
+    tried: u64,
 }
 
 /// Buffers of one thread, a pair for the two sides.
@@ -146,6 +162,10 @@ fn every_extreme(seed: u64, tally: &mut Tally) {
                 most: extremes::MOST,
                 log: LOG,
             },
+            limits: Limits {
+                depth: DEPTH,
+                bound: BOUND,
+            },
         };
         for len in [LOG - 1, LOG, STEPS * ENTRY] {
             case.words.log = len;
@@ -166,6 +186,8 @@ pub fn show(seed: u64) {
         "schedule={:?} values={:?} most={} log={} room={}",
         words.schedule, words.values, words.most, words.log, case.room
     );
+    let Limits { depth, bound } = case.limits;
+    println!("depth={depth} bound={bound}");
     let mut out = vec![FILL; 1 << 18];
     let mut log = vec![FILL; words.log];
     println!("plain read: {:?}", read(&case.text, &mut Table::default()));
@@ -188,9 +210,18 @@ pub fn show(seed: u64) {
         );
         println!("{side} run:\n{}", String::from_utf8_lossy(&out[..len]));
     }
+    for (side, explore) in [
+        ("plain", explore_text as Explore),
+        ("proved", proved::explore),
+    ] {
+        let len = explore(&case.text, depth, bound, &mut out);
+        println!("{side} explore:\n{}", String::from_utf8_lossy(&out[..len]));
+    }
 }
 
 type Run = fn(&[u8], &[u8], &[i32], usize, &mut [u8], &mut [u8]) -> usize;
+
+type Explore = fn(&[u8], usize, u64, &mut [u8]) -> usize;
 
 impl Tally {
     /// Compares one case and counts it.
@@ -215,6 +246,9 @@ impl Tally {
         }
         if !self.run_same(case, expected, buffers) {
             wrong.push("run");
+        }
+        if !self.explore_same(case, expected, buffers) {
+            wrong.push("explore");
         }
         if !wrong.is_empty() {
             self.differs(format!("{} ({})", name(), wrong.join(", ")));
@@ -302,6 +336,42 @@ impl Tally {
         same && steps == expected.map(|answer| (answer.steps, answer.stop)) && log == other_log
     }
 
+    /// What is printed as far as the buffer reaches, and the bytes behind it.
+    fn explore_same(
+        &mut self,
+        case: &Case,
+        outcome: Result<(), Refusal>,
+        buffers: &mut Buffers,
+    ) -> bool {
+        let Limits { depth, bound } = case.limits;
+        let [mine, other] = &mut buffers.out;
+        let len = explore_text(&case.text, depth, bound, mine);
+        let report = &mine[..len];
+        if outcome.is_ok() {
+            self.explored(report);
+        }
+        let other = &mut other[..room_for(len, case.room)];
+        other.fill(FILL);
+        proved::explore(&case.text, depth, bound, other) == len && holds(other, report)
+    }
+
+    /// Counts the report of an exploration.
+    fn explored(&mut self, report: &[u8]) {
+        let [first, second, ..] = first_line(report);
+        self.explored.all += 1;
+        if report.starts_with(b"refused=") {
+            self.count(first as u8);
+        } else if report.starts_with(b"found=none ") {
+            self.explored.none += 1;
+            self.explored.tried += first;
+        } else {
+            let failed = report.starts_with(b"found=failure ");
+            self.explored.failures += failed as u64;
+            self.explored.standstills += !failed as u64;
+            self.explored.tried += second;
+        }
+    }
+
     fn add(&mut self, other: Tally) {
         for (sum, n) in self.kinds.iter_mut().zip(other.kinds) {
             *sum += n;
@@ -315,6 +385,11 @@ impl Tally {
         self.runs += other.runs;
         self.completed += other.completed;
         self.steps += other.steps;
+        self.explored.all += other.explored.all;
+        self.explored.standstills += other.explored.standstills;
+        self.explored.failures += other.explored.failures;
+        self.explored.none += other.explored.none;
+        self.explored.tried += other.explored.tried;
         self.differ += other.differ;
         self.named.extend(other.named);
         self.named.truncate(NAMED);
@@ -332,11 +407,21 @@ impl Tally {
             "runs={} completed={} steps={}",
             self.runs, self.completed, self.steps
         );
+        let Explored {
+            all,
+            standstills,
+            failures,
+            none,
+            tried,
+        } = self.explored;
+        println!(
+            "explorations={all} standstills={standstills} failures={failures} none={none} tried={tried}"
+        );
         for name in &self.named {
             println!("differs: {name}");
         }
         if !proved::LINKED {
-            println!("the proved library is not linked: plain Rust against itself");
+            println!("the proved libraries are not linked: plain Rust against itself");
         }
         let cases: u64 = self.kinds.iter().sum();
         println!("cases={cases} differ={} seconds={seconds:.1}", self.differ);
@@ -365,7 +450,7 @@ fn number_of(outcome: &Result<(), Refusal>) -> u8 {
     outcome.map_or_else(|refusal| refusal.number, |()| 0)
 }
 
-/// The steps, values used and stop number of a report's first line.
+/// The numbers of a report's first line: of a run the steps, the values used and the stop number.
 fn first_line(report: &[u8]) -> [u64; 3] {
     let line = report.split(|&b| b == b'\n').next().unwrap_or_default();
     let mut numbers = line

@@ -1,6 +1,7 @@
 //! Generated cases: a seed makes a case again.
 
 pub mod damage;
+pub mod explorations;
 pub mod extremes;
 pub mod runs;
 pub mod tables;
@@ -10,6 +11,7 @@ use crate::plain::table::Table;
 use crate::plain::write::write_lines;
 use crate::random::Random;
 use crate::vectors::Words;
+use explorations::Limits;
 
 /// What a case's text is.
 #[derive(Clone, Copy, Debug, PartialEq, Eq)]
@@ -20,6 +22,8 @@ pub enum Kind {
     Closing,
     /// A valid closed table made at random.
     Closed,
+    /// A small closed table whose tasks send and receive much, for explorations.
+    Busy,
     /// A valid table of full size, open or closed.
     Full,
     /// Single bytes of a valid text changed, removed or added.
@@ -39,10 +43,11 @@ pub enum Kind {
 }
 
 /// The kinds, each with its share of the cases.
-pub const KINDS: [(Kind, usize, &str); 11] = [
+pub const KINDS: [(Kind, usize, &str); 12] = [
     (Kind::Open, 24, "open"),
     (Kind::Closing, 12, "closing"),
     (Kind::Closed, 24, "closed"),
+    (Kind::Busy, 24, "busy"),
     (Kind::Full, 2, "full"),
     (Kind::Bytes, 30, "bytes"),
     (Kind::Cut, 12, "cut"),
@@ -53,11 +58,12 @@ pub const KINDS: [(Kind, usize, &str); 11] = [
     (Kind::Noise, 4, "noise"),
 ];
 
-/// A text, a run of it, and the length of the buffer to write it into.
+/// A text, a run and an exploration of it, and the length of the buffer to write it into.
 pub struct Case {
     pub kind: Kind,
     pub text: Vec<u8>,
     pub words: Words,
+    pub limits: Limits,
     pub room: usize,
 }
 
@@ -69,12 +75,13 @@ pub fn case(seed: u64) -> Case {
     with_run(kind, text, &mut r)
 }
 
-/// A case of a text: a run that fits it, if it is a table's, and a buffer.
+/// A case of a text: a run and an exploration that fit it, if it is a table's, and a buffer.
 pub fn with_run(kind: Kind, text: Vec<u8>, r: &mut Random) -> Case {
     let mut table = Table::default();
-    let words = match read(&text, &mut table) {
-        Ok(()) => runs::live(&table, r),
-        Err(_) => runs::any(r),
+    let accepted = read(&text, &mut table).is_ok();
+    let words = match accepted {
+        true => runs::live(&table, r),
+        false => runs::any(r),
     };
     let room = match r.below(8) {
         0 => text.len().saturating_sub(1),
@@ -83,10 +90,15 @@ pub fn with_run(kind: Kind, text: Vec<u8>, r: &mut Random) -> Case {
         3 => 1 << 16,
         _ => text.len(),
     };
+    let limits = match accepted {
+        true => explorations::near(&table, r),
+        false => explorations::any(r),
+    };
     Case {
         kind,
         text,
         words,
+        limits,
         room,
     }
 }
@@ -117,6 +129,7 @@ fn text_of(kind: Kind, r: &mut Random) -> Vec<u8> {
             let size = tables::Size::random(r);
             lines_of(&tables::closed(size, r))
         }
+        Kind::Busy => lines_of(&tables::busy(r)),
         Kind::Full => lines_of(&tables::any(tables::Size::Full, r)),
         Kind::Rules => {
             let size = tables::Size::random(r);

@@ -3,6 +3,7 @@
 use crate::generate::{lines_of, tables};
 use crate::plain::check::check;
 use crate::plain::close::close;
+use crate::plain::explore::explore;
 use crate::plain::read::read;
 use crate::plain::run::{run, State};
 use crate::plain::table::*;
@@ -58,12 +59,14 @@ fn calls_agree(table: &Table, number: u8) -> bool {
     let closing = judged(close(table, &mut closed));
     let written = judged(write(table, &mut out).map(|_| ()));
     let answer = run(table, &[0], &[], 0, &mut log, &mut state);
+    let explored = judged(explore(table, usize::MAX, 0).map(|_| ()));
     if number == 0 {
-        let due = if table.closed { 9 } else { 0 };
-        return judged(check(table)) == 0 && closing == due && written == 0;
+        let due = if table.closed { (9, 17) } else { (0, 9) };
+        return judged(check(table)) == 0 && (closing, explored) == due && written == 0;
     }
     judged(check(table)) == number
-        && (closing, written, answer.stop) == (number, number, number)
+        && (closing, written) == (number, number)
+        && (answer.stop, explored) == (number, number)
         && (answer.steps, answer.used) == (0, 0)
         && closed == Table::default()
         && state == State::default()

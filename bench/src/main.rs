@@ -1,4 +1,4 @@
-//! Compares and measures the proved library against plain Rust.
+//! Compares and measures the proved libraries against plain Rust.
 
 mod compare;
 mod generate;
@@ -20,8 +20,8 @@ const USAGE: &str = "usage: bench vectors DIR
        bench compare [CASES] [SEED]
        bench show SEED
        bench handmade [CASES SEED]
-       bench speed [read|close|step|short]
-       bench once proved|plain read|close|step|short";
+       bench speed [read|close|step|short|explore]
+       bench once proved|plain read|close|step|short|explore";
 
 fn main() -> ExitCode {
     let words: Vec<String> = std::env::args().skip(1).collect();
@@ -49,7 +49,8 @@ fn command(words: &[String]) -> Result<bool, String> {
             compare::show(number(seed)?);
             Ok(true)
         }
-        ["once", side @ ("proved" | "plain"), what @ ("read" | "close" | "step" | "short")] => {
+        ["once", side @ ("proved" | "plain"), what @ ("read" | "close" | "step" | "short" | "explore")] =>
+        {
             speed::once(side == "proved", what);
             Ok(true)
         }
@@ -57,7 +58,7 @@ fn command(words: &[String]) -> Result<bool, String> {
             speed::speed("");
             Ok(true)
         }
-        ["speed", what @ ("read" | "close" | "step" | "short")] => {
+        ["speed", what @ ("read" | "close" | "step" | "short" | "explore")] => {
             speed::speed(what);
             Ok(true)
         }

@@ -1,10 +1,10 @@
-//! The proved library: safe wrappers of its C functions. A lent slice crosses as its pointer and
-//! its length. Without the library (`--features plain-only`) the plain implementation stands in.
+//! The proved libraries: safe wrappers of their C functions. A lent slice crosses as its pointer and
+//! its length. Without the libraries (`--features plain-only`) the plain implementation stands in.
 
 #[cfg(proved)]
 use crate::plain::Refusal;
 
-/// Whether the proved library is linked.
+/// Whether the proved libraries are linked.
 pub const LINKED: bool = cfg!(proved);
 
 #[cfg(proved)]
@@ -57,6 +57,16 @@ mod ffi {
             log: *mut u8,
             log_len: usize,
         ) -> u64;
+
+        /// The length of what the `explore` program prints.
+        pub fn bufshani_explore(
+            text: *const u8,
+            text_len: usize,
+            depth: usize,
+            bound: u64,
+            out: *mut u8,
+            out_len: usize,
+        ) -> usize;
     }
 }
 
@@ -144,6 +154,21 @@ pub fn steps(
     refusal(answer).map_or(Ok(ran), Err)
 }
 
+/// Writes what the `explore` program prints, as far as the buffer reaches; its whole length.
+#[cfg(proved)]
+pub fn explore(text: &[u8], depth: usize, bound: u64, out: &mut [u8]) -> usize {
+    unsafe {
+        ffi::bufshani_explore(
+            text.as_ptr(),
+            text.len(),
+            depth,
+            bound,
+            out.as_mut_ptr(),
+            out.len(),
+        )
+    }
+}
+
 #[cfg(not(proved))]
 pub use stand_in::*;
 
@@ -152,7 +177,8 @@ mod stand_in {
     use crate::plain::{programs, Refusal};
 
     pub use programs::{
-        close_text as close, read_text as read, run_text as run, write_text as write,
+        close_text as close, explore_text as explore, read_text as read, run_text as run,
+        write_text as write,
     };
 
     pub fn steps(

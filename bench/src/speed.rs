@@ -2,7 +2,8 @@
 
 use crate::generate::extremes::{self, LongRun, MOST};
 use crate::generate::lines_of;
-use crate::plain::programs::{close_text, read_text, steps_text, write_text};
+use crate::plain::explore::DEPTH;
+use crate::plain::programs::{close_text, explore_text, read_text, steps_text, write_text};
 use crate::plain::table::Table;
 use crate::proved;
 use std::hint::black_box;
@@ -20,11 +21,21 @@ const LASTS: Duration = Duration::from_millis(5);
 /// The steps of a long run.
 const STEPS: usize = 1_000_000;
 
+/// The steps tried in a search, which needs more.
+const TRIED: usize = 500_000;
+
 /// The steps of short runs.
 const SHORT: [usize; 3] = [1, 10, 100];
 
 /// The table of README.
 const EXAMPLE: &[u8] = include_bytes!("../../crates/close/stdin");
+
+/// Closed tables that are explored: three tasks that share a bus, that call a procedure, that jam after 21 steps.
+const TABLES: [(&str, &[u8]); 3] = [
+    ("bus", include_bytes!("../tables/bus.txt")),
+    ("history", include_bytes!("../tables/history.txt")),
+    ("jam", include_bytes!("../tables/jam.txt")),
+];
 
 /// What is measured: the seconds that one side takes, the proved one or plain Rust, and the best so far. Both sides work on the
 /// same text and buffer.
@@ -41,7 +52,7 @@ struct Row<'a> {
 /// Prints the measurements whose names begin with a word.
 pub fn speed(word: &str) {
     if !proved::LINKED {
-        println!("the proved library is not linked: plain Rust against itself");
+        println!("the proved libraries are not linked: plain Rust against itself");
     }
     let runs = match "step".starts_with(word) {
         true => extremes::long_runs(STEPS),
@@ -65,6 +76,9 @@ pub fn speed(word: &str) {
         for (name, text) in example() {
             rows.extend(SHORT.map(|n| short(name, text.clone(), n)));
         }
+    }
+    if "explore".starts_with(word) {
+        rows.extend(searches().map(|(name, text)| searching(name, text)));
     }
     for _ in 0..PASSES {
         rows.iter_mut().for_each(Row::measure);
@@ -100,6 +114,14 @@ pub fn once(by_proved: bool, word: &str) {
             match by_proved {
                 true => _ = black_box(proved::steps(&text, &[0], &[50], MOST, &mut log)),
                 false => _ = black_box(steps_text(&text, &[0], &[50], MOST, &mut log)),
+            }
+        }
+    }
+    if "explore".starts_with(word) {
+        for (_, text) in searches() {
+            match by_proved {
+                true => _ = black_box(proved::explore(&text, DEPTH, TRIED as u64, &mut out)),
+                false => _ = black_box(explore_text(&text, DEPTH, TRIED as u64, &mut out)),
             }
         }
     }
@@ -221,6 +243,34 @@ fn short(name: &str, text: Vec<u8>, steps: usize) -> Row<'static> {
                     .is_ok_and(|a| a.steps == steps && a.stop == 0),
             };
             assert!(completed, "the run completes");
+        },
+    )
+}
+
+/// The tables that are explored, and the closed tables of long runs.
+fn searches() -> impl Iterator<Item = (&'static str, Vec<u8>)> {
+    let tables = TABLES.into_iter().map(|(name, text)| (name, text.to_vec()));
+    tables.chain(extremes::closed_tables().map(|(name, table)| (name, lines_of(&table))))
+}
+
+/// The steps tried in a search to the greatest depth, which ends at its bound.
+fn searching(name: &str, text: Vec<u8>) -> Row<'static> {
+    let name = format!("explore, {name}");
+    let mut out = vec![0; 1 << 16];
+    Row::new(
+        name,
+        "ns",
+        |s, n| s * 1e9 / n as f64,
+        TRIED,
+        move |by_proved| {
+            let start = Instant::now();
+            let len = match by_proved {
+                true => proved::explore(&text, DEPTH, TRIED as u64, &mut out),
+                false => explore_text(&text, DEPTH, TRIED as u64, &mut out),
+            };
+            let seconds = start.elapsed().as_secs_f64();
+            assert!(out[..len].starts_with(b"refused=18 "), "the bound is met");
+            seconds
         },
     )
 }

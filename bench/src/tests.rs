@@ -1,13 +1,14 @@
-//! Examples of document 01 and properties of the plain implementation.
+//! Examples of the documents and properties of the plain implementation.
 
 use crate::generate::runs;
 use crate::generate::tables::{self, Size};
 use crate::generate::{extremes, lines_of};
 use crate::plain::check::check;
 use crate::plain::close::close_valid;
-use crate::plain::programs::{close_text, read_text, run_text, write_text};
+use crate::plain::explore::{explore_valid, Found, DEPTH};
+use crate::plain::programs::{close_text, explore_text, read_text, run_text, write_text};
 use crate::plain::read::read;
-use crate::plain::run::{Machine, State};
+use crate::plain::run::{run_valid, Answer, Machine, State};
 use crate::plain::table::{Node, Op, Table, GONE, PARAMS};
 use crate::plain::Refusal;
 use crate::random::Random;
@@ -277,4 +278,73 @@ fn open_runs_have_closed_ones() {
         }
     }
     assert!(steps > 10_000);
+}
+
+fn exploring(text: &str, depth: usize, bound: u64) -> String {
+    let mut out = vec![0; 1 << 16];
+    let len = explore_text(text.as_bytes(), depth, bound, &mut out);
+    String::from_utf8_lossy(&out[..len]).into_owned()
+}
+
+#[test]
+fn explorations_of_the_example() {
+    let found = "found=standstill steps=3 tried=7
+step=0 task=0 proc=0 node=0 flag=0 value=0 toss=none
+step=1 task=0 proc=0 node=2 flag=0 value=0 toss=1
+step=2 task=0 proc=0 node=5 flag=0 value=0 toss=none
+task=0 frames=1 lost=no
+frame=0 proc=0 node=7 vars=0,1,0
+sem=0 count=1
+";
+    assert_eq!(exploring(CLOSED, 4, 7), found);
+    assert_eq!(exploring(CLOSED, 4, 6), "refused=18 line=0\n");
+    assert_eq!(exploring(CLOSED, 2, 3), "found=none tried=3\n");
+    assert_eq!(exploring(CLOSED, 0, 0), "found=none tried=0\n");
+    assert_eq!(exploring(CLOSED, 1, 0), "refused=18 line=0\n");
+    assert_eq!(exploring(CLOSED, 25, 7), "refused=17 line=0\n");
+    assert_eq!(exploring(OPEN, 25, 7), "refused=9 line=0\n");
+}
+
+/// A path that is found is a completed run that ends in the same state.
+#[test]
+fn paths_are_runs() {
+    let mut longest = 0;
+    for seed in 0..3_000 {
+        let mut r = Random::new(seed);
+        let size = r.pick(&[Size::Tiny, Size::Small, Size::Middle]);
+        let table = match r.once_in(2) {
+            true => tables::closed(size, &mut r),
+            false => tables::closing(size, &mut r),
+        };
+        let depth = r.within(0, DEPTH);
+        let Ok(answer) = explore_valid(&table, depth, 1_000) else {
+            continue;
+        };
+        if answer.found == Found::None {
+            continue;
+        }
+        let schedule: Vec<u8> = answer.path.iter().map(|step| step.entry[0]).collect();
+        let tosses: Vec<i32> = answer
+            .path
+            .iter()
+            .filter_map(|step| step.toss)
+            .map(i32::from)
+            .collect();
+        let entries: Vec<u8> = answer.path.iter().flat_map(|step| step.entry).collect();
+        let mut log = vec![0; entries.len()];
+        let mut state = State::default();
+        let ran = run_valid(&table, &schedule, &tosses, 0, &mut log, &mut state);
+        let (steps, used) = (schedule.len(), tosses.len());
+        assert_eq!(
+            ran,
+            Answer {
+                steps,
+                used,
+                stop: 0
+            }
+        );
+        assert!(log == entries && state == answer.state, "seed {seed}");
+        longest = longest.max(steps);
+    }
+    assert_eq!(longest, DEPTH);
 }

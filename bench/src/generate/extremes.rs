@@ -244,7 +244,7 @@ fn webs() -> Table {
 
 /// A long run: a table's text, its schedule, its values.
 pub struct LongRun {
-    pub name: &'static str,
+    pub name: String,
     pub table: Table,
     pub schedule: Vec<u8>,
     pub values: Vec<i32>,
@@ -256,22 +256,35 @@ pub const MOST: usize = 100;
 /// Open and closed runs of so many steps.
 pub fn long_runs(steps: usize) -> Vec<LongRun> {
     let mut runs = Vec::new();
-    for (name, closed_name, text) in [
-        ("open, mixed", "closed, mixed", MIXED),
-        ("open, sets and tests", "closed, sets and tests", ARITHMETIC),
-        ("open, calls", "closed, calls", CALLS),
-        ("open, queues", "closed, queues", PIPES),
-    ] {
-        let (mut open, mut closed) = (Table::default(), Table::default());
-        read(text.as_bytes(), &mut open).expect("the table is accepted");
-        close_valid(&open, &mut closed).expect("an open table closes");
-        runs.push(long_run(name, open, steps));
-        runs.push(long_run(closed_name, closed, steps));
+    for (name, open, closed) in pairs() {
+        runs.push(long_run(format!("open, {name}"), open, steps));
+        runs.push(long_run(format!("closed, {name}"), closed, steps));
     }
     runs
 }
 
-fn long_run(name: &'static str, table: Table, steps: usize) -> LongRun {
+/// The closed tables of long runs.
+pub fn closed_tables() -> impl Iterator<Item = (&'static str, Table)> {
+    pairs().map(|(name, _, closed)| (name, closed))
+}
+
+/// The open and the closed tables of long runs.
+fn pairs() -> impl Iterator<Item = (&'static str, Table, Table)> {
+    let texts = [
+        ("mixed", MIXED),
+        ("sets and tests", ARITHMETIC),
+        ("calls", CALLS),
+        ("queues", PIPES),
+    ];
+    texts.into_iter().map(|(name, text)| {
+        let (mut open, mut closed) = (Table::default(), Table::default());
+        read(text.as_bytes(), &mut open).expect("the table is accepted");
+        close_valid(&open, &mut closed).expect("an open table closes");
+        (name, open, closed)
+    })
+}
+
+fn long_run(name: String, table: Table, steps: usize) -> LongRun {
     let mut r = Random::new(1);
     let values: Vec<i32> = match table.closed {
         true => (0..2 * steps).map(|_| r.below(2) as i32).collect(),

@@ -58,17 +58,46 @@ pub fn closing(size: Size, r: &mut Random) -> Table {
     closed
 }
 
+/// A small closed table whose tasks send and receive values that differ, with few tosses.
+pub fn busy(r: &mut Random) -> Table {
+    let mut t = Table {
+        closed: true,
+        task_count: r.within(2, 3) as u8,
+        proc_count: r.within(1, 3) as u8,
+        sem_count: 1,
+        queue_count: r.within(1, 2) as u8,
+        ..Table::default()
+    };
+    for top in &mut t.tops[..t.task_count as usize] {
+        *top = r.below(t.proc_count as usize) as u8;
+    }
+    t.sems[0] = r.below(3) as u8;
+    for queue in &mut t.queues[..t.queue_count as usize] {
+        queue.cap = r.within(1, 4) as u8;
+    }
+    for p in &mut t.procs[..t.proc_count as usize] {
+        p.vars = r.within(1, 2) as u8;
+        p.count = r.within(3, 8) as u8;
+    }
+    with_nodes(t, |maker, j| maker.busy_node(j), r)
+}
+
 fn table(size: Size, closed: bool, r: &mut Random) -> Table {
-    let mut t = frame_of(size, closed, r);
+    let t = frame_of(size, closed, r);
+    with_nodes(t, |maker, j| maker.any_node(j), r)
+}
+
+/// Makes the nodes of all procedures.
+fn with_nodes(mut t: Table, make: Make, r: &mut Random) -> Table {
     for i in 0..t.proc_count as usize {
         let mut p = t.procs[i];
         let mut maker = Maker {
             table: &t,
             proc: &p,
-            present: present(&p, closed, r),
+            present: present(&p, t.closed, r),
             random: r,
         };
-        let nodes = maker.nodes();
+        let nodes = maker.nodes(make);
         p.nodes = nodes;
         t.procs[i] = p;
     }
@@ -136,29 +165,32 @@ struct Maker<'a> {
     random: &'a mut Random,
 }
 
+/// Makes node j, if the table has what its kind needs.
+type Make = fn(&mut Maker, usize) -> Option<Node>;
+
 impl Maker<'_> {
-    fn nodes(&mut self) -> [Node; NODES] {
+    fn nodes(&mut self, make: Make) -> [Node; NODES] {
         let mut nodes = [Node::Absent; NODES];
         for j in bits(self.present) {
             nodes[j] = if j == 0 {
                 Node::Start { to: self.arc(0) }
             } else {
-                self.node(j)
+                self.node(j, make)
             };
         }
         nodes
     }
 
-    fn node(&mut self, j: usize) -> Node {
+    fn node(&mut self, j: usize, make: Make) -> Node {
         loop {
-            if let Some(node) = self.try_node(j) {
+            if let Some(node) = make(self, j) {
                 return node;
             }
         }
     }
 
-    /// A node of a random kind, if the table has what the kind needs.
-    fn try_node(&mut self, j: usize) -> Option<Node> {
+    /// A node of any kind.
+    fn any_node(&mut self, j: usize) -> Option<Node> {
         let to = self.arc(j);
         Some(match self.random.below(22) {
             0..=4 => Node::Set {
@@ -208,6 +240,40 @@ impl Maker<'_> {
             },
             20 | 21 => Node::Return,
             _ => return None,
+        })
+    }
+
+    /// A node of a kind that is shared with other tasks or goes by values; the first sets a variable.
+    fn busy_node(&mut self, j: usize) -> Option<Node> {
+        let to = match self.random.once_in(8) {
+            true => self.arc(j),
+            false => self.next(j),
+        };
+        let var = self.var()?;
+        let queue = self.item(self.table.queue_count)?;
+        let small = Operand::Const(self.random.within(1, 4) as i32);
+        let first = self.present & !(u32::MAX << j) == 1;
+        Some(match self.random.below(20) {
+            at if first || at < 3 => Node::Set {
+                var,
+                op: Op::Add,
+                a: Operand::Var(var),
+                b: small,
+                to,
+            },
+            3..=6 => Node::Test {
+                op: self.random.pick(&[Op::Lt, Op::Eq]),
+                a: Operand::Var(var),
+                b: small,
+                yes: to,
+                no: self.next(j),
+            },
+            7..=10 => Node::Send { queue, var, to },
+            11..=14 => Node::Recv { queue, var, to },
+            15 | 16 => Node::Assert { var, to },
+            17 => Node::Wait { sem: 0, to },
+            18 => Node::Signal { sem: 0, to },
+            _ => Node::Return,
         })
     }
 
@@ -275,15 +341,21 @@ impl Maker<'_> {
         }
     }
 
-    /// An arc of node j: mostly to the next node.
-    fn arc(&mut self, j: usize) -> Arc {
+    /// An arc of node j with one target, mostly the next node.
+    fn next(&mut self, j: usize) -> Arc {
         let targets = self.present & !1;
         let later = targets & (!1u32 << j);
-        let next = if later != 0 && !self.random.once_in(4) {
+        if later != 0 && !self.random.once_in(4) {
             later & later.wrapping_neg()
         } else {
             self.one_of(targets)
-        };
+        }
+    }
+
+    /// An arc of node j, of a closed table with any targets.
+    fn arc(&mut self, j: usize) -> Arc {
+        let targets = self.present & !1;
+        let next = self.next(j);
         if !self.table.closed {
             return next;
         }

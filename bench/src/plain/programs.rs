@@ -1,6 +1,7 @@
-//! What the programs print: the closed text, and the report of a run.
+//! What the programs print: the closed text, the report of a run, and what an exploration finds.
 
 use super::close::close_valid;
+use super::explore::{explore_valid, Exploration, Found, Step};
 use super::read::read;
 use super::run::{run_valid, Answer, State, ENTRY};
 use super::table::*;
@@ -66,6 +67,16 @@ pub fn run_text(
     s.len
 }
 
+/// What the `explore` program prints for a text, and its length.
+pub fn explore_text(text: &[u8], depth: usize, bound: u64, out: &mut [u8]) -> usize {
+    let mut table = Table::default();
+    let explored = read(text, &mut table).and_then(|()| explore_valid(&table, depth, bound));
+    match explored {
+        Ok(exploration) => print_exploration(&table, &exploration, out),
+        Err(refusal) => print_refusal(refusal, out),
+    }
+}
+
 fn print_refusal(refusal: Refusal, out: &mut [u8]) -> usize {
     let mut s = Buffer { out, len: 0 };
     field(&mut s, b"refused=", refusal.number as u32);
@@ -80,16 +91,52 @@ fn print_answer(answer: &Answer, log: &[u8], s: &mut Buffer) {
     field(s, b" stop=", answer.stop as u32);
     s.put(b"\n");
     for (i, entry) in log.chunks_exact(ENTRY).take(answer.steps).enumerate() {
-        field(s, b"step=", i as u32);
-        field(s, b" task=", entry[0] as u32);
-        field(s, b" proc=", entry[1] as u32);
-        field(s, b" node=", entry[2] as u32);
-        field(s, b" flag=", entry[3] as u32);
-        s.put(b" value=");
-        let value = [entry[4], entry[5], entry[6], entry[7]];
-        constant(s, i32::from_le_bytes(value));
+        print_step(i, entry, s);
         s.put(b"\n");
     }
+}
+
+/// A step's line but for its end.
+fn print_step(i: usize, entry: &[u8], s: &mut Buffer) {
+    field(s, b"step=", i as u32);
+    field(s, b" task=", entry[0] as u32);
+    field(s, b" proc=", entry[1] as u32);
+    field(s, b" node=", entry[2] as u32);
+    field(s, b" flag=", entry[3] as u32);
+    s.put(b" value=");
+    let value = [entry[4], entry[5], entry[6], entry[7]];
+    constant(s, i32::from_le_bytes(value));
+}
+
+/// The path that was found and the state it leads to.
+fn print_exploration(table: &Table, exploration: &Exploration, out: &mut [u8]) -> usize {
+    let Exploration {
+        found,
+        path,
+        tried,
+        state,
+    } = exploration;
+    let mut s = Buffer { out, len: 0 };
+    let found = match found {
+        Found::None => {
+            s.put(format!("found=none tried={tried}\n").as_bytes());
+            return s.len;
+        }
+        Found::Standstill => "standstill",
+        Found::Failure => "failure",
+    };
+    let steps = path.len();
+    s.put(format!("found={found} steps={steps} tried={tried}\n").as_bytes());
+    for (i, Step { entry, toss }) in path.iter().enumerate() {
+        print_step(i, entry, &mut s);
+        match toss {
+            Some(toss) => field(&mut s, b" toss=", *toss as u32),
+            None => s.put(b" toss=none"),
+        }
+        s.put(b"\n");
+    }
+    print_state(table, state, &mut s);
+    s.len
 }
 
 fn print_state(t: &Table, state: &State, s: &mut Buffer) {
