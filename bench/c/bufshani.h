@@ -35,8 +35,8 @@ uint64_t bufshani_steps(const uint8_t *text, size_t text_len, const uint8_t *sch
                         size_t schedule_len, const int32_t *values, size_t values_len, size_t most,
                         uint8_t *log, size_t log_len);
 
-/* What the program `explore` prints for a text, as far as the buffer reaches; gives its length. It
-   tries at most `bound` steps. */
+/* What the program `explore` prints for a text, as far as the buffer reaches; gives its length, at
+   most 131072. It tries at most `bound` steps. */
 size_t bufshani_explore(const uint8_t *text, size_t text_len, size_t depth, uint64_t bound,
                         uint8_t *out, size_t out_len);
 
