@@ -53,7 +53,7 @@ pub removed-closed : (n v : ℕ) (c : Bool) → c ≡ true → v ≡ 255 → 0 �
 unfolding check
 removed-closed n v c e q = rw (e, eq-eqb v removed q)
 
-pub removed-open : (n v : ℕ) (c : Bool) → c ≡ false → v ≡ 255 → 2 ≡ numbered (check (variable c n) (nameOf v))
+pub removed-open : (n v : ℕ) (c : Bool) → c ≡ false → v ≡ 255 → 19 ≡ numbered (check (variable c n) (nameOf v))
 unfolding check number
 removed-open n v c e q = rw (e, eq-eqb v removed q)
 
@@ -75,7 +75,7 @@ constant-in (negsuc x) h n = rw (le-leb x 2147483647 (omega (arith, h .sfits)))
 -- ---- arguments
 
 -- a says whether they are misspelt, b whether all are declared
-pub arguments-misspelt : (c : Bool) (n : ℕ) (v : List (Option ℕ)) (a : Bool) → a ≡ not (c || noneRemoved v) → a ≡ true → 2 ≡ numbered (check (arguments c n) v)
+pub arguments-misspelt : (c : Bool) (n : ℕ) (v : List (Option ℕ)) (a : Bool) → a ≡ not (c || noneRemoved v) → a ≡ true → 19 ≡ numbered (check (arguments c n) v)
 unfolding check number
 arguments-misspelt c n v a p e = rw (not-true (c || noneRemoved v) (sym p ∙ e))
 

@@ -1,4 +1,4 @@
-// The fault of each value and of each node line, by document 01's number; 0 is none.
+// The fault of each value and of each node line, by its number; 0 is none.
 use table::Args;
 use table::Node;
 use table::Op;

@@ -1,16 +1,17 @@
 -- A table's fault from its lines, its late faults and its unused places, as the code finds it.
-use Prim.Native.Nat.{ℕ, _<_}
-use mathlib.Core.Path.{_≡_, refl, sym, _∙_, ap}
-use mathlib.Core.Option.{Option, none, some}
+use Prim.Native.Nat.{ℕ}
+use mathlib.Core.Path.{_≡_, sym, _∙_, ap}
+use mathlib.Core.Option.{none}
 use mathlib.Core.Bool.{Bool, true, false}
 use native.Mathlib.Omega.{arith}
 use Rattle.table.specs.declared.Table.{Table}
 use Rattle.text.specs.declared.Fault.{Fault}
-use Rattle.text.specs.declared.Fault.the-variants.{Long, Form, Misspelt, Ended, Range, Index, Reference, Arguments, Unclosed, Unused, Short}
+use Rattle.text.specs.declared.Fault.the-variants.{Unused}
 use Rattle.text.specs.Fault.{number}
 use Rattle.text.specs.Value.{orElse, unless}
 use Rattle.text.specs.Reader.{late, firstLate, good}
 use Rattle.text.specs.Writer.{tidy, faultIn, fault}
+use Rattle.text.specs.ValidLaws.{numbered-none}
 use Rattle.text.specs.Structure.{firstIn, linesFault, tableFault, numbered}
 use Rattle.text.specs.LinedLaws.{lined-of}
 use Rattle.text.specs.StructureLaws.{fault-is, late-fault}
@@ -21,14 +22,6 @@ use Rattle.late.specs.Late.{Counted, lateIn}
 use Rattle.line_faults.specs.Lines.{linesNumber}
 use Rattle.line_faults.specs.LineLaws.{lines-is}
 use Rattle.unused.specs.Unused.{Ranged}
-
-numbered-none : (f : Option Fault) → numbered f ≡ 0 → f ≡ none
-unfolding number
-numbered-none none e = refl
-numbered-none (some f) e = absurd (omega (arith, pos f))
-  where
-    pos : (f : Fault) → 0 < number f
-    pos f = elim f [ Long ↦ omega arith | Form ↦ omega arith | Misspelt ↦ omega arith | Ended ↦ omega arith | Range ↦ omega arith | Index ↦ omega arith | Reference ↦ omega arith | Arguments ↦ omega arith | Unclosed ↦ omega arith | Unused ↦ omega arith | Short ↦ omega arith ]
 
 -- the lines have a fault
 pub fault-lines : (t : Table) {r : ℕ} → r ≡ linesNumber t → (r ≡ 0 → ⊥) → r ≡ fault t

@@ -1,4 +1,4 @@
-// The fault of a hand-made table, by document 01's number; 0 is none.
+// The fault of a hand-made table, by its number; 0 is none.
 use late::Late;
 use table::Table;
 use text::Fault;

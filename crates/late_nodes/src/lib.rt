@@ -1,4 +1,4 @@
-// The late fault of a node, by document 01's number; 0 is none: an argument count that differs from the callee's, and what only a closed table can
+// The late fault of a node, by its number; 0 is none: an argument count that differs from the callee's, and what only a closed table can
 // have wrong.
 use table::Args;
 use table::Node;

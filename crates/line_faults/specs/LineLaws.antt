@@ -13,13 +13,13 @@ use Rattle.table.specs.declared.Queue.{Queue}
 use Rattle.table.specs.declared.Proc.{Proc}
 use Rattle.table.specs.declared.Table.{Table}
 use Rattle.text.specs.declared.Fault.{Fault}
-use Rattle.text.specs.declared.Fault.the-variants.{Long, Form, Misspelt, Ended, Range, Index, Reference, Arguments, Unclosed, Unused, Short}
 use Rattle.text.specs.Fault.{number}
+use Rattle.text.specs.FaultLaws.{number-range}
 use Rattle.text.specs.Value.{check, choice, due, unless}
 use Rattle.text.specs.Line.{lineFault}
 use Rattle.text.specs.Format.{Scope, queueLine, procLine, nodeLine, Described, noLine, described, describe}
 use Rattle.text.specs.Writer.{queueVals, procVals, scope}
-use Rattle.text.specs.Structure.{gap, placeFault, nodesFault, headFault, countsFault, tasksFault, semsFault, queuesFault, procsFault, linesFault, numbered}
+use Rattle.text.specs.Structure.{gap, placeFault, nodesFault, lastProc, headFault, countsFault, tasksFault, semsFault, queuesFault, procsFault, linesFault, numbered}
 use Rattle.checks.specs.Numbers.{firstNumber, first-zero, numbered-else}
 use Rattle.checks.specs.NodeChecks.{placeNumber, nodeNumber}
 use Rattle.line_faults.specs.Rows.{with-is}
@@ -70,29 +70,28 @@ proc-line-is true p q = rw (due-is p) (simp (numbered-else, first-zero))
 
 -- no fault has the number 255
 small : (f : Option Fault) → numbered f < 255
-unfolding number
 small none = omega arith
-small (some f) = elim f [ Long ↦ omega arith | Form ↦ omega arith | Misspelt ↦ omega arith | Ended ↦ omega arith | Range ↦ omega arith | Index ↦ omega arith | Reference ↦ omega arith | Arguments ↦ omega arith | Unclosed ↦ omega arith | Unused ↦ omega arith | Short ↦ omega arith ]
+small (some f) = omega (arith, number-range f)
 
-place-is : (c : Scope) (q : Proc) (j : ℕ) (d : Described c) → numbered (placeFault c q j d) ≡ settled (number (gap q (c .nodes - suc j) (suc j))) (placeNumber c j d)
-place-is c q j noLine = go (c .closed && ltb 0 j)
+place-is : (c : Scope) (isLast : Bool) (q : Proc) (j : ℕ) (d : Described c) → numbered (placeFault c isLast q j d) ≡ settled (number (gap isLast q (c .nodes - suc j) (suc j))) (placeNumber c j d)
+place-is c isLast q j noLine = go (c .closed && ltb 0 j)
   where
-    go : (b : Bool) → numbered (unless b (gap q (c .nodes - suc j) (suc j))) ≡ settled (number (gap q (c .nodes - suc j) (suc j))) (pick b 0 255)
+    go : (b : Bool) → numbered (unless b (gap isLast q (c .nodes - suc j) (suc j))) ≡ settled (number (gap isLast q (c .nodes - suc j) (suc j))) (pick b 0 255)
     go true = refl
     go false = refl
-place-is c q j (described k w) =
+place-is c isLast q j (described k w) =
     let f = lineFault (nodeLine c j (suc j)) (j, (k, w)) in
     rw (ne-eqb (numbered f) 255 (λ e. omega (arith, small f)))
 
-nodes-is : (t : Table) (q : Proc) → numbered (nodesFault t q) ≡ nodesNumber (scope t q) q
+nodes-is : (t : Table) (isLast : Bool) (q : Proc) → numbered (nodesFault t isLast q) ≡ nodesNumber (scope t q) isLast q
 unfolding nodeNumber
-nodes-is t q = with-is _ _ (q .nodes) 0 (λ j l u. place-is (scope t q) q j (describe (scope t q) (nodeIn q j)))
+nodes-is t isLast q = with-is _ _ (q .nodes) 0 (λ j l u. place-is (scope t q) isLast q j (describe (scope t q) (nodeIn q j)))
 
 procs-is : (t : Table) → numbered (procsFault t) ≡ procsNumber t
 unfolding procsNumber procNumber
 procs-is t = with-is _ _ (t .procs) 0 (λ p l u.
     let q = procAt t p in
-    numbered-else (lineFault (procLine (t .closed) p) (procVals (t .closed) p q)) (nodesFault t q) ∙ rw (proc-line-is (t .closed) p q, nodes-is t q))
+    numbered-else (lineFault (procLine (t .closed) p) (procVals (t .closed) p q)) (nodesFault t (lastProc t p) q) ∙ rw (proc-line-is (t .closed) p q, nodes-is t (lastProc t p) q))
 
 -- ---- tables
 

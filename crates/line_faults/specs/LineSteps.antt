@@ -3,17 +3,18 @@ use Prim.Native.Nat.{ℕ, zero, suc, _+_, _-_, _≤_, _<_}
 use mathlib.Core.Path.{_≡_, refl, sym, _∙_, ap}
 use mathlib.Core.Bool.{Bool, true, false}
 use native.Mathlib.Omega.{arith}
-use lib.Dec.{eqb}
+use lib.Dec.{leb, eqb}
 use borrow.Author.Tests.{eq-eqb, ne-eqb}
 use Rattle.table.specs.Cases.{cases}
-use Rattle.table.specs.Table.{nodeIn, isAbsent}
+use Rattle.table.specs.Table.{nodeIn, procAt, isAbsent}
 use Rattle.table.specs.declared.Proc.{Proc}
 use Rattle.table.specs.declared.Table.{Table}
 use Rattle.text.specs.declared.Fault.{Fault}
-use Rattle.text.specs.declared.Fault.the-variants.{Long, Form, Misspelt, Ended, Range, Index, Reference, Arguments, Unclosed, Unused, Short}
+use Rattle.text.specs.declared.Fault.the-variants.{Index}
 use Rattle.text.specs.Fault.{number}
+use Rattle.text.specs.FaultLaws.{number-range}
 use Rattle.text.specs.Format.{Scope}
-use Rattle.text.specs.Structure.{gap}
+use Rattle.text.specs.Structure.{nodeDue, gap, lastProc}
 use Rattle.checks.specs.Numbers.{firstNumber, first-some}
 use Rattle.checks.specs.NodeChecks.{nodeNumber}
 use Rattle.checks.specs.ValueChecks.{range-out}
@@ -24,31 +25,41 @@ first-zeros : (a b : ℕ) → firstNumber a b ≡ 0 → (a ≡ 0) × (b ≡ 0)
 first-zeros zero b e = (refl, e)
 first-zeros (suc a) b e = absurd (omega arith)
 
+-- ---- what stands behind a procedure's lines where a node is due
+
+pub due-last : (b : Bool) → b ≡ true → 20 ≡ number (nodeDue b)
+unfolding number
+due-last b e = rw e
+
+pub due-before : (b : Bool) → b ≡ false → 2 ≡ number (nodeDue b)
+unfolding number
+due-before b e = rw e
+
 -- ---- a gap at place j: those behind it, up to i, are absent
 
-pub record GapPassed (q : Proc) (j i : ℕ) : Type 0 where
-  pub left : gap q (q .nodes - suc j) (suc j) ≡ gap q (q .nodes - i) i
+pub record GapPassed (b : Bool) (q : Proc) (j i : ℕ) : Type 0 where
+  pub left : gap b q (q .nodes - suc j) (suc j) ≡ gap b q (q .nodes - i) i
 
-pub gap-none : (q : Proc) (j : ℕ) → GapPassed q j (j + 1)
-gap-none q j = let e : suc j ≡ j + 1 = omega arith in record { left = rw e }
+pub gap-none : (b : Bool) (q : Proc) (j : ℕ) → GapPassed b q j (j + 1)
+gap-none b q j = let e : suc j ≡ j + 1 = omega arith in record { left = rw e }
 
-pub gap-more : (q : Proc) (j i : ℕ) (a : Bool) → GapPassed q j i → i < q .nodes → a ≡ isAbsent (nodeIn q i) → a ≡ true → GapPassed q j (i + 1)
+pub gap-more : (b : Bool) (q : Proc) (j i : ℕ) (a : Bool) → GapPassed b q j i → i < q .nodes → a ≡ isAbsent (nodeIn q i) → a ≡ true → GapPassed b q j (i + 1)
 unfolding gap
-gap-more q j i a p l h e =
+gap-more b q j i a p l h e =
     let k : q .nodes - i ≡ suc (q .nodes - (i + 1)) = omega arith in
     let s : i + 1 ≡ suc i = omega arith in
-    record { left = p .left ∙ ap (λ (n : ℕ). gap q n i) k ∙ rw (← h, e, s) }
+    record { left = p .left ∙ ap (λ (n : ℕ). gap b q n i) k ∙ rw (← h, e, s) }
 
-pub gap-found : (q : Proc) (j i : ℕ) (a : Bool) → GapPassed q j i → i < q .nodes → a ≡ isAbsent (nodeIn q i) → a ≡ false → 4 ≡ number (gap q (q .nodes - suc j) (suc j))
+pub gap-found : (b : Bool) (q : Proc) (j i : ℕ) (a : Bool) → GapPassed b q j i → i < q .nodes → a ≡ isAbsent (nodeIn q i) → a ≡ false → 4 ≡ number (gap b q (q .nodes - suc j) (suc j))
 unfolding gap number
-gap-found q j i a p l h e =
+gap-found b q j i a p l h e =
     let k : q .nodes - i ≡ suc (q .nodes - (i + 1)) = omega arith in
-    let x : gap q (q .nodes - suc j) (suc j) ≡ Index = p .left ∙ ap (λ (n : ℕ). gap q n i) k ∙ rw (← h, e) in
+    let x : gap b q (q .nodes - suc j) (suc j) ≡ Index = p .left ∙ ap (λ (n : ℕ). gap b q n i) k ∙ rw (← h, e) in
     sym (ap number x)
 
-pub gap-all : (q : Proc) (j i : ℕ) → GapPassed q j i → q .nodes ≤ i → 2 ≡ number (gap q (q .nodes - suc j) (suc j))
+pub gap-all : (b : Bool) (q : Proc) (j i : ℕ) → GapPassed b q j i → q .nodes ≤ i → {r : ℕ} → r ≡ number (nodeDue b) → r ≡ number (gap b q (q .nodes - suc j) (suc j))
 unfolding gap number
-gap-all q j i p l = let k : q .nodes - i ≡ 0 = omega arith in sym (ap number (p .left ∙ ap (λ (n : ℕ). gap q n i) k))
+gap-all b q j i p l h = let k : q .nodes - i ≡ 0 = omega arith in h ∙ sym (ap number (p .left ∙ ap (λ (n : ℕ). gap b q n i) k))
 
 -- ---- places
 
@@ -58,25 +69,21 @@ settled-gap g r e h = rw (eq-eqb r 255 e) h
 pub settled-fault : (g r : ℕ) → (r ≡ 255 → ⊥) → r ≡ settled g r
 settled-fault g r e = rw (ne-eqb r 255 e)
 
-number-pos : (f : Fault) → 0 < number f
-unfolding number
-number-pos f = elim f [ Long ↦ omega arith | Form ↦ omega arith | Misspelt ↦ omega arith | Ended ↦ omega arith | Range ↦ omega arith | Index ↦ omega arith | Reference ↦ omega arith | Arguments ↦ omega arith | Unclosed ↦ omega arith | Unused ↦ omega arith | Short ↦ omega arith ]
+abbrev pub placeAt : Scope → Bool → Proc → ℕ → ℕ
+placeAt c b q j = settled (number (gap b q (q .nodes - suc j) (suc j))) (nodeNumber c j (nodeIn q j))
 
-abbrev pub placeAt : Scope → Proc → ℕ → ℕ
-placeAt c q j = settled (number (gap q (q .nodes - suc j) (suc j))) (nodeNumber c j (nodeIn q j))
+pub nodes-more : (c : Scope) (b : Bool) (q : Proc) (j : ℕ) {r : ℕ} → Passed (placeAt c b q) (q .nodes) j → j < q .nodes → r ≡ nodeNumber c j (nodeIn q j) → r ≡ 0 → Passed (placeAt c b q) (q .nodes) (j + 1)
+nodes-more c b q j {r} p l h z = passed-more (placeAt c b q) (q .nodes) j {r = r} p l (rw (← h, z)) z
 
-pub nodes-more : (c : Scope) (q : Proc) (j : ℕ) {r : ℕ} → Passed (placeAt c q) (q .nodes) j → j < q .nodes → r ≡ nodeNumber c j (nodeIn q j) → r ≡ 0 → Passed (placeAt c q) (q .nodes) (j + 1)
-nodes-more c q j {r} p l h z = passed-more (placeAt c q) (q .nodes) j {r = r} p l (rw (← h, z)) z
-
-pub nodes-found : (c : Scope) (q : Proc) (j : ℕ) {r z : ℕ} → Passed (placeAt c q) (q .nodes) j → j < q .nodes → r ≡ nodeNumber c j (nodeIn q j) → (r ≡ 0 → ⊥)
-    → z ≡ settled (number (gap q (q .nodes - suc j) (suc j))) r → z ≡ nodesNumber c q
-nodes-found c q j {r} {z} p l h n e = passed-found (placeAt c q) (q .nodes) j {r = z} p l (rw h at e) (λ y. some (sym e ∙ y))
+pub nodes-found : (c : Scope) (b : Bool) (q : Proc) (j : ℕ) {r z : ℕ} → Passed (placeAt c b q) (q .nodes) j → j < q .nodes → r ≡ nodeNumber c j (nodeIn q j) → (r ≡ 0 → ⊥)
+    → z ≡ settled (number (gap b q (q .nodes - suc j) (suc j))) r → z ≡ nodesNumber c b q
+nodes-found c b q j {r} {z} p l h n e = passed-found (placeAt c b q) (q .nodes) j {r = z} p l (rw h at e) (λ y. some (sym e ∙ y))
   where
     g : Fault
-    g = gap q (q .nodes - suc j) (suc j)
+    g = gap b q (q .nodes - suc j) (suc j)
 
     some : settled (number g) r ≡ 0 → ⊥
-    some = cases (eqb r 255) (λ b. rw b (λ y. omega (arith, number-pos g, y))) (λ b. rw b n)
+    some = cases (eqb r 255) (λ h. rw h (λ y. omega (arith, number-range g, y))) (λ h. rw h n)
 
 -- ---- procedures
 
@@ -86,14 +93,29 @@ proc-range b k m n d e z =
     let v = first-zeros (rangeNumber k m 16) _ (a .1) in
     range-out 2 n 32 (first-zeros (rangeNumber 2 n 32) _ (v .1) .0) .1
 
-pub proc-line-found : (b : Bool) (procs sems queues : ℕ) (q : Proc) {r : ℕ} → r ≡ procLineNumber b (q .params) (q .vars) (q .nodes) (q .drop) → (r ≡ 0 → ⊥) → r ≡ procNumber b procs sems queues q
+pub proc-line-found : (b : Bool) (procs sems queues : ℕ) (isLast : Bool) (q : Proc) {r : ℕ} → r ≡ procLineNumber b (q .params) (q .vars) (q .nodes) (q .drop) → (r ≡ 0 → ⊥) → r ≡ procNumber b procs sems queues isLast q
 unfolding procNumber
-proc-line-found b procs sems queues q {r} e z = rw (← e) (first-some r _ z)
+proc-line-found b procs sems queues isLast q {r} e z = rw (← e) (first-some r _ z)
 
-pub proc-nodes-found : (b : Bool) (procs sems queues : ℕ) (q : Proc) {r z : ℕ} → r ≡ procLineNumber b (q .params) (q .vars) (q .nodes) (q .drop) → r ≡ 0
-    → z ≡ nodesNumber (scopeOf b procs sems queues q) q → z ≡ procNumber b procs sems queues q
+pub proc-nodes-found : (b : Bool) (procs sems queues : ℕ) (isLast : Bool) (q : Proc) {r z : ℕ} → r ≡ procLineNumber b (q .params) (q .vars) (q .nodes) (q .drop) → r ≡ 0
+    → z ≡ nodesNumber (scopeOf b procs sems queues q) isLast q → z ≡ procNumber b procs sems queues isLast q
 unfolding procNumber
-proc-nodes-found b procs sems queues q e n h = rw (← e, n) h
+proc-nodes-found b procs sems queues isLast q e n h = rw (← e, n) h
+
+-- procedure p of a table that has n
+abbrev pub procIn : Table → ℕ → ℕ
+procIn t p = procNumber (t .closed) (t .procs) (t .sems) (t .queues) (lastProc t p) (procAt t p)
+
+module _ (t : Table) (p : ℕ) {n r : ℕ} (e : n ≡ t .procs) (k : p < t .procs) (h : r ≡ procNumber (t .closed) (t .procs) (t .sems) (t .queues) (leb n (p + 1)) (procAt t p)) where
+  same : r ≡ procIn t p
+  same = let a : p + 1 ≡ suc p = omega arith in rw (e, a) at h
+
+  pub procs-more : Passed (procIn t) (t .procs) p → r ≡ 0 → Passed (procIn t) (t .procs) (p + 1)
+  procs-more q z = passed-more (procIn t) (t .procs) p {r = r} q k same z
+
+  pub procs-found : Passed (procIn t) (t .procs) p → (r ≡ 0 → ⊥) → r ≡ procsNumber t
+  unfolding procsNumber
+  procs-found q z = passed-found (procIn t) (t .procs) p {r = r} q k same z
 
 -- ---- tables
 

@@ -14,7 +14,7 @@ use Rattle.table.specs.declared.Table.{Table}
 use Rattle.text.specs.Fault.{number}
 use Rattle.text.specs.Value.{check, from, ascending}
 use Rattle.text.specs.Format.{Scope}
-use Rattle.text.specs.Structure.{gap, numbered}
+use Rattle.text.specs.Structure.{gap, lastProc, numbered}
 use Rattle.checks.specs.Numbers.{firstNumber}
 use Rattle.checks.specs.NodeChecks.{oneNumber, nodeNumber}
 use Rattle.line_faults.specs.Rows.{firstWith}
@@ -49,18 +49,18 @@ procLineNumber closed params vars nodes drop =
 abbrev pub settled : ℕ → ℕ → ℕ
 settled g r = pick (eqb r 255) g r
 
-abbrev pub nodesNumber : Scope → Proc → ℕ
-nodesNumber c q = firstWith (λ j. settled (number (gap q (q .nodes - suc j) (suc j))) (nodeNumber c j (nodeIn q j))) (q .nodes) 0
+abbrev pub nodesNumber : Scope → Bool → Proc → ℕ
+nodesNumber c isLast q = firstWith (λ j. settled (number (gap isLast q (q .nodes - suc j) (suc j))) (nodeNumber c j (nodeIn q j))) (q .nodes) 0
 
 abbrev pub scopeOf : (closed : Bool) (procs sems queues : ℕ) → Proc → Scope
 scopeOf closed procs sems queues q = record { closed = closed; procs = procs; sems = sems; queues = queues; vars = q .vars; nodes = q .nodes }
 
-unfoldable pub procNumber : (closed : Bool) (procs sems queues : ℕ) → Proc → ℕ
-procNumber closed procs sems queues q =
-    firstNumber (procLineNumber closed (q .params) (q .vars) (q .nodes) (q .drop)) (nodesNumber (scopeOf closed procs sems queues q) q)
+unfoldable pub procNumber : (closed : Bool) (procs sems queues : ℕ) → Bool → Proc → ℕ
+procNumber closed procs sems queues isLast q =
+    firstNumber (procLineNumber closed (q .params) (q .vars) (q .nodes) (q .drop)) (nodesNumber (scopeOf closed procs sems queues q) isLast q)
 
 unfoldable pub procsNumber : Table → ℕ
-procsNumber t = firstWith (λ p. procNumber (t .closed) (t .procs) (t .sems) (t .queues) (procAt t p)) (t .procs) 0
+procsNumber t = firstWith (λ p. procNumber (t .closed) (t .procs) (t .sems) (t .queues) (lastProc t p) (procAt t p)) (t .procs) 0
 
 unfoldable pub linesNumber : Table → ℕ
 linesNumber t =

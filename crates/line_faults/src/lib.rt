@@ -1,4 +1,4 @@
-// The fault of the lines that a hand-made table stands for, by document 01's number; 0 is none.
+// The fault of the lines that a hand-made table stands for, by its number; 0 is none.
 use checks::Limits;
 use table::Node;
 use table::Proc;
@@ -10,7 +10,7 @@ use table::Task;
 ghost use mathlib.Core.Path.{_≡_};
 ghost use Prim.Native.Nat.{suc, _-_, _≤_, _<_};
 ghost use Rattle.text.specs.Fault.{number as numberOf};
-ghost use Rattle.text.specs.Structure.{gap as gapFault};
+ghost use Rattle.text.specs.Structure.{nodeDue, gap as gapFault};
 ghost use Rattle.checks.specs.NodeChecks.{scopeIn};
 ghost use Rattle.line_faults.specs.Lines.{headNumber, tasksNumber, semsNumber, queuesNumber, dropNumber, procLineNumber, settled as settledNumber, nodesNumber, procNumber, procsNumber, linesNumber};
 
@@ -96,10 +96,17 @@ fn proc_line(closed: bool, params: u8, vars: u8, nodes: u8, drop: u8) -> u8
     checks::first(k, checks::first(m, checks::first(n, d)))
 }
 
-// What stands where node j is due that is absent: a later node, or no node line.
-fn gap(q: Proc, j: usize) -> u8
+// What stands behind a procedure's lines where a node is due: the text's end behind the last procedure, else another key.
+fn node_due(last: bool) -> u8
+    ensures { λ r. ⌜ r ≡ numberOf (nodeDue last) ⌝ }
+{
+    if last { text::ENDED } else { text::FORM }
+}
+
+// What stands where node j is due that is absent: a later node, or what is behind the procedure's lines.
+fn gap(last: bool, q: Proc, j: usize) -> u8
     requires { ⌜ (j < q .nodes) × (q .nodes ≤ 32) ⌝ }
-    ensures { λ r. ⌜ r ≡ numberOf (gapFault q (q .nodes - suc j) (suc j)) ⌝ }
+    ensures { λ r. ⌜ r ≡ numberOf (gapFault last q (q .nodes - suc j) (suc j)) ⌝ }
 {
     let n = q.nodes as usize;
     let mut i = j + 1;
@@ -112,23 +119,23 @@ fn gap(q: Proc, j: usize) -> u8
             return text::INDEX;
         }
     }
-    text::ENDED
+    node_due(last)
 }
 
 // The fault r of place j, which may be a gap.
-fn settled(r: u8, q: Proc, j: usize) -> u8
+fn settled(r: u8, last: bool, q: Proc, j: usize) -> u8
     requires { ⌜ (j < q .nodes) × (q .nodes ≤ 32) ⌝ }
-    ensures { λ z. ⌜ z ≡ settledNumber (numberOf (gapFault q (q .nodes - suc j) (suc j))) r ⌝ }
+    ensures { λ z. ⌜ z ≡ settledNumber (numberOf (gapFault last q (q .nodes - suc j) (suc j))) r ⌝ }
 {
     if r == checks::GAP {
-        return gap(q, j);
+        return gap(last, q, j);
     }
     r
 }
 
-fn nodes(q: Proc, c: Limits) -> u8
+fn nodes(last: bool, q: Proc, c: Limits) -> u8
     requires { ⌜ (q .nodes ≤ 32) × (c .nodes ≡ q .nodes) ⌝ }
-    ensures { λ r. ⌜ r ≡ nodesNumber (scopeIn c) q ⌝ }
+    ensures { λ r. ⌜ r ≡ nodesNumber (scopeIn c) last q ⌝ }
 {
     let n = q.nodes as usize;
     let mut j: usize = 0;
@@ -137,21 +144,23 @@ fn nodes(q: Proc, c: Limits) -> u8
         let x = s.node;
         let r = checks::node(x, j, c);
         if r != 0 {
-            return settled(r, q, j);
+            return settled(r, last, q, j);
         }
         j += 1;
     }
     0
 }
 
-fn proc(q: Proc, closed: bool, procs: u8, sems: u8, queues: u8) -> u8
-    ensures { λ r. ⌜ r ≡ procNumber closed procs sems queues q ⌝ }
+// A procedure, the table's last or not.
+fn proc(last: bool, q: Proc, closed: bool, procs: u8, sems: u8, queues: u8) -> u8
+    ensures { λ r. ⌜ r ≡ procNumber closed procs sems queues last q ⌝ }
 {
     let r = proc_line(closed, q.params, q.vars, q.nodes, q.drop);
     if r != 0 {
         return r;
     }
     nodes(
+        last,
         q,
         Limits {
             closed,
@@ -172,7 +181,8 @@ fn procs(t: Table) -> u8
     let mut p: usize = 0;
     while p < n {
         let q = t.proc[p];
-        let r = proc(q, t.closed, t.procs, t.sems, t.queues);
+        let last = n <= p + 1;
+        let r = proc(last, q, t.closed, t.procs, t.sems, t.queues);
         if r != 0 {
             return r;
         }

@@ -11,9 +11,9 @@ use Rattle.table.specs.declared.Slot.{Slot}
 use Rattle.table.specs.declared.Proc.{Proc}
 use Rattle.text.specs.declared.Fault.{Fault}
 use Rattle.text.specs.Number.{bytes}
-use Rattle.text.specs.Line.{Parser, After, at as stands, differs, broken, after}
+use Rattle.text.specs.Line.{Parser}
 use Rattle.text.specs.Format.{Scope as Judged}
-use Rattle.text.specs.Reader.{nodesOf, procRow}
+use Rattle.text.specs.Reader.{stands, nodesOf, procRow}
 use Rattle.records.specs.declared.Counts.{Counts}
 use Rattle.records.specs.declared.ProcHead.{ProcHead}
 use Rattle.records.specs.declared.ProcLine.{ProcLine}
@@ -34,14 +34,9 @@ abbrev pub stoppedOf : Line → Slots
 stoppedOf (IsNode x j e) = record { end = Refused Fault.Form; line = 0; slots = noSlots }
 stoppedOf (NotNode f k) = record { end = Refused f; line = k; slots = noSlots }
 
-abbrev pub stood : After → Bool
-stood (stands s) = true
-stood differs = false
-stood broken = false
-
--- a line beginning `node=` stands there
+-- a line beginning `node=` stands there, also one that the text's end breaks off within that key
 abbrev pub nodeStands : List ℕ → ℕ → Bool
-nodeStands s at = stood (after (bytes "node=") (drop at s))
+nodeStands s at = stands (bytes "node=") (drop at s)
 
 -- the next line is a further one: in closed form, behind the first; next is the least number that it may have
 abbrev pub isFurther : Bool → ℕ → Bool

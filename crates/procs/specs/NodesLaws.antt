@@ -2,12 +2,13 @@
 use Prim.Native.Nat.{ℕ, zero, suc, _+_, _-_, _≤_, _<_}
 use mathlib.Core.Path.{_≡_, refl, sym, _∙_, ap}
 use mathlib.Core.Bool.{Bool, true, false}
-use mathlib.Core.List.{List}
+use mathlib.Core.List.{List, [], _∷_}
 use native.Mathlib.Omega.{arith}
 use native.Mathlib.Numerals.{add-one}
 use lib.Dec.{ltb}
 use lib.ListN.{length, drop, set, length-set}
 use borrow.Author.Tests.{ltb-true, ltb-false, lt-ltb}
+use Rattle.table.specs.Cases.{cases}
 use Rattle.table.specs.Table.{noSlots}
 use Rattle.table.specs.declared.Node.{Node}
 use Rattle.table.specs.declared.Slot.{Slot}
@@ -16,12 +17,12 @@ use Rattle.text.specs.declared.Fault.the-variants.{Form, Index}
 use Rattle.text.specs.Number.{bytes}
 use Rattle.text.specs.Value.{check, number}
 use Rattle.text.specs.ValueLaws.{no}
-use Rattle.text.specs.Line.{took, refused, Parser, _>>=_, give, After, at as stands, differs, broken, line, lineFault}
+use Rattle.text.specs.Line.{took, refused, Parser, _>>=_, give, broken, line, lineFault}
 use Rattle.text.specs.LineLaws.{line-read}
 use Rattle.text.specs.RowLaws.{or-left}
 use Rattle.text.specs.NodeLaws.{number-fact}
 use Rattle.text.specs.Format.{Scope as Judged, nodeLine}
-use Rattle.text.specs.Reader.{rows, Numbered, nodeRow, slotOf, ifKey, furtherNodes, nodesOf}
+use Rattle.text.specs.Reader.{rows, Numbered, nodeRow, slotOf, standing, furtherNodes, nodesOf}
 use Rattle.scan.specs.declared.Found.{Found}
 use Rattle.scan.specs.declared.Found.the-variants.{At as FoundAt, Differs, Broken}
 use Rattle.scan.specs.Place.{AfterKey}
@@ -31,7 +32,7 @@ use Rattle.nodes.specs.declared.Line.the-variants.{Node as IsNode, Refused as N
 use Rattle.nodes.specs.Answer.{numbered, NodeAt}
 use Rattle.rows.specs.declared.End.the-variants.{At, Refused}
 use Rattle.procs.specs.declared.Slots.{Slots}
-use Rattle.procs.specs.Answer.{stoppedOf, stood, nodeStands, isFurther, lineDue, numberBelow, SlotsAt}
+use Rattle.procs.specs.Answer.{stoppedOf, nodeStands, isFurther, lineDue, numberBelow, SlotsAt}
 
 -- ---- a refused line; a line beginning `node=`
 module _ {r : Line} {l : List Slot} (z : l ≡ noSlots) where
@@ -41,6 +42,21 @@ module _ {r : Line} {l : List Slot} (z : l ≡ noSlots) where
   pub stopped-is : {x : Node} {j e : ℕ} → r ≡ IsNode x j e → _≡_ {A = Slots} (record { end = Refused Form; line = 0; slots = l }) (stoppedOf r)
   stopped-is q = rw (q, z)
 
+-- bytes are left
+some-left : (s : List ℕ) (at : ℕ) → at < length s → standing broken (drop at s) ≡ true
+some-left [] at h = absurd (omega arith)
+some-left (b ∷ s) zero h = refl
+some-left (b ∷ s) (suc n) h = some-left s n (omega arith)
+
+none-left : (s : List ℕ) (at : ℕ) → length s ≤ at → standing broken (drop at s) ≡ false
+none-left [] zero h = refl
+none-left [] (suc n) h = refl
+none-left (b ∷ s) zero h = absurd (omega arith)
+none-left (b ∷ s) (suc n) h = none-left s n (omega arith)
+
+left : (s : List ℕ) (at : ℕ) → ltb at (length s) ≡ standing broken (drop at s)
+left s at = cases (ltb at (length s)) (λ e. e ∙ sym (some-left s at (ltb-true at (length s) e))) (λ e. e ∙ sym (none-left s at (ltb-false at (length s) e)))
+
 module _ {s : List ℕ} {at : ℕ} {r : Found} (m : AfterKey (bytes "node=") s at r) where
   pub stands-at : {b : ℕ} → r ≡ FoundAt b → true ≡ nodeStands s at
   stands-at q = rw (← m .same, q)
@@ -48,8 +64,8 @@ module _ {s : List ℕ} {at : ℕ} {r : Found} (m : AfterKey (bytes "node=") s a
   pub stands-differs : r ≡ Differs → false ≡ nodeStands s at
   stands-differs q = rw (← m .same, q)
 
-  pub stands-broken : r ≡ Broken → false ≡ nodeStands s at
-  stands-broken q = rw (← m .same, q)
+  pub stands-broken : r ≡ Broken → ltb at (length s) ≡ nodeStands s at
+  stands-broken q = rw (← m .same, q) (left s at)
 
 -- ---- one node line
 module _ {c : Judged} {lo n : ℕ} {s : List ℕ} {p l : ℕ} {r : Line} (m : NodeAt c lo n s p l r) where
@@ -138,16 +154,6 @@ nodes-start {c} {closed} {s} {at} {line} h k few = record {
   few = few;
 }
 
-key-true : {A : Type 0} (o : After) (p q : Parser A) → stood o ≡ true → ifKey o p q ≡ p
-key-true (stands s) p q e = refl
-key-true differs p q e = no (cc)
-key-true broken p q e = no (cc)
-
-key-false : {A : Type 0} (o : After) (p q : Parser A) → stood o ≡ false → ifKey o p q ≡ q
-key-false (stands s) p q e = no (cc)
-key-false differs p q e = refl
-key-false broken p q e = refl
-
 -- one line more in each form: it was read, it was refused, or there is none
 module _ {c : Judged} {s : List ℕ} {at line : ℕ} {acc : List Slot} {p l : ℕ} where
   below-count : (closed : Bool) (next : ℕ) → Noding c closed s at line acc p l next → lineDue closed next (c .nodes) s p ≡ true → numberBelow closed next (c .nodes) ≤ c .nodes
@@ -170,7 +176,7 @@ module _ {c : Judged} {s : List ℕ} {at line : ℕ} {acc : List Slot} {p l : �
   from-took true (suc last) o d m q =
       let a : o .fuel ≡ suc (o .fuel - 1) = omega (arith, o .enough, o .count) in
       let h = node-from m q in
-      (o .fuel - 1, rw (a, key-true _ _ _ d, node-took m q) at (o .same), omega (arith, o .enough))
+      (o .fuel - 1, rw (a, d, node-took m q) at (o .same), omega (arith, o .enough))
 
   from-refused : (closed : Bool) (next : ℕ) (o : Noding c closed s at line acc p l next) → lineDue closed next (c .nodes) s p ≡ true
       → {r : Line} → NodeAt c next (numberBelow closed next (c .nodes)) s p l r → {f : Fault} {k : ℕ} → r ≡ NotNode f k → refused f l ≡ nodesOf c closed line (drop at s)
@@ -182,7 +188,7 @@ module _ {c : Judged} {s : List ℕ} {at line : ℕ} {acc : List Slot} {p l : �
   from-refused true zero o d m q = rw (node-refused m q) at (o .same)
   from-refused true (suc last) o d m q =
       let a : o .fuel ≡ suc (o .fuel - 1) = omega (arith, o .enough, o .count) in
-      rw (a, key-true _ _ _ d, node-refused m q) at (o .same)
+      rw (a, d, node-refused m q) at (o .same)
 
   from-end : (closed : Bool) (next : ℕ) (o : Noding c closed s at line acc p l next) → lineDue closed next (c .nodes) s p ≡ false → took acc l (drop p s) ≡ nodesOf c closed line (drop at s)
   unfolding rows furtherNodes
@@ -193,7 +199,7 @@ module _ {c : Judged} {s : List ℕ} {at line : ℕ} {acc : List Slot} {p l : �
   from-end true zero o d = let h : c .nodes ≤ 0 = ltb-false 0 (c .nodes) d in absurd (omega (arith, o .some))
   from-end true (suc last) o d =
       let a : o .fuel ≡ suc (o .fuel - 1) = omega (arith, o .enough, o .count) in
-      rw (a, key-false _ _ _ d) at (o .same)
+      rw (a, d) at (o .same)
 
 module _ {c : Judged} {closed : Bool} {s : List ℕ} {at line : ℕ} {acc : List Slot} {p l next : ℕ} (o : Noding c closed s at line acc p l next)
     {d : Bool} (due : d ≡ lineDue closed next (c .nodes) s p) where

@@ -98,7 +98,7 @@ fn stopped(row: nodes::Line, k: usize) -> Slots
     }
 }
 
-// Whether a line beginning `node=` stands there.
+// Whether a line beginning `node=` stands there, also one that the text's end breaks off within that key.
 fn node_stands(s: &[u8], at: usize) -> bool
     requires { ⌜ at ≤ length (now s) ⌝ }
     ensures { λ r. ⌜ r ≡ nodeStands (now (s .entry)) at ⌝ }
@@ -106,7 +106,7 @@ fn node_stands(s: &[u8], at: usize) -> bool
     match scan::after(s, at, b"node=") {
         scan::Found::At(_) => true,
         scan::Found::Differs => false,
-        scan::Found::Broken => false,
+        scan::Found::Broken => at < s.len(),
     }
 }
 

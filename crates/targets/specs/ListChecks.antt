@@ -16,7 +16,7 @@ use Rattle.text.specs.Structure.{numbered}
 use Rattle.targets.specs.MaskTests.{within-is, one-is}
 
 -- a says whether there are as many as must be, b whether all are in range
-pub list-misspelt : (one : Bool) (lo n m : ℕ) (a : Bool) → a ≡ not one || isOne (members m) → a ≡ false → 2 ≡ numbered (check (ascending one lo n) (members m))
+pub list-misspelt : (one : Bool) (lo n m : ℕ) (a : Bool) → a ≡ not one || isOne (members m) → a ≡ false → 19 ≡ numbered (check (ascending one lo n) (members m))
 unfolding check number
 list-misspelt one lo n m a p e = rw (members-ascends m, ← p, e)
 

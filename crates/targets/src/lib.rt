@@ -1,4 +1,4 @@
-// The fault of a list that is held as a mask, by document 01's number; 0 is none.
+// The fault of a list that is held as a mask, by its number; 0 is none.
 ghost use mathlib.Core.Path.{_≡_};
 ghost use mathlib.Core.Bool.{false, not, _||_};
 ghost use Prim.Native.Nat.{_≤_};

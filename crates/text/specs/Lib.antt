@@ -11,6 +11,7 @@ pub mod NumberLaws
 pub mod ValueLaws
 pub mod LineLaws
 pub mod MaskLists
+pub mod FaultLaws
 pub mod Structure
 pub mod Right
 pub mod RightLaws

@@ -78,6 +78,7 @@ judged k (some v) = verdict v (check k v)
 abbrev pub valueOf : (k : ValueKind) → Parser (Of k)
 valueOf k = λ l s. pick (ltb (run s) (length s)) (judged k (said k (take (run s) s)) l (drop (run s) s)) (refused Ended l)
 
+-- "a wrong key, key order .. or spacing", or "text that ends early"
 abbrev pub afterKey : {A : Type 0} → After → Parser A → ℕ → Outcome A
 afterKey (at s) p l = p l s
 afterKey differs p l = refused Form l

@@ -36,13 +36,13 @@ abbrev pub judgement : {A : Type 0} → A → Option Fault → Parser A
 judgement w none = λ l s. took w (suc l) s
 judgement w (some f) = λ l s. refused f l
 
-after-key : (key s : List ℕ) → after key (key ++ s) ≡ at s
+pub after-key : (key s : List ℕ) → after key (key ++ s) ≡ at s
 unfolding after
 after-key [] s = refl
 after-key (b ∷ key) s = rw (eq-eqb b b refl) (after-key key s)
 
 -- a field, where what follows stops its value
-field-write : (key : List ℕ) (k : ValueKind) → Apart k → (v : Of k) (l b : ℕ) (r : List ℕ) → stops b ≡ true
+pub field-write : (key : List ℕ) (k : ValueKind) → Apart k → (v : Of k) (l b : ℕ) (r : List ℕ) → stops b ≡ true
     → fieldOf key k l (key ++ (spell k v ++ (b ∷ r))) ≡ verdict v (check k v) l (b ∷ r)
 unfolding fieldOf
 field-write key k a v l b r e =
@@ -50,7 +50,7 @@ field-write key k a v l b r e =
     rw (after-key key (spell k v ++ (b ∷ r)), run-spell k v a b r e, lt-ltb _ _ n, take-append-seam (spell k v) (b ∷ r), drop-append-seam (spell k v) (b ∷ r), said-spell k v a)
 
 -- what follows a value begins with a byte that stops it
-begins : (d : Line) (w : Vals d) (s : List ℕ) → starts d ≡ true → (b : ℕ) × (r : List ℕ) × (write d w ++ s ≡ b ∷ r) × (stops b ≡ true)
+pub begins : (d : Line) (w : Vals d) (s : List ℕ) → starts d ≡ true → (b : ℕ) × (r : List ℕ) × (write d w ++ s ≡ b ∷ r) × (stops b ≡ true)
 unfolding write
 begins end w s e = (10, s, refl, refl)
 begins (field [] k next) w s e = no (cc)
@@ -79,7 +79,7 @@ line-write (field key k next) g w l s =
 
 -- ---- what was written where a line says something
 
-key-after : (key s r : List ℕ) → after key s ≡ at r → s ≡ key ++ r
+pub key-after : (key s r : List ℕ) → after key s ≡ at r → s ≡ key ++ r
 unfolding after
 key-after [] s r e = cc
 key-after (b ∷ key) [] r e = no (cc)

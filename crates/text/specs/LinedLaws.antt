@@ -30,7 +30,7 @@ use Rattle.text.specs.MaskLists.{members-ascends}
 use Rattle.text.specs.Right.{KindRight, Right, Rights, OperandIn, NameIn, Within}
 use Rattle.text.specs.RightLaws.{unless-is, else-is, and-is, line-is}
 use Rattle.text.specs.ArgsLaws.{names-length, name-any, name-at}
-use Rattle.text.specs.Structure.{firstOf, placeFault, nodesFault, procFault, headFault, countsFault, tasksFault, semsFault, queuesFault, procsFault, linesFault}
+use Rattle.text.specs.Structure.{firstOf, placeFault, nodesFault, lastProc, procFault, headFault, countsFault, tasksFault, semsFault, queuesFault, procsFault, linesFault}
 use Rattle.text.specs.Valid.{Named, Arc, NodeValid, ActValid, ExitValid, PartsValid, ProcValid, Lined}
 
 -- ---- the first fault of n things
@@ -84,57 +84,57 @@ node-is c j k w = (
   λ h. line-is (nodeLine c j (suc j)) (j, (k, w)) .1 ((omega arith, omega arith), h),
 )
 
-place-is : (c : Scope) (q : Proc) (j : ℕ) (x : Node) → (placeFault c q j (describe c x) ≡ none) ↔ NodeValid c j x
+place-is : (c : Scope) (isLast : Bool) (q : Proc) (j : ℕ) (x : Node) → (placeFault c isLast q j (describe c x) ≡ none) ↔ NodeValid c j x
 unfolding describe same
-place-is c q j Absent = (
+place-is c isLast q j Absent = (
   λ e. let h = and-is (c .closed) (ltb 0 j) .0 (unless-is _ _ .0 e) in (ltb-true 0 j (h .1), h .0),
   λ v. unless-is _ _ .1 (and-is (c .closed) (ltb 0 j) .1 (v .1, lt-ltb 0 j (v .0))),
 )
-place-is c q j (Start to) = (
+place-is c isLast q j (Start to) = (
   λ e. let h = node-is c j start _ .0 e in (h .0 .0, arc-is c to .0 (h .1 .0)),
   λ v. node-is c j start _ .1 ((v .0, refl), (arc-is c to .1 (v .1), tt)),
 )
-place-is c q j (Set x o a b to) = (
+place-is c isLast q j (Set x o a b to) = (
   λ e. let h = node-is c j setKind _ .0 e in (h .0 .0, h .1 .0 .1, h .1 .1 .1 .0, h .1 .1 .1 .1 .0, arc-is c to .0 (h .1 .1 .1 .1 .1 .0)),
   λ v. node-is c j setKind _ .1 ((v .0, refl), ((omega arith, v .1), (tt, (v .2, (v .3, (arc-is c to .1 (v .4), tt)))))),
 )
-place-is c q j (Test o a b y n) = (
+place-is c isLast q j (Test o a b y n) = (
   λ e. let h = node-is c j test _ .0 e in (h .0 .0, h .1 .0, h .1 .1 .0, h .1 .1 .1 .0, arc-is c y .0 (h .1 .1 .1 .1 .0), arc-is c n .0 (h .1 .1 .1 .1 .1 .0)),
   λ v. node-is c j test _ .1 ((v .0, refl), (v .1, (v .2, (v .3, (arc-is c y .1 (v .4), (arc-is c n .1 (v .5), tt)))))),
 )
-place-is c q j (Read x to) = (
+place-is c isLast q j (Read x to) = (
   λ e. let h = node-is c j read _ .0 e in (h .0 .0, h .0 .1, h .1 .0 .1, arc-is c to .0 (h .1 .1 .0)),
   λ v. node-is c j read _ .1 ((v .0, v .1), ((omega arith, v .2), (arc-is c to .1 (v .3), tt))),
 )
-place-is c q j (Call p xs to) = (
+place-is c isLast q j (Call p xs to) = (
   λ e. let h = node-is c j call _ .0 e in (h .0 .0, h .1 .0 .1, args-is c xs .0 (h .1 .1 .0), arc-is c to .0 (h .1 .1 .1 .0)),
   λ v. node-is c j call _ .1 ((v .0, refl), ((omega arith, v .1), (args-is c xs .1 (v .2), (arc-is c to .1 (v .3), tt)))),
 )
-place-is c q j (Wait s to) = (
+place-is c isLast q j (Wait s to) = (
   λ e. let h = node-is c j wait _ .0 e in (h .0 .0, h .1 .0 .1, arc-is c to .0 (h .1 .1 .0)),
   λ v. node-is c j wait _ .1 ((v .0, refl), ((omega arith, v .1), (arc-is c to .1 (v .2), tt))),
 )
-place-is c q j (Signal s to) = (
+place-is c isLast q j (Signal s to) = (
   λ e. let h = node-is c j signal _ .0 e in (h .0 .0, h .1 .0 .1, arc-is c to .0 (h .1 .1 .0)),
   λ v. node-is c j signal _ .1 ((v .0, refl), ((omega arith, v .1), (arc-is c to .1 (v .2), tt))),
 )
-place-is c q j (Send p x to) = (
+place-is c isLast q j (Send p x to) = (
   λ e. let h = node-is c j send _ .0 e in (h .0 .0, h .1 .0 .1, name-is c x .0 (h .1 .1 .0), arc-is c to .0 (h .1 .1 .1 .0)),
   λ v. node-is c j send _ .1 ((v .0, refl), ((omega arith, v .1), (name-is c x .1 (v .2), (arc-is c to .1 (v .3), tt)))),
 )
-place-is c q j (Recv p x to) = (
+place-is c isLast q j (Recv p x to) = (
   λ e. let h = node-is c j recv _ .0 e in (h .0 .0, h .1 .0 .1, name-is c x .0 (h .1 .1 .0), arc-is c to .0 (h .1 .1 .1 .0)),
   λ v. node-is c j recv _ .1 ((v .0, refl), ((omega arith, v .1), (name-is c x .1 (v .2), (arc-is c to .1 (v .3), tt)))),
 )
-place-is c q j (Assert x to) = (
+place-is c isLast q j (Assert x to) = (
   λ e. let h = node-is c j assert _ .0 e in (h .0 .0, name-is c x .0 (h .1 .0), arc-is c to .0 (h .1 .1 .0)),
   λ v. node-is c j assert _ .1 ((v .0, refl), (name-is c x .1 (v .1), (arc-is c to .1 (v .2), tt))),
 )
-place-is c q j (Out x to) = (
+place-is c isLast q j (Out x to) = (
   λ e. let h = node-is c j out _ .0 e in (h .0 .0, name-is c x .0 (h .1 .0), arc-is c to .0 (h .1 .1 .0)),
   λ v. node-is c j out _ .1 ((v .0, refl), (name-is c x .1 (v .1), (arc-is c to .1 (v .2), tt))),
 )
-place-is c q j Return = (λ e. node-is c j return _ .0 e .0 .0, λ v. node-is c j return _ .1 ((v, refl), tt))
+place-is c isLast q j Return = (λ e. node-is c j return _ .0 e .0 .0, λ v. node-is c j return _ .1 ((v, refl), tt))
 
 -- ---- parts
 
@@ -241,16 +241,16 @@ cap-is true i x = (
 proc-valid : (t : Table) (p : ℕ) → procFault t p ≡ none → ProcValid t p
 proc-valid t p e =
     let q = procAt t p in
-    let h = else-is (lineFault (procLine (t .closed) p) (procVals (t .closed) p q)) (nodesFault t q) .0 e in
+    let h = else-is (lineFault (procLine (t .closed) p) (procVals (t .closed) p q)) (nodesFault t (lastProc t p) q) .0 e in
     let l = proc-is (t .closed) p q .0 (h .0) in
-    record { params = l .0; varsLow = l .1; vars = l .2; nodesLow = l .3; nodes = l .4; drop = l .5; node = λ n u. place-is (scope t q) q n (nodeIn q n) .0 (first-none _ (q .nodes) 0 (h .1) n (omega arith) (omega arith)) }
+    record { params = l .0; varsLow = l .1; vars = l .2; nodesLow = l .3; nodes = l .4; drop = l .5; node = λ n u. place-is (scope t q) (lastProc t p) q n (nodeIn q n) .0 (first-none _ (q .nodes) 0 (h .1) n (omega arith) (omega arith)) }
 
 valid-proc : (t : Table) (p : ℕ) → ProcValid t p → procFault t p ≡ none
 valid-proc t p v =
     let q = procAt t p in
-    else-is (lineFault (procLine (t .closed) p) (procVals (t .closed) p q)) (nodesFault t q) .1 (
+    else-is (lineFault (procLine (t .closed) p) (procVals (t .closed) p q)) (nodesFault t (lastProc t p) q) .1 (
       proc-is (t .closed) p q .1 (v .params, v .varsLow, v .vars, v .nodesLow, v .nodes, v .drop),
-      none-first _ (q .nodes) 0 (λ n l u. place-is (scope t q) q n (nodeIn q n) .1 (v .node n (omega arith))),
+      none-first _ (q .nodes) 0 (λ n l u. place-is (scope t q) (lastProc t p) q n (nodeIn q n) .1 (v .node n (omega arith))),
     )
 
 -- ---- tables

@@ -3,7 +3,7 @@ use Prim.Native.Nat.{ℕ, _≤_, _<_}
 use mathlib.Core.Path.{_≡_, refl, sym, _∙_}
 use mathlib.Core.List.{List}
 use mathlib.Core.Option.{none}
-use mathlib.Core.Bool.{true}
+use mathlib.Core.Bool.{Bool, true}
 use native.Mathlib.Omega.{arith}
 use borrow.Author.Tests.{lt-ltb, le-ltb}
 use lib.ListN.{length}
@@ -14,7 +14,7 @@ use Rattle.text.specs.Line.{Line, end, field, Vals, took, lineFault}
 use Rattle.text.specs.Format.{headLine, countsLine, taskLine, semLine, queueLine, procLine, Scope, nodeLine, Described, noLine, described, describe}
 use Rattle.text.specs.Reader.{table, late, Result, good, bad, resultOf, readLines, reading, read}
 use Rattle.text.specs.Writer.{scope, tidy, faultIn, fault}
-use Rattle.text.specs.Structure.{placeFault, procFault, linesFault, tableFault}
+use Rattle.text.specs.Structure.{placeFault, lastProc, procFault, linesFault, tableFault}
 use Rattle.text.specs.RightLaws.{else-is}
 use Rattle.text.specs.LinedLaws.{none-first, lines-is}
 use Rattle.text.specs.StructureLaws.{late-fault, fault-is}
@@ -24,20 +24,20 @@ use Rattle.text.specs.TableLaws.{Lines, table-parsed}
 
 -- ---- no line has a fault
 
-line-none : (d : Line) (w : Vals d) → Faultless d w → lineFault d w ≡ none
+pub line-none : (d : Line) (w : Vals d) → Faultless d w → lineFault d w ≡ none
 unfolding lineFault
 line-none end w f = refl
 line-none (field key k next) w f = rw (f .0) (line-none (next (w .0)) (w .1) (f .1))
 
-place-none : (c : Scope) (q : Proc) (j : ℕ) (d : Described c) → FaultlessNode c j d → placeFault c q j d ≡ none
-place-none c q j noLine f = rw (f .1, lt-ltb 0 j (f .0))
-place-none c q j (described k w) f = line-none (nodeLine c j _) (j, (k, w)) f
+place-none : (c : Scope) (isLast : Bool) (q : Proc) (j : ℕ) (d : Described c) → FaultlessNode c j d → placeFault c isLast q j d ≡ none
+place-none c isLast q j noLine f = rw (f .1, lt-ltb 0 j (f .0))
+place-none c isLast q j (described k w) f = line-none (nodeLine c j _) (j, (k, w)) f
 
 proc-none : (t : Table) → Lines t → (p : ℕ) → p < t .procs → procFault t p ≡ none
 proc-none t h p l =
     let q = procAt t p in
     let c = scope t q in
-    else-is _ _ .1 (line-none (procLine (t .closed) p) _ (h .procs p l), none-first _ (q .nodes) 0 (λ j k u. place-none c q j (describe c (nodeIn q j)) (h .nodes p l j (omega arith))))
+    else-is _ _ .1 (line-none (procLine (t .closed) p) _ (h .procs p l), none-first _ (q .nodes) 0 (λ j k u. place-none c (lastProc t p) q j (describe c (nodeIn q j)) (h .nodes p l j (omega arith))))
 
 lines-none : (t : Table) → Lines t → linesFault t ≡ none
 lines-none t h = lines-is t .1 (

@@ -18,18 +18,18 @@ use Rattle.table.specs.declared.Node.the-variants.{Absent, Start, Set, Test, Re
 use Rattle.table.specs.declared.Slot.{Slot}
 use Rattle.table.specs.declared.Table.{Table}
 use Rattle.text.specs.declared.Fault.{Fault}
-use Rattle.text.specs.declared.Fault.the-variants.{Misspelt, Reference}
+use Rattle.text.specs.declared.Fault.the-variants.{Reference}
 use Rattle.text.specs.Number.{bytes}
 use Rattle.table.specs.ByKind.{by-kind}
 use Rattle.text.specs.ByWord.{by-word}
 use Rattle.text.specs.NumberLaws.{byOrder, and-left, and-right}
 use Rattle.text.specs.Value.{NodeKind, start, setKind, test, read, call, wait, signal, send, recv, assert, out, return, number, variable, ascending, arguments, spell, unless, ascends, within, isOne, noneRemoved, allDeclared, check}
 use Rattle.text.specs.ValueLaws.{no}
-use Rattle.text.specs.Line.{Vals, write, took, onto, _>>=_, give, After, at, differs, broken, after, line}
+use Rattle.text.specs.Line.{Vals, write, took, onto, give, at, after, line}
 use Rattle.text.specs.LineLaws.{line-read, onto-read, node-sound}
 use Rattle.text.specs.MaskLists.{members-set, set-members}
 use Rattle.text.specs.Format.{Scope, fields, nodeLine, variableOf, nameOf, setOf, argsOf, argNames, nodeOf, Described, noLine, described, describe}
-use Rattle.text.specs.Reader.{Numbered, nodeRow, slotOf, ifKey, furtherNodes, nodesOf, countRight}
+use Rattle.text.specs.Reader.{Numbered, nodeRow, slotOf, stands, furtherNodes, nodesOf, countRight}
 use Rattle.text.specs.Writer.{nodeText, every, isZero, argsEmpty}
 use Rattle.text.specs.ArgsLaws.{args-again}
 use Rattle.text.specs.RowLaws.{Faultless, or-left, or-right, unless-none, faultless, line-only, Rows, Row, Filled, fill-done, fill-step, rows-fill}
@@ -48,8 +48,8 @@ pub list-fact : (one : Bool) (lo n : ℕ) (xs : List ℕ) → check (ascending o
 unfolding check
 list-fact one lo n xs e =
     let a = ascends xs && (not one || isOne xs) in (
-      and-left (ascends xs) (not one || isOne xs) (unless-none a Misspelt (or-left (unless a Misspelt) (unless (within lo n xs) Reference) e)),
-      unless-none (within lo n xs) Reference (or-right (unless a Misspelt) (unless (within lo n xs) Reference) e),
+      and-left (ascends xs) (not one || isOne xs) (unless-none a _ (or-left (unless a _) (unless (within lo n xs) Reference) e)),
+      unless-none (within lo n xs) Reference (or-right (unless a _) (unless (within lo n xs) Reference) e),
     )
 
 within-more : (lo n m : ℕ) (xs : List ℕ) → n ≤ m → within lo n xs ≡ true → within lo m xs ≡ true
@@ -85,7 +85,7 @@ names-back n (some v ∷ xs) h e =
 
 args-back : (c : Bool) (n : ℕ) (xs : List (Option ℕ)) → n ≤ removed → check (arguments c n) xs ≡ none → min (length xs) 5 ≤ 4 → argNames (argsOf xs) ≡ xs
 unfolding check
-args-back c n xs h e l = go xs l (names-back n xs h (unless-none (allDeclared n xs) Reference (or-right (unless (c || noneRemoved xs) Misspelt) (unless (allDeclared n xs) Reference) e)))
+args-back c n xs h e l = go xs l (names-back n xs h (unless-none (allDeclared n xs) Reference (or-right (unless (c || noneRemoved xs) _) (unless (allDeclared n xs) Reference) e)))
   where
     go : (xs : List (Option ℕ)) → min (length xs) 5 ≤ 4 → map nameOf (map variableOf xs) ≡ xs → argNames (argsOf xs) ≡ xs
     go [] l e = e
@@ -346,13 +346,9 @@ module _ (t : Table) (c : Scope) (few-vars : c .vars ≤ removed) (few-nodes : c
       → furtherNodes c g (v .0) (set l (v .0) (record { node = nodeOf c (v .1 .0) (v .1 .1) })) k₁ s₁ ≡ took L k′ r → P) → P
   unfolding furtherNodes
   further-read zero last l k s L k′ r e stop more = stop (cc e) (cc e) (λ h. absurd (omega arith))
-  further-read {P} (suc f) last l k s L k′ r e stop more = go (after (bytes "node=") s) refl e
-    where
-      go : (o : After) → after (bytes "node=") s ≡ o
-          → ifKey o (nodeRow c (suc last) (c .nodes) >>= λ x. furtherNodes c f (x .at) (set l (x .at) (slotOf x))) (give l) k s ≡ took L k′ r → P
-      go (at x) q e = onto-read (nodeRow c (suc last) (c .nodes) k s) _ L k′ r e (λ x k₁ s₁ a b. row-read (suc last) (c .nodes) k s x k₁ s₁ a (λ v u h. more f v k₁ s₁ refl u (rw (← h) at b)))
-      go differs q e = stop (cc e) (cc e) (λ h x p. no (cc (p, q)))
-      go broken q e = stop (cc e) (cc e) (λ h x p. no (cc (p, q)))
+  further-read (suc f) last l k s L k′ r e stop more = cases (stands (bytes "node=") s)
+      (λ q. onto-read (nodeRow c (suc last) (c .nodes) k s) _ L k′ r (rw q at e) (λ x k₁ s₁ a b. row-read (suc last) (c .nodes) k s x k₁ s₁ a (λ v u h. more f v k₁ s₁ refl u (rw (← h) at b))))
+      (λ q. stop (cc (rw q at e)) (cc (rw q at e)) (λ h x p. no (cc (rw p at q))))
 
   -- places from i on, of which the first due is at least i, filled by further lines
   abbrev Further : ℕ → Type 0

@@ -6,6 +6,7 @@ use mathlib.Core.Bool.{Bool, true, false}
 use native.Mathlib.Omega.{arith}
 use lib.ListN.{length, getD, set, replicate, length-set, length-replicate}
 use lib.Pow.{pow-pos}
+use Rattle.table.specs.Mask.{pick}
 use Rattle.table.specs.MaskLaws.{maskOf-lt}
 use Rattle.table.specs.Table.{noSlot, noTask, noSem, noQueue, noProc, noSlots, outside, nodeIn, parts}
 use Rattle.table.specs.Shape.{Shaped}
@@ -15,9 +16,9 @@ use Rattle.table.specs.declared.Table.{Table}
 use Rattle.text.specs.declared.Fault.{Fault}
 use Rattle.text.specs.Number.{bytes}
 use Rattle.text.specs.Value.{NodeKind, start, setKind, test, read as reads, call, wait, signal, send, recv, assert, out, return}
-use Rattle.text.specs.Line.{Vals, Outcome, took, refused, Parser, onto, After, at, differs, broken, after, line}
+use Rattle.text.specs.Line.{Vals, Outcome, took, refused, Parser, onto, line}
 use Rattle.text.specs.Format.{headLine, countsLine, procLine, Scope, fields, nodeLine, nodeOf}
-use Rattle.text.specs.Reader.{rows, taskRow, semRow, queueRow, Numbered, nodeRow, slotOf, ifKey, furtherNodes, nodesOf, droppedBy, scopeOf, procRow, atEnd, body, table, late, good, resultOf, readLines, read}
+use Rattle.text.specs.Reader.{rows, taskRow, semRow, queueRow, Numbered, nodeRow, slotOf, stands, furtherNodes, nodesOf, droppedBy, scopeOf, procRow, atEnd, body, table, late, good, resultOf, readLines, read}
 use Rattle.text.specs.ValueLaws.{no}
 use Rattle.text.specs.TableLaws.{good-late}
 use Rattle.text.specs.ShapeLaws.{SmallArcs, absent-arcs}
@@ -37,10 +38,9 @@ gives-then : {A B : Type 0} {P : A → Type 0} {Q : B → Type 0} {o : Outcome A
 gives-then f (gives-took {a = a} {l = l} {s = s} p) k = k a l s p
 gives-then f gives-refused k = gives-refused
 
-gives-either : {A : Type 0} {P : A → Type 0} (x : After) (p q : Parser A) (l : ℕ) (s : List ℕ) → Gives P (p l s) → Gives P (q l s) → Gives P (ifKey x p q l s)
-gives-either (at r) p q l s g h = g
-gives-either differs p q l s g h = h
-gives-either broken p q l s g h = h
+gives-either : {A : Type 0} {P : A → Type 0} (b : Bool) (p q : Parser A) (l : ℕ) (s : List ℕ) → Gives P (p l s) → Gives P (q l s) → Gives P (pick b p q l s)
+gives-either true p q l s g h = g
+gives-either false p q l s g h = h
 
 -- nothing is asked of what was taken
 abbrev Any : {A : Type 0} → A → Type 0
@@ -130,7 +130,7 @@ node-then c lo n l s f = gives-then f (any-then (line (nodeLine c lo n) l s) _ (
 further-slots : (c : Scope) (f last : ℕ) (l : List Slot) → Slots l → (k : ℕ) (s : List ℕ) → Gives Slots (furtherNodes c f last l k s)
 unfolding furtherNodes
 further-slots c zero last l h k s = gives-took h
-further-slots c (suc f) last l h k s = gives-either (after (bytes "node=") s) _ _ k s
+further-slots c (suc f) last l h k s = gives-either (stands (bytes "node=") s) _ _ k s
     (node-then c (suc last) (c .nodes) k s _ (λ x k₁ s₁ p. further-slots c f (x .at) (set l (x .at) (slotOf x)) (array-set SmallSlot 32 l (x .at) (slotOf x) p h) k₁ s₁))
     (gives-took h)
 

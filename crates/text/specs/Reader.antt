@@ -23,7 +23,7 @@ use Rattle.text.specs.Value.{unless, orElse}
 use Rattle.text.specs.Line.{Vals, Outcome, took, refused, Parser, _>>=_, give, After, at, differs, broken, after, line}
 use Rattle.text.specs.Format.{headLine, countsLine, taskLine, semLine, queueLine, procLine, Scope, nodeLine, setOf, nodeOf, taskOf, semOf}
 
--- ---- "Reader, lines in order, each left to right": faults 2 to 5
+-- ---- "Reader, lines in order, each left to right": faults 2 to 5, 19 and 20
 
 -- so many lines, or groups of lines, counted up from i, each put into its place of l
 unfoldable pub rows : {A : Type 0} → (ℕ → Parser A) → ℕ → ℕ → List A → Parser (List A)
@@ -58,17 +58,22 @@ slotOf x = record { node = x .node }
 abbrev pub openNodes : Scope → Parser (List Slot)
 openNodes c = rows (λ j. nodeRow c j (suc j) >>= λ x. give (slotOf x)) (c .nodes) 0 noSlots
 
-abbrev pub ifKey : {A : Type 0} → After → Parser A → Parser A → Parser A
-ifKey (at r) p q = p
-ifKey differs p q = q
-ifKey broken p q = q
+-- a line that begins with a key stands there, also one that the text's end breaks off within the key
+abbrev pub standing : After → List ℕ → Bool
+standing (at r) s = true
+standing differs s = false
+standing broken [] = false
+standing broken (b ∷ s) = true
+
+abbrev pub stands : List ℕ → List ℕ → Bool
+stands key s = standing (after key s) s
 
 -- "each further line beginning `node=` belongs to the procedure before it"; numbers "ascend strictly from 0 and stay below n".
 -- So n is enough for the first argument, the count of lines looked at
 unfoldable pub furtherNodes : Scope → ℕ → ℕ → List Slot → Parser (List Slot)
 furtherNodes c zero last l = give l
 furtherNodes c (suc f) last l =
-    λ k s. ifKey (after (bytes "node=") s) (nodeRow c (suc last) (c .nodes) >>= λ x. furtherNodes c f (x .at) (set l (x .at) (slotOf x))) (give l) k s
+    λ k s. pick (stands (bytes "node=") s) (nodeRow c (suc last) (c .nodes) >>= λ x. furtherNodes c f (x .at) (set l (x .at) (slotOf x))) (give l) k s
 
 -- closed: the first line's number is 0
 abbrev pub closedNodes : Scope → Parser (List Slot)
@@ -95,6 +100,7 @@ procRow closed procs sems queues i =
     nodesOf (scopeOf closed procs sems queues i w) closed >>= λ l.
     give (procOf closed i w l)
 
+-- text that "carries on after its last line"
 abbrev pub atEnd : Parser (Unit {0})
 atEnd l [] = took tt l []
 atEnd l (b ∷ s) = refused Ended l
@@ -199,7 +205,7 @@ abbrev pub resultOf : Outcome Table → Result
 resultOf (took t l s) = firstLate t 1 (late t)
 resultOf (refused f l) = bad f l
 
--- what the lines of a text say, or the first of their faults 2 to 7
+-- what the lines of a text say, or the first of their faults
 unfoldable pub readLines : List ℕ → Result
 readLines s = resultOf (table 1 s)
 

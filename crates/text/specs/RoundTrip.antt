@@ -10,8 +10,9 @@ use Rattle.table.specs.Cases.{cases}
 use Rattle.table.specs.Shape.{Shaped}
 use Rattle.table.specs.declared.Table.{Table}
 use Rattle.text.specs.declared.Fault.{Fault}
-use Rattle.text.specs.declared.Fault.the-variants.{Long, Form, Misspelt, Ended, Range, Index, Reference, Arguments, Unclosed, Unused, Short}
+use Rattle.text.specs.declared.Fault.the-variants.{Long, Unused}
 use Rattle.text.specs.Fault.{number}
+use Rattle.text.specs.FaultLaws.{number-range}
 use Rattle.text.specs.Reader.{Result, good, bad, readLines, reading, read}
 use Rattle.text.specs.Writer.{text, tidy, faultIn, fault}
 use Rattle.text.specs.TableLaws.{Fitting, Lines, accepted}
@@ -27,18 +28,7 @@ read-fault s t e = ap (faultIn t) (ap readLines (read-write s t e) ∙ e) ∙ rw
 
 -- every fault has a number above 0
 fault-number : (f : Fault) → number f ≡ 0 → ⊥
-unfolding number
-fault-number Long e = omega arith
-fault-number Form e = omega arith
-fault-number Misspelt e = omega arith
-fault-number Ended e = omega arith
-fault-number Range e = omega arith
-fault-number Index e = omega arith
-fault-number Reference e = omega arith
-fault-number Arguments e = omega arith
-fault-number Unclosed e = omega arith
-fault-number Unused e = omega arith
-fault-number Short e = omega arith
+fault-number f e = omega (arith, number-range f)
 
 -- the same of texts that are not too long: where the reader's number is 0, the lines say its table
 pub read-good : (s : List ℕ) → read s .number ≡ 0 → readLines s ≡ good (read s .table)

@@ -2,14 +2,14 @@
 use Prim.Native.Nat.{ℕ, zero, suc, _-_}
 use mathlib.Core.List.{List, [], _∷_}
 use mathlib.Core.Option.{Option, none, some}
-use mathlib.Core.Bool.{_&&_}
-use lib.Dec.{ltb}
+use mathlib.Core.Bool.{Bool, _&&_}
+use lib.Dec.{ltb, leb}
 use Rattle.table.specs.Mask.{pick}
 use Rattle.table.specs.Table.{taskAt, semAt, queueAt, procAt, nodeIn, isAbsent}
 use Rattle.table.specs.declared.Proc.{Proc}
 use Rattle.table.specs.declared.Table.{Table}
 use Rattle.text.specs.declared.Fault.{Fault}
-use Rattle.text.specs.declared.Fault.the-variants.{Ended, Index, Unused}
+use Rattle.text.specs.declared.Fault.the-variants.{Form, Ended, Index, Unused}
 use Rattle.text.specs.Fault.{number}
 use Rattle.text.specs.Value.{unless, orElse}
 use Rattle.text.specs.Line.{lineFault}
@@ -27,22 +27,29 @@ unfoldable pub firstIn : List (Option Fault) → Option Fault
 firstIn [] = none
 firstIn (f ∷ fs) = orElse f (firstIn fs)
 
--- what stands where a node is due that is absent, with n places from i on behind it: a later node, whose number is not the one due;
--- else no node line, which is 2, be it another procedure's line or the text's end
-unfoldable pub gap : Proc → ℕ → ℕ → Fault
-gap q zero i = Ended
-gap q (suc n) i = pick (isAbsent (nodeIn q i)) (gap q n (suc i)) Index
+-- what stands behind a procedure's lines where a node is due: the next procedure's line, which is a wrong key, or behind the last procedure the text's end
+abbrev pub nodeDue : Bool → Fault
+nodeDue isLast = pick isLast Ended Form
 
--- place j of a procedure: only in closed form, and there behind place 0, may a node be absent
-abbrev pub placeFault : (c : Scope) → Proc → (j : ℕ) → Described c → Option Fault
-placeFault c q j noLine = unless (c .closed && ltb 0 j) (gap q (c .nodes - suc j) (suc j))
-placeFault c q j (described k w) = lineFault (nodeLine c j (suc j)) (j, (k, w))
+-- what stands where a node is due that is absent, with n places from i on behind it: a later node, whose number is not the one due; else what is behind the procedure's lines
+unfoldable pub gap : Bool → Proc → ℕ → ℕ → Fault
+gap isLast q zero i = nodeDue isLast
+gap isLast q (suc n) i = pick (isAbsent (nodeIn q i)) (gap isLast q n (suc i)) Index
 
-abbrev pub nodesFault : Table → Proc → Option Fault
-nodesFault t q = let c = scope t q in firstOf (λ j. placeFault c q j (describe c (nodeIn q j))) (q .nodes) 0
+-- place j of a procedure, the table's last or not: only in closed form, and there behind place 0, may a node be absent
+abbrev pub placeFault : (c : Scope) → Bool → Proc → (j : ℕ) → Described c → Option Fault
+placeFault c isLast q j noLine = unless (c .closed && ltb 0 j) (gap isLast q (c .nodes - suc j) (suc j))
+placeFault c isLast q j (described k w) = lineFault (nodeLine c j (suc j)) (j, (k, w))
+
+abbrev pub nodesFault : Table → Bool → Proc → Option Fault
+nodesFault t isLast q = let c = scope t q in firstOf (λ j. placeFault c isLast q j (describe c (nodeIn q j))) (q .nodes) 0
+
+-- no procedure stands behind procedure p
+abbrev pub lastProc : Table → ℕ → Bool
+lastProc t p = leb (t .procs) (suc p)
 
 abbrev pub procFault : Table → ℕ → Option Fault
-procFault t p = let q = procAt t p in orElse (lineFault (procLine (t .closed) p) (procVals (t .closed) p q)) (nodesFault t q)
+procFault t p = let q = procAt t p in orElse (lineFault (procLine (t .closed) p) (procVals (t .closed) p q)) (nodesFault t (lastProc t p) q)
 
 -- the lines, in their order
 abbrev pub headFault : Table → Option Fault

@@ -1,6 +1,6 @@
 -- The fault of a hand-made table is the fault from its parts.
 use Prim.Native.Nat.{ℕ, zero, suc, _+_, _≤_, _<_, min}
-use mathlib.Core.Path.{_≡_, refl, sym, _∙_, ap}
+use mathlib.Core.Path.{_≡_, refl, _∙_, ap}
 use mathlib.Core.List.{List, [], _∷_, _++_, List·Memᴰ·head, List·Memᴰ·tail}
 use mathlib.Core.Option.{Option, none, some}
 use mathlib.Core.Bool.{Bool, true, false, _&&_, _||_, not}
@@ -173,7 +173,7 @@ module _ (t r : Table) (s : Same t r) (v : Lined t) where
   proc-late p u = rw (callee p u .nodes)
       (ap (λ xs. none ∷ xs) (concat-same (λ n. nodeLate r (procAt r p) (nodeAt r p n)) (λ n. nodeLate t (procAt t p) (nodeAt t p n)) (procAt t p .nodes) 0 (λ n l w. node-late p n u (omega arith))))
 
-  late-same : late r ≡ late t
+  pub late-same : late r ≡ late t
   unfolding late
   late-same =
       let a : concatFrom (λ i. taskFault r i ∷ []) (r .tasks) 0 ≡ concatFrom (λ i. taskFault t i ∷ []) (t .tasks) 0 =
@@ -202,4 +202,4 @@ fault-is t = go (linesFault t) (table 1 (text t)) refl (ends-table t)
   where
     go : (c : Option Fault) (o : Outcome Table) → linesFault t ≡ c → Ends (Same t) [] c o → faultIn t (resultOf o) ≡ numbered (orElse c (orElse (firstIn (late t)) (unless (tidy t) Unused)))
     go c o e (ends-took {a = r} h) = rw (late-same t r h (lined-of t e)) (late-fault t r 1 (late t))
-    go c o e (ends-refused h) = h
+    go c o e ends-refused = refl

@@ -400,7 +400,8 @@ parsed h c ts ss qs ps l m n s s₁ s₂ s₃ s₄ s₅ a b T S Q P =
           λ ι. record { trap = trap ι; closed = closed ι; tasks = tasks ι; procs = procs ι; sems = sems ι; queues = queues ι; task = o₁ .0 ι; sem = o₂ .0 ι; queue = o₃ .0 ι; proc = o₄ .0 ι };
     }
 
-end-read : {A P : Type 0} (p : Unit {0} → Parser A) (l : ℕ) (s : List ℕ) (a : A) (l′ : ℕ) (r : List ℕ) → onto (atEnd l s) p ≡ took a l′ r → (s ≡ [] → p tt l [] ≡ took a l′ r → P) → P
+-- where something was read up to the end, nothing was left before it
+pub end-read : {A P : Type 0} (p : Unit {0} → Parser A) (l : ℕ) (s : List ℕ) (a : A) (l′ : ℕ) (r : List ℕ) → onto (atEnd l s) p ≡ took a l′ r → (s ≡ [] → p tt l [] ≡ took a l′ r → P) → P
 end-read p l [] a l′ r e then = then refl e
 end-read p l (b ∷ s) a l′ r e then = no (cc)
 

@@ -18,7 +18,7 @@ use Rattle.table.specs.declared.Args.{Args}
 use Rattle.table.specs.declared.Node.{Node}
 use Rattle.table.specs.declared.Node.the-variants.{Call}
 use Rattle.table.specs.declared.Table.{Table}
-use Rattle.text.specs.declared.Fault.the-variants.{Misspelt, Range, Reference}
+use Rattle.text.specs.declared.Fault.the-variants.{Range, Reference}
 use Rattle.table.specs.ByKind.{by-kind}
 use Rattle.text.specs.ByWord.{by-word}
 use Rattle.text.specs.Number.{digits, every}
@@ -119,7 +119,7 @@ args-short : (c : Bool) (n : ℕ) (xs : List (Option ℕ)) → n ≤ 1000 → le
 unfolding check
 args-short c n [] h k e = omega arith
 args-short c n (x ∷ xs) h k e =
-    let f = unless-none (allDeclared n (x ∷ xs)) Reference (or-right (unless (c || noneRemoved (x ∷ xs)) Misspelt) (unless (allDeclared n (x ∷ xs)) Reference) e) in
+    let f = unless-none (allDeclared n (x ∷ xs)) Reference (or-right (unless (c || noneRemoved (x ∷ xs)) _) (unless (allDeclared n (x ∷ xs)) Reference) e) in
     let a = commas-short 3 (spellVariable x) (map spellVariable xs) (names-short n (x ∷ xs) h f) in
     let d = length-map xs spellVariable in
     omega arith

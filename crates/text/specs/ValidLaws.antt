@@ -2,14 +2,13 @@
 use Prim.Native.Nat.{ℕ, zero, suc, _+_, _-_, _≤_, _<_}
 use mathlib.Core.Path.{_≡_, refl, sym, _∙_, fun-ext}
 use mathlib.Core.Logic.{_↔_, _⊎_, inl, inr}
-use mathlib.Core.List.{List, [], _∷_, _++_, List·Memᴰ, List·Memᴰ·head, List·Memᴰ·tail, List·Memᴰ·not-nil}
+use mathlib.Core.List.{List, [], _∷_, _++_, List·Memᴰ}
 use mathlib.Core.Option.{Option, none, some}
-use mathlib.Core.Bool.{Bool, true, false, true≢false, _&&_, _||_, not}
+use mathlib.Core.Bool.{Bool, true, false, _&&_, _||_, not}
 use native.Mathlib.Omega.{arith}
-use lib.Dec.{eqb}
 use lib.ListN.{getD, drop, replicate}
 use lib.Seq.{getD-drop}
-use borrow.Author.Tests.{eqb-true, eqb-false, not-true}
+use borrow.Author.Tests.{eqb-true, not-true}
 use Rattle.table.specs.Cases.{cases}
 use Rattle.table.specs.Mask.{bit, membersFrom}
 use Rattle.table.specs.Table.{noSlot, outside, taskAt, queueAt, procAt, nodeIn, nodeAt, arcs, isAbsent, parts}
@@ -18,18 +17,17 @@ use Rattle.table.specs.declared.Node.the-variants.{Absent, Start}
 use Rattle.table.specs.declared.Proc.{Proc}
 use Rattle.table.specs.declared.Table.{Table}
 use Rattle.text.specs.declared.Fault.{Fault}
-use Rattle.text.specs.declared.Fault.the-variants.{Long, Form, Misspelt, Ended, Range, Index, Reference, Arguments, Unclosed, Unused, Short}
-use Rattle.text.specs.Fault.{number}
+use Rattle.text.specs.declared.Fault.the-variants.{Arguments, Unclosed, Unused}
+use Rattle.text.specs.FaultLaws.{number-range}
 use Rattle.text.specs.NumberLaws.{byOrder, and-left, and-right, every-all, all-every}
 pub use Rattle.text.specs.TableLaws.{below-all, all-below}
 use Rattle.text.specs.ValueLaws.{no}
 use Rattle.text.specs.Value.{unless, orElse}
 use Rattle.text.specs.Reader.{allBelow, allPresent, countRight, removedRight, nodeFault, taskFault, concatFrom, nodeLate, procLate, late}
-use Rattle.text.specs.Format.{Scope}
 use Rattle.text.specs.Writer.{scope, every, isZero, slotEmpty, taskEmpty, semEmpty, queueEmpty, procEmpty, procTidy, tidy, fault}
 use Rattle.text.specs.RightLaws.{unless-is, else-is, and-is}
 use Rattle.text.specs.Structure.{firstOf, firstIn, linesFault, tableFault, numbered}
-use Rattle.text.specs.Valid.{Named, NodeValid, Valid}
+use Rattle.text.specs.Valid.{Valid}
 pub use Rattle.text.specs.NodeLaws.{absent-is}
 use Rattle.text.specs.LinedLaws.{first-none, none-first, valid-parts, lined-of, of-lined}
 pub use Rattle.text.specs.LinedLaws.{named-open}
@@ -100,13 +98,13 @@ late-node t q x =
     ))
 
 -- the tasks' and the nodes', one after another
-tasksLate : Table → Option Fault
+unfoldable pub tasksLate : Table → Option Fault
 tasksLate t = firstOf (λ i. firstIn (taskFault t i ∷ [])) (t .tasks) 0
 
-nodesLate : Table → ℕ → Option Fault
+unfoldable pub nodesLate : Table → ℕ → Option Fault
 nodesLate t p = firstOf (λ n. firstIn (nodeLate t (procAt t p) (nodeAt t p n))) (procAt t p .nodes) 0
 
-late-parts : (t : Table) → firstIn (late t) ≡ orElse (tasksLate t) (firstOf (nodesLate t) (t .procs) 0)
+pub late-parts : (t : Table) → firstIn (late t) ≡ orElse (tasksLate t) (firstOf (nodesLate t) (t .procs) 0)
 unfolding late firstIn tasksLate nodesLate
 late-parts t =
     let ts = concatFrom (λ i. taskFault t i ∷ []) (t .tasks) 0 in
@@ -118,13 +116,9 @@ late-parts t =
 
 -- ---- a table
 
-number-pos : (f : Fault) → 0 < number f
-unfolding number
-number-pos f = elim f [ Long ↦ omega arith | Form ↦ omega arith | Misspelt ↦ omega arith | Ended ↦ omega arith | Range ↦ omega arith | Index ↦ omega arith | Reference ↦ omega arith | Arguments ↦ omega arith | Unclosed ↦ omega arith | Unused ↦ omega arith | Short ↦ omega arith ]
-
-numbered-none : (f : Option Fault) → numbered f ≡ 0 → f ≡ none
+pub numbered-none : (f : Option Fault) → numbered f ≡ 0 → f ≡ none
 numbered-none none e = refl
-numbered-none (some f) e = absurd (omega (arith, number-pos f))
+numbered-none (some f) e = absurd (omega (arith, number-range f))
 
 pub valid-of : (t : Table) → fault t ≡ 0 → Valid t
 unfolding tableFault tasksLate nodesLate

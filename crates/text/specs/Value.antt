@@ -196,7 +196,7 @@ said (variable c n) s = saidVariable s
 said (ascending one lo n) s = saidList numeral s
 said (arguments c n) s = saidList saidVariable s
 
--- the fault of bytes that say nothing of a kind
+-- the fault of bytes that say nothing of a kind: "a misspelt number, operand or list", or a wrong "kind, other word"
 unfoldable pub unsaid : ValueKind → Fault
 unsaid (number lo n f) = Misspelt
 unsaid (choice a b) = Form

@@ -7,7 +7,7 @@ pub enum Fault {
     Form,
     // a misspelt number, operand or list, one out of order included
     Misspelt,
-    // early end; bytes after the end
+    // text that ends early or carries on after its last line
     Ended,
     // number outside its range
     Range,
@@ -25,14 +25,14 @@ pub enum Fault {
     Short,
 }
 
-// Document 01's number for each, as `number` in specs/ gives it.
+// The number of each, as `number` in specs/ gives it.
 pub const LONG: u8 = 1;
 
 pub const FORM: u8 = 2;
 
-pub const MISSPELT: u8 = 2;
+pub const MISSPELT: u8 = 19;
 
-pub const ENDED: u8 = 2;
+pub const ENDED: u8 = 20;
 
 pub const RANGE: u8 = 3;
 

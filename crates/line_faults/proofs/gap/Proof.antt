@@ -5,10 +5,10 @@ use Rattle.line_faults.proofs.gap.Statement.{statement}
 use Rattle.line_faults.proofs.gap.Tie as tie
 
 abbrev Inv-loop : tie.InvT-loop
-Inv-loop j q n i₀ i = GapPassed q j i
+Inv-loop last j q n i₀ i = GapPassed last q j i
 
 abbrev μ-loop : tie.MeasureT-loop
-μ-loop j q n i₀ i = q .nodes - i
+μ-loop last j q n i₀ i = q .nodes - i
 
 cast-n : tie.Need-cast-n Inv-loop μ-loop
 cast-n c = search needs
@@ -40,6 +40,9 @@ loop-again c = search (needs, gap-more)
 returns : tie.Need-returns Inv-loop μ-loop
 returns c = search (needs, gap-found)
 
+node-due-requires : tie.Need-node-due-requires Inv-loop μ-loop
+node-due-requires c κs = search needs
+
 returns-2 : tie.Need-returns-2 Inv-loop μ-loop
 returns-2 c = search (needs, gap-all)
 
@@ -59,4 +62,5 @@ gap-spec =
     loop-less
     loop-again
     returns
+    node-due-requires
     returns-2)

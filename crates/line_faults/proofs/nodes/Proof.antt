@@ -7,10 +7,10 @@ use Rattle.line_faults.proofs.nodes.Statement.{statement}
 use Rattle.line_faults.proofs.nodes.Tie as tie
 
 abbrev Inv-loop : tie.InvT-loop
-Inv-loop c q n j₀ j = Passed (placeAt (scopeIn c) q) (q .nodes) j
+Inv-loop last c q n j₀ j = Passed (placeAt (scopeIn c) last q) (q .nodes) j
 
 abbrev μ-loop : tie.MeasureT-loop
-μ-loop c q n j₀ j = q .nodes - j
+μ-loop last c q n j₀ j = q .nodes - j
 
 cast-n : tie.Need-cast-n Inv-loop μ-loop
 cast-n c = search needs
