@@ -6,6 +6,7 @@ pub mod Line
 pub mod Format
 pub mod Reader
 pub mod Writer
+pub mod Cut
 pub mod Computing
 pub mod NumberLaws
 pub mod ValueLaws
@@ -31,3 +32,7 @@ pub mod KindLaws
 pub mod RoundTrip
 pub mod ReadShaped
 pub mod TextLength
+pub mod WithoutLaws
+pub mod CutLaws
+pub mod CarryLaws
+pub mod Examples
