@@ -10,6 +10,9 @@ pub mod CloseLaws
 pub mod ClosedTableLaws
 pub mod ClosedValid
 pub mod Program
+pub mod Reasons
+pub mod ReasonLaws
 pub mod Computing
 pub mod Examples
+pub mod ReasonExamples
 pub mod ClosedShaped

@@ -19,5 +19,5 @@ fn main() {
     let mut out = [0u8; 131072];
     let k = count();
     let len = explore_words::explore_words(k, &first[..a], &second[..b], &text[..n], &mut out);
-    io::write_all(1, &out[..len]);
+    reasons::print(&out[..len]);
 }

@@ -2,7 +2,6 @@
 // is refused gives `refused=N line=L`.
 
 use libc::STDIN_FILENO;
-use libc::STDOUT_FILENO;
 
 // Room for the longest graphs.
 fn room() -> [u8; 917000] {
@@ -14,5 +13,5 @@ fn main() {
     let n = io::read_full(STDIN_FILENO, &mut text);
     let mut out = room();
     let len = graphs::graph_text(&text[..n], &mut out);
-    io::write_all(STDOUT_FILENO, &out[..len]);
+    reasons::print(&out[..len]);
 }

@@ -1,3 +1,4 @@
 pub mod Label
 pub mod LabelLaws
 pub mod Graph
+pub mod ReasonLaws

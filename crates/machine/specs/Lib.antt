@@ -13,3 +13,4 @@ pub mod StopLaws
 pub mod ClosedStep
 pub mod ClosedRun
 pub mod WordLaws
+pub mod ReasonLaws

@@ -36,7 +36,7 @@ and-false false = refl
 -- ---- numbers
 
 -- a number that is outside where it is capped is outside, and one that is inside is not capped
-pub outside : (lo n x v : ℕ) → capped x ≡ v → n ≤ 256 → (v < lo) ⊎ (n ≤ v) → leb lo x && ltb x n ≡ false
+pub outside : (lo n x v : ℕ) → capped x ≡ v → n ≤ 4294967296 → (v < lo) ⊎ (n ≤ v) → leb lo x && ltb x n ≡ false
 outside lo n x v c u (inl l) =
     byOrder x 4294967296 (λ s. rw (lt-leb lo x (omega arith))) (λ g. rw (le-ltb x n (omega arith), and-false (leb lo x)))
 outside lo n x v c u (inr l) = rw (le-ltb x n (omega arith), and-false (leb lo x))
@@ -46,7 +46,7 @@ module _ (t : List ℕ) (e lo n : ℕ) (f : Fault) {w : Num} (d : w ≡ numberOf
   unfolding said unsaid
   number-bad h = record { same = λ l s. rw (spelt-bad t d h); ends = tt }
 
-  module _ {v : ℕ} (h : w ≡ Good v) (u : n ≤ 256) where
+  module _ {v : ℕ} (h : w ≡ Good v) (u : n ≤ 4294967296) where
     number-out : (v < lo) ⊎ (n ≤ v) → NumberSaid lo n f t e (Not f)
     unfolding said check
     number-out k = record { same = λ l s. rw (spelt-good t d h .0, outside lo n (value t) v (spelt-good t d h .1) u k); ends = tt }
@@ -86,7 +86,7 @@ module _ (lo n : ℕ) (f : Fault) (v e : ℕ) where
   unfolding withinOf
   is-good k g = rw (le-leb lo v k, lt-ltb v n g)
 
-  within-said : (t : List ℕ) → Good v ≡ numberOf t → n ≤ 256 → NumberSaid lo n f t e (withinOf lo n f v e)
+  within-said : (t : List ℕ) → Good v ≡ numberOf t → n ≤ 4294967296 → NumberSaid lo n f t e (withinOf lo n f v e)
   within-said t d u =
       byOrder v lo
       (λ k. rw (← is-low k) (number-low t e lo n f d refl u k))
@@ -101,10 +101,14 @@ module _ {s : List ℕ} {at : ℕ} {r : Numeral} (m : NumeralAt s at r) where
       reach (Is v p) h g = (rw (h .0) g, h .1, h .2)
       reach (Not f) h g = tt
 
-  pub number-is : {lo n : ℕ} {f : Fault} {v e : ℕ} {a : Number} → r ≡ IsNumeral v e → n ≤ 256 → a ≡ withinOf lo n f v e → NumberIn lo n f s at a
-  number-is {lo} {n} {f} {v} {e} q u d =
+  pub number-wide : {lo n : ℕ} {f : Fault} {v e : ℕ} {a : Number} → r ≡ IsNumeral v e → n ≤ 4294967296 → a ≡ withinOf lo n f v e → NumberIn lo n f s at a
+  number-wide {lo} {n} {f} {v} {e} q u d =
       let i : NumeralTo s at e (Good v) = rw q at (m .is) in
       rw d (number-to (i .run) (i .inside) (within-said lo n f v e (take (e - at) (drop at s)) (i .same) u))
+
+  -- a number of a byte
+  pub number-is : {lo n : ℕ} {f : Fault} {v e : ℕ} {a : Number} → r ≡ IsNumeral v e → n ≤ 256 → a ≡ withinOf lo n f v e → NumberIn lo n f s at a
+  number-is q u d = number-wide q (omega arith) d
 
   pub number-none : (lo n : ℕ) (f : Fault) → r ≡ BadNumeral → NumberIn lo n f s at (Not Misspelt)
   number-none lo n f q =

@@ -41,5 +41,5 @@ fn main() {
         &text[..n],
         &mut out,
     );
-    io::write_all(1, &out[..len]);
+    reasons::print(&out[..len]);
 }

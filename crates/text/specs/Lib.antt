@@ -35,4 +35,5 @@ pub mod TextLength
 pub mod WithoutLaws
 pub mod CutLaws
 pub mod CarryLaws
+pub mod RefusalLaws
 pub mod Examples

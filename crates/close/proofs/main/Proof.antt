@@ -34,12 +34,12 @@ array-share-prefix-out : tie.Need-array-share-prefix-out
 array-share-prefix-out c = search needs
 
 -- src/main.rt:7:22
-slice-aggregate-write-all : tie.Need-slice-aggregate-write-all
-slice-aggregate-write-all c = let e = c .before .before .close-text .ensures in sym (length-take-le _ _ (omega (arith, e .few, e .next, e .same)))
+slice-aggregate-print : tie.Need-slice-aggregate-print
+slice-aggregate-print c = let e = c .before .before .close-text .ensures in sym (length-take-le _ _ (omega (arith, e .few, e .next, e .same)))
 
 -- src/main.rt:7:5
-write-all-requires : tie.Need-write-all-requires
-write-all-requires c κs = search needs
+print-requires : tie.Need-print-requires
+print-requires c κs = search needs
 
 -- src/main.rt:2:1
 returns : tie.Need-returns
@@ -56,6 +56,6 @@ main-spec =
     slice-aggregate-close-text-2
     close-text-requires
     array-share-prefix-out
-    slice-aggregate-write-all
-    write-all-requires
+    slice-aggregate-print
+    print-requires
     returns)

@@ -53,11 +53,11 @@ explore-words-requires c κs = search needs
 array-share-prefix-out : tie.Need-array-share-prefix-out
 array-share-prefix-out c = let e = c .before .explore-words .ensures in omega (arith, e .few, e .next, e .same)
 
-slice-aggregate-write-all : tie.Need-slice-aggregate-write-all
-slice-aggregate-write-all c = let e = c .before .before .explore-words .ensures in sym (length-take-le _ _ (omega (arith, e .few, e .next, e .same)))
+slice-aggregate-print : tie.Need-slice-aggregate-print
+slice-aggregate-print c = let e = c .before .before .explore-words .ensures in sym (length-take-le _ _ (omega (arith, e .few, e .next, e .same)))
 
-write-all-requires : tie.Need-write-all-requires
-write-all-requires c κs = search needs
+print-requires : tie.Need-print-requires
+print-requires c κs = search needs
 
 returns : tie.Need-returns
 returns c = search needs
@@ -82,6 +82,6 @@ main-spec =
     slice-aggregate-explore-words-4
     explore-words-requires
     array-share-prefix-out
-    slice-aggregate-write-all
-    write-all-requires
+    slice-aggregate-print
+    print-requires
     returns)

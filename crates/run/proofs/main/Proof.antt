@@ -80,11 +80,11 @@ run-words-requires c κs = search needs
 array-share-prefix-out : tie.Need-array-share-prefix-out
 array-share-prefix-out c = fits 4400000 ((c .before .before .before .before .before .before .before .before .before .out-buffer) .ensures) ((c .before .run-words) .ensures)
 
-slice-aggregate-write-all : tie.Need-slice-aggregate-write-all
-slice-aggregate-write-all c = sym (length-take-le _ _ (fits 4400000 ((c .before .before .before .before .before .before .before .before .before .before .out-buffer) .ensures) ((c .before .before .run-words) .ensures)))
+slice-aggregate-print : tie.Need-slice-aggregate-print
+slice-aggregate-print c = sym (length-take-le _ _ (fits 4400000 ((c .before .before .before .before .before .before .before .before .before .before .out-buffer) .ensures) ((c .before .before .run-words) .ensures)))
 
-write-all-requires : tie.Need-write-all-requires
-write-all-requires c κs = search needs
+print-requires : tie.Need-print-requires
+print-requires c κs = search needs
 
 returns : tie.Need-returns
 returns c = search needs
@@ -118,6 +118,6 @@ main-spec =
     slice-aggregate-run-words-6
     run-words-requires
     array-share-prefix-out
-    slice-aggregate-write-all
-    write-all-requires
+    slice-aggregate-print
+    print-requires
     returns)
