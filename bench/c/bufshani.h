@@ -1,7 +1,9 @@
 /* The proved libraries for C: target/staticlib/libbufshani_c.a, made by `rt staticlib bufshani_c`,
    and for `bufshani_explore` target/staticlib/libexplore_c.a, made by `rt staticlib explore_c`.
    A lent slice is a pointer, which is not NULL, and a length. Every call ends; it reads and writes
-   only what is lent to it. A buffer that is written overlaps no other slice of the call. */
+   only what is lent to it. A buffer that is written overlaps no other slice of the call.
+   Numbers are those of documents 01 and 02: a text is refused by 1 to 7, 19 or 20, a short buffer by
+   8; a run stops by 10 to 16. */
 #ifndef BUFSHANI_H
 #define BUFSHANI_H
 
@@ -29,8 +31,8 @@ size_t bufshani_run(const uint8_t *text, size_t text_len, const uint8_t *schedul
                     size_t schedule_len, const int32_t *values, size_t values_len, size_t most,
                     uint8_t *log, size_t log_len, uint8_t *out, size_t out_len);
 
-/* The run with no report, in all of the log: the stop number times 2^32 plus the steps completed,
-   modulo 2^32; or the refusal of the text. */
+/* The run with no report, in all of the log: the stop number, 0 when the schedule ends, times 2^32
+   plus the steps completed, modulo 2^32; or the refusal of the text. */
 uint64_t bufshani_steps(const uint8_t *text, size_t text_len, const uint8_t *schedule,
                         size_t schedule_len, const int32_t *values, size_t values_len, size_t most,
                         uint8_t *log, size_t log_len);

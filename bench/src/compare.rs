@@ -3,11 +3,11 @@
 use crate::generate::explorations::Limits;
 use crate::generate::{self, extremes, Case, Kind, KINDS};
 use crate::plain::explore::DEPTH;
+use crate::plain::fault::{Fault, Refusal};
 use crate::plain::programs::{close_text, explore_text, run_text, steps_text, write_text, LOG};
 use crate::plain::read::read;
 use crate::plain::run::ENTRY;
 use crate::plain::table::Table;
-use crate::plain::Refusal;
 use crate::proved;
 use crate::random::Random;
 use crate::vectors::Words;
@@ -34,7 +34,7 @@ const BOUND: u64 = 100_000;
 struct Tally {
     kinds: [u64; KINDS.len()],
     accepted: [u64; KINDS.len()],
-    numbers: [u64; 19],
+    numbers: [u64; Fault::LAST.number() as usize + 1],
     runs: u64,
     completed: u64,
     steps: u64,
@@ -116,7 +116,7 @@ fn stride(cases: u64, seed: u64, part: u64, threads: u64) -> Tally {
     tally
 }
 
-/// Every cut of a few texts, open and closed.
+/// Every cut of a few texts, open and closed, and each with another last byte.
 fn every_cut(seed: u64, tally: &mut Tally) {
     let mut r = Random::new(seed);
     let mut buffers = Buffers::new(1 << 18);
@@ -130,10 +130,17 @@ fn every_cut(seed: u64, tally: &mut Tally) {
     for (i, table) in tables.iter().enumerate() {
         let text = generate::lines_of(table);
         for len in 0..=text.len() {
-            let case = generate::with_run(Kind::Cut, text[..len].to_vec(), &mut r);
-            tally.case(&case, &mut buffers, || {
-                format!("text {i} of seed {seed} cut at {len}")
-            });
+            let cut = text[..len].to_vec();
+            let mut wrong = cut.clone();
+            if let Some(last) = wrong.last_mut() {
+                *last = last.wrapping_add(r.pick(&[1, 2, 255]));
+            }
+            for text in [cut, wrong] {
+                let case = generate::with_run(Kind::Cut, text, &mut r);
+                tally.case(&case, &mut buffers, || {
+                    format!("text {i} of seed {seed} cut at {len}")
+                });
+            }
         }
     }
 }
@@ -273,8 +280,8 @@ impl Tally {
         mine.fill(FILL);
         other.fill(FILL);
         let expected = write_text(&case.text, mine);
-        if let Err(Refusal { number: 8, .. }) = expected {
-            self.count(8);
+        if expected.is_err_and(|refusal| refusal.is(Fault::Buffer)) {
+            self.count(Fault::Buffer.number());
         }
         if let Ok(len) = expected {
             if mine[..len] != case.text {
@@ -288,8 +295,9 @@ impl Tally {
     fn close_same(&mut self, case: &Case, buffers: &mut Buffers) -> bool {
         let [mine, other] = &mut buffers.out;
         let len = close_text(&case.text, mine);
-        if mine[..len].starts_with(b"refused=9 ") {
-            self.count(9);
+        let [number, ..] = first_line(&mine[..len]);
+        if mine.starts_with(b"refused=") && number == Fault::OtherForm.number() as u64 {
+            self.count(Fault::OtherForm.number());
         }
         let other = &mut other[..room_for(len, case.room)];
         other.fill(FILL);

@@ -28,11 +28,11 @@ pub enum Kind {
     Full,
     /// Single bytes of a valid text changed, removed or added.
     Bytes,
-    /// A valid text cut.
+    /// A valid text cut, and wrong before the cut sometimes.
     Cut,
     /// Values replaced or changed, huge numbers and disordered lists among them.
     Values,
-    /// Lines swapped, doubled, removed or moved.
+    /// Lines swapped, doubled, removed or moved, those at a procedure's end more often.
     Lines,
     /// Argument counts, targets and `-` changed, so that four in ten break the rules 6 and 7.
     Rules,
@@ -50,11 +50,11 @@ pub const KINDS: [(Kind, usize, &str); 12] = [
     (Kind::Busy, 24, "busy"),
     (Kind::Full, 2, "full"),
     (Kind::Bytes, 30, "bytes"),
-    (Kind::Cut, 12, "cut"),
+    (Kind::Cut, 24, "cut"),
     (Kind::Values, 40, "values"),
     (Kind::Lines, 18, "lines"),
     (Kind::Rules, 24, "rules"),
-    (Kind::Tail, 4, "tail"),
+    (Kind::Tail, 8, "tail"),
     (Kind::Noise, 4, "noise"),
 ];
 
@@ -143,7 +143,7 @@ fn text_of(kind: Kind, r: &mut Random) -> Vec<u8> {
             let mut text = lines_of(&tables::any(size, r));
             match kind {
                 Kind::Bytes => damage::bytes(&mut text, r),
-                Kind::Cut => text.truncate(r.below(text.len())),
+                Kind::Cut => damage::cut(&mut text, r),
                 Kind::Values => damage::values(&mut text, r),
                 Kind::Lines => damage::lines(&mut text, r),
                 _ => damage::tail(&mut text, r),

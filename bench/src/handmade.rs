@@ -4,6 +4,7 @@ use crate::generate::{lines_of, tables};
 use crate::plain::check::check;
 use crate::plain::close::close;
 use crate::plain::explore::explore;
+use crate::plain::fault::{Fault, Refusal};
 use crate::plain::read::read;
 use crate::plain::run::{run, State};
 use crate::plain::table::*;
@@ -12,7 +13,7 @@ use crate::random::Random;
 
 /// Checks so many tables from a seed on; whether none is judged otherwise than its lines.
 pub fn handmade(cases: u64, seed: u64) -> bool {
-    let mut numbers = [0u64; 10];
+    let mut numbers = [0u64; Fault::LAST.number() as usize + 1];
     let mut differ = 0;
     for case_seed in seed..seed.wrapping_add(cases) {
         let mut r = Random::new(case_seed);
@@ -29,7 +30,9 @@ pub fn handmade(cases: u64, seed: u64) -> bool {
         }
     }
     for (number, times) in numbers.iter().enumerate() {
-        println!("number={number} met={times}");
+        if *times > 0 {
+            println!("number={number} met={times}");
+        }
     }
     println!("tables={cases} differ={differ}");
     differ == 0
@@ -40,14 +43,14 @@ fn number_of_lines(table: &Table) -> u8 {
     let mut again = Table::default();
     match read(&lines_of(table), &mut again) {
         Err(refusal) => refusal.number,
-        Ok(()) if again != *table => 2,
+        Ok(()) if again != *table => Fault::Form.number(),
         Ok(()) => 0,
     }
 }
 
 /// Whether each call first refuses a table by the number, with line 0, and alters nothing.
 fn calls_agree(table: &Table, number: u8) -> bool {
-    let judged = |result: Result<(), crate::plain::Refusal>| match result {
+    let judged = |result: Result<(), Refusal>| match result {
         Ok(()) => 0,
         Err(refusal) if refusal.line == 0 => refusal.number,
         Err(_) => u8::MAX,
@@ -61,7 +64,11 @@ fn calls_agree(table: &Table, number: u8) -> bool {
     let answer = run(table, &[0], &[], 0, &mut log, &mut state);
     let explored = judged(explore(table, usize::MAX, 0).map(|_| ()));
     if number == 0 {
-        let due = if table.closed { (9, 17) } else { (0, 9) };
+        let (other, depth) = (Fault::OtherForm.number(), Fault::Depth.number());
+        let due = match table.closed {
+            true => (other, depth),
+            false => (0, other),
+        };
         return judged(check(table)) == 0 && (closing, explored) == due && written == 0;
     }
     judged(check(table)) == number
@@ -77,7 +84,7 @@ fn calls_agree(table: &Table, number: u8) -> bool {
 /// Changes one field of a table.
 fn change(t: &mut Table, r: &mut Random) {
     let i = r.below(PROCS);
-    match r.below(14) {
+    match r.below(15) {
         0 => {
             let value = r.pick(&[0, 1, 2, 4, 5, 8, 9, 255]);
             let counts = [
@@ -102,6 +109,11 @@ fn change(t: &mut Table, r: &mut Random) {
         7 => t.procs[i].vars = r.below(18) as u8,
         8 => t.procs[i].count = r.below(34) as u8,
         9 => t.closed ^= r.once_in(3),
+        10 => {
+            let i = r.below(t.proc_count.clamp(1, 8) as usize);
+            let count = t.procs[i].count.clamp(1, 32) as usize;
+            t.procs[i].nodes[r.below(count)..].fill(Node::Absent);
+        }
         _ => {
             let i = r.below(t.proc_count.clamp(1, 8) as usize);
             let count = t.procs[i].count.clamp(1, 31) as usize;

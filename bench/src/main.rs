@@ -16,7 +16,7 @@ mod vectors;
 use std::path::Path;
 use std::process::ExitCode;
 
-const USAGE: &str = "usage: bench vectors DIR
+const USAGE: &str = "usage: bench vectors DIR [MOVED ..]
        bench compare [CASES] [SEED]
        bench show SEED
        bench handmade [CASES SEED]
@@ -39,7 +39,7 @@ fn main() -> ExitCode {
 fn command(words: &[String]) -> Result<bool, String> {
     let words: Vec<&str> = words.iter().map(String::as_str).collect();
     match words[..] {
-        ["vectors", dir] => vectors::compare(Path::new(dir)),
+        ["vectors", dir, ref lists @ ..] => vectors::compare(Path::new(dir), lists),
         ["compare"] => Ok(compare::compare(1_000_000, 1)),
         ["compare", cases] => Ok(compare::compare(number(cases)?, 1)),
         ["compare", cases, seed] => Ok(compare::compare(number(cases)?, number(seed)?)),

@@ -2,7 +2,7 @@
 //! its length. Without the libraries (`--features plain-only`) the plain implementation stands in.
 
 #[cfg(proved)]
-use crate::plain::Refusal;
+use crate::plain::fault::{Fault, Refusal};
 
 /// Whether the proved libraries are linked.
 pub const LINKED: bool = cfg!(proved);
@@ -75,9 +75,8 @@ mod ffi {
 fn refusal(answer: u64) -> Option<Refusal> {
     let number = (answer >> 32) as u8;
     let line = answer as u32;
-    (1..=8)
-        .contains(&number)
-        .then_some(Refusal { number, line })
+    let stops = Fault::NoTask.number()..=Fault::Toss.number();
+    (number != 0 && !stops.contains(&number)).then_some(Refusal { number, line })
 }
 
 /// Reads a text.
@@ -174,7 +173,7 @@ pub use stand_in::*;
 
 #[cfg(not(proved))]
 mod stand_in {
-    use crate::plain::{programs, Refusal};
+    use crate::plain::{fault::Refusal, programs};
 
     pub use programs::{
         close_text as close, explore_text as explore, read_text as read, run_text as run,

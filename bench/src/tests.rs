@@ -6,11 +6,11 @@ use crate::generate::{extremes, lines_of};
 use crate::plain::check::check;
 use crate::plain::close::close_valid;
 use crate::plain::explore::{explore_valid, Found, DEPTH};
+use crate::plain::fault::{Fault, Refusal};
 use crate::plain::programs::{close_text, explore_text, read_text, run_text, write_text};
 use crate::plain::read::read;
 use crate::plain::run::{run_valid, Answer, Machine, State};
 use crate::plain::table::{Node, Op, Table, GONE, PARAMS};
-use crate::plain::Refusal;
 use crate::random::Random;
 use crate::{compare, handmade, naive};
 
@@ -97,31 +97,219 @@ fn a_dropped_cycle_leads_to_none() {
 
 #[test]
 fn faults_and_lines() {
-    assert_eq!(refusal(""), (2, 1));
+    assert_eq!(refusal(""), (20, 1));
     assert_eq!(refusal("\n"), (2, 1));
     assert_eq!(refusal(&small("33")), (3, 4));
     assert_eq!(refusal(&small("1")), (3, 4));
     assert_eq!(refusal(&with("to=1\n", "to=0\n")), (5, 6));
     assert_eq!(refusal(&with("b=100", "b=2147483648")), (3, 9));
-    assert_eq!(refusal(&with("b=100", "b=-0")), (2, 9));
+    assert_eq!(refusal(&with("b=100", "b=-0")), (19, 9));
     assert_eq!(refusal(&with("tasks=1", "tasks=9\n")), (3, 2));
-    assert_eq!(refusal("trap=1 form=open\ntasks=9"), (2, 2));
+    assert_eq!(refusal("trap=1 form=open\ntasks=9"), (20, 2));
     assert_eq!(refusal("trap=1 form=open\ntasks=9 "), (3, 2));
     assert_eq!(
         refusal(&with("node=1", "node=99999999999999999999")),
         (4, 7)
     );
     assert_eq!(refusal(&with("to=7", "to=99999999999999999999")), (5, 11));
-    assert_eq!(refusal(&with("to=7", "to=99,x")), (2, 11));
-    assert_eq!(refusal(&(OPEN.to_string() + "\n")), (2, 14));
-    assert_eq!(refusal(&OPEN[..OPEN.len() - 1]), (2, 13));
+    assert_eq!(refusal(&with("to=7", "to=99,x")), (19, 11));
+    assert_eq!(refusal(&(OPEN.to_string() + "\n")), (20, 14));
+    assert_eq!(refusal(&OPEN[..OPEN.len() - 1]), (20, 13));
     assert_eq!(refusal(&"x".repeat(65_537)), (1, 0));
     let list = |items: &str| refusal(&CLOSED.replace("to=4,5", &format!("to={items}")));
     let large = "99999999999999999998,99999999999999999999";
     assert_eq!(list(large), (5, 7));
-    assert_eq!(list("99999999999999999999,99999999999999999998"), (2, 7));
-    assert_eq!(list("4,4"), (2, 7));
+    assert_eq!(list("99999999999999999999,99999999999999999998"), (19, 7));
+    assert_eq!(list("4,4"), (19, 7));
     assert_eq!(list("3"), (7, 7));
+}
+
+/// A closed text of two procedures.
+const TWO: &str = "\
+trap=1 form=closed
+tasks=1 procs=2 sems=1 queues=1
+task=0 top=0
+sem=0 count=1
+queue=0 cap=1 blank=no
+proc=0 params=2 vars=2 nodes=3 drop=0,1
+node=0 kind=start to=1,2
+node=1 kind=call proc=1 args=none to=2
+node=2 kind=return
+proc=1 params=0 vars=1 nodes=4 drop=none
+node=0 kind=start to=2
+node=2 kind=out var=0 to=none
+";
+
+/// What a text is refused by with one piece in place of another.
+fn changed(text: &str, old: &str, new: &str) -> (u8, u32) {
+    assert!(text.contains(old), "{old}");
+    refusal(&text.replacen(old, new, 1))
+}
+
+/// A text up to a piece, with another behind it.
+fn cut(text: &str, piece: &str, behind: &str) -> (u8, u32) {
+    let at = text.find(piece).expect("the piece is there");
+    refusal(&(text[..at].to_string() + behind))
+}
+
+#[test]
+fn wrong_words_have_number_2() {
+    for (old, new, line) in [
+        ("op=add", "op=mul", 8),
+        ("op=lt", "op=add", 9),
+        ("form=open", "form=Open", 1),
+        ("form=open", "form=", 1),
+        ("form=open", "form=open\r", 1),
+        ("kind=wait", "kind=await", 10),
+        ("kind=return", "kind=return\r", 13),
+        ("tasks=1 ", "tasks=1  ", 2),
+        ("tasks=1 ", "tasks=1\n", 2),
+        ("top=0\n", "top=0 \n", 3),
+        ("tasks=", "task=", 2),
+        ("var=1 op=add", "op=add var=1", 8),
+    ] {
+        assert_eq!(changed(OPEN, old, new), (2, line), "{new}");
+    }
+    assert_eq!(changed(TWO, "blank=no", "blank=maybe"), (2, 5));
+    assert_eq!(changed(TWO, "kind=out", "kind=read"), (2, 12));
+    assert_eq!(refusal("\n"), (2, 1));
+}
+
+#[test]
+fn misspelt_values_have_number_19() {
+    for (old, new, line) in [
+        ("trap=1", "trap=01", 1),
+        ("tasks=1", "tasks=", 2),
+        ("node=1 ", "node=x ", 7),
+        ("var=1", "var=v0", 8),
+        ("a=v2", "a=V0", 8),
+        ("a=v2", "a=-0", 8),
+        ("var=0 to=7", "var=- to=7", 11),
+        ("to=7", "to=4,5", 11),
+        ("to=7", "to=none", 11),
+        ("to=2\n", "to=2\r\n", 7),
+        ("sem=0 to=6", "sem=-1 to=6", 10),
+    ] {
+        assert_eq!(changed(OPEN, old, new), (19, line), "{new}");
+    }
+    for (old, new, line) in [
+        ("args=none", "args=x", 8),
+        ("args=none", "args=-,", 8),
+        ("drop=0,1", "drop=nono", 6),
+        ("drop=0,1", "drop=none,1", 6),
+        ("drop=0,1", "drop=0,", 6),
+        ("drop=0,1", "drop=1,0", 6),
+        ("drop=0,1", "drop=0,0", 6),
+        ("drop=0,1", "drop=9,x", 6),
+        ("to=1,2", "to=1,", 7),
+        ("to=1,2", "to=2,1", 7),
+        ("to=1,2", "to=1,1", 7),
+        ("to=1,2", "to=99,1", 7),
+    ] {
+        assert_eq!(changed(TWO, old, new), (19, line), "{new}");
+    }
+    assert_eq!(changed(TWO, "drop=0,1", "drop=0,9"), (5, 6));
+    assert_eq!(refusal("trap=1 form=open\ntasks=x "), (19, 2));
+}
+
+#[test]
+fn early_ends_have_number_20() {
+    assert_eq!(refusal(""), (20, 1));
+    assert_eq!(refusal("trap=1 form=open\ntasks=x"), (20, 2));
+    assert_eq!(refusal("trap=1 form=Op"), (20, 1));
+    for behind in ["node=7 ki", "node=7 ", "node=7", "node=x", "no", ""] {
+        assert_eq!(cut(OPEN, "node=7", behind), (20, 13), "{behind}");
+    }
+    for behind in ["node=7 kx", "nox", "proc", "\n"] {
+        assert_eq!(cut(OPEN, "node=7", behind), (2, 13), "{behind}");
+    }
+    for len in 0..OPEN.len() {
+        assert_eq!(refusal(&OPEN[..len]).0, 20, "{len}");
+    }
+}
+
+/// In closed text a further node or the next procedure may stand behind a node's line.
+#[test]
+fn cuts_within_node_have_number_20() {
+    for before in ["node=1 kind=call", "node=2 kind=return", "proc=1 params"] {
+        let line = match before {
+            "node=1 kind=call" => 8,
+            "node=2 kind=return" => 9,
+            _ => 10,
+        };
+        for behind in ["", "n", "no", "nod", "node", "node=", "p", "proc", "proc="] {
+            assert_eq!(cut(TWO, before, behind), (20, line), "{behind}");
+        }
+        for behind in ["nox", "nodf", "x", "\n", "prod", "node\n", " "] {
+            assert_eq!(cut(TWO, before, behind), (2, line), "{behind}");
+        }
+        assert_eq!(cut(TWO, before, "node=x "), (19, line));
+    }
+    for behind in ["", "no", "node", "pro", "proc=1"] {
+        let number = if "node=".starts_with(behind) { 20 } else { 2 };
+        assert_eq!(cut(TWO, "node=0 kind=start to=2", behind), (number, 11));
+    }
+}
+
+#[test]
+fn bytes_after_the_end_have_number_20() {
+    let tails = ["n", "nod", "nox", "proc=", "proc=2 ", "\n", " ", "\0", "x"];
+    for behind in tails {
+        assert_eq!(refusal(&(OPEN.to_string() + behind)), (20, 14), "{behind}");
+        assert_eq!(refusal(&(TWO.to_string() + behind)), (20, 13), "{behind}");
+    }
+    assert_eq!(refusal(&(OPEN.to_string() + "node=8 ")), (20, 14));
+    let further = |line: &str| refusal(&(TWO.to_string() + line));
+    assert_eq!(further("node=3 kind=return\n"), (0, 0));
+    assert_eq!(further("node=3 kind=return"), (20, 13));
+    assert_eq!(further("node=4 "), (4, 13));
+    assert_eq!(further("node=2 "), (4, 13));
+    assert_eq!(further("node=x "), (19, 13));
+    assert_eq!(further("node=x"), (20, 13));
+    assert_eq!(further("node=3 kx"), (2, 13));
+}
+
+/// The fault of a table after a change by hand.
+fn by_hand(text: &str, change: impl Fn(&mut Table)) -> u8 {
+    let mut table = Table::default();
+    assert_eq!(read(text.as_bytes(), &mut table), Ok(()));
+    change(&mut table);
+    check(&table).map_or_else(|refusal| refusal.number, |()| 0)
+}
+
+#[test]
+fn faults_of_hand_made_tables() {
+    let start = |to| by_hand(OPEN, |t| t.procs[0].nodes[0] = Node::Start { to });
+    assert_eq!((start(2), start(6), start(0), start(1)), (0, 19, 19, 5));
+    let out = |text, var| {
+        by_hand(text, |t| {
+            t.procs[0].nodes[5] = Node::Out { var, to: 1 << 7 }
+        })
+    };
+    assert_eq!((out(OPEN, GONE), out(CLOSED, GONE)), (19, 0));
+    let absent = |text, proc: usize, nodes: std::ops::Range<usize>| {
+        by_hand(text, |t| {
+            t.procs[proc].nodes[nodes.clone()].fill(Node::Absent)
+        })
+    };
+    let two_open = TWO
+        .replace("closed", "open")
+        .replace(" blank=no", "")
+        .replace(" drop=0,1", "")
+        .replace(" drop=none", "")
+        .replace("start to=1,2", "start to=1")
+        .replace("start to=2", "start to=1")
+        .replace("node=2 kind=out var=0 to=none\n", "node=1 kind=return\n")
+        .replace("nodes=4", "nodes=2");
+    assert_eq!(absent(&two_open, 0, 1..2), 4);
+    assert_eq!(absent(&two_open, 0, 2..3), 2);
+    assert_eq!(absent(&two_open, 0, 0..3), 2);
+    assert_eq!(absent(&two_open, 1, 1..2), 20);
+    assert_eq!(absent(TWO, 0, 0..1), 4);
+    assert_eq!(absent(TWO, 0, 0..3), 2);
+    assert_eq!(absent(TWO, 1, 0..3), 20);
+    assert_eq!(by_hand(OPEN, |t| t.sems[1] = 1), 2);
+    assert_eq!(by_hand(OPEN, |t| t.procs[0].drop = 1), 2);
 }
 
 #[test]
@@ -136,7 +324,7 @@ fn the_longest_texts() {
         out.pop();
         out.fill(7);
         let refused = write_text(&text, &mut out);
-        assert_eq!(refused, Err(Refusal { number: 8, line: 0 }));
+        assert_eq!(refused, Err(Fault::Buffer.at(0)));
         assert!(out.iter().all(|&b| b == 7));
     }
 }
@@ -186,7 +374,7 @@ fn a_fifth_argument_repeats_the_fourth() {
     (*count, *args) = (5, [GONE; PARAMS]);
     assert_eq!(lines_of(&table), lines("-,-,-,-,-").as_bytes());
     assert_eq!(refusal(&lines("-,-,-,-,-")), (6, 6));
-    assert_eq!(check(&table), Err(Refusal { number: 6, line: 0 }));
+    assert_eq!(check(&table), Err(Fault::Arguments.at(0)));
 }
 
 #[test]

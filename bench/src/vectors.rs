@@ -3,6 +3,7 @@
 use crate::generate::explorations::Limits;
 use crate::plain::programs::{close_text, explore_text, run_text};
 use crate::proved;
+use std::collections::{BTreeMap, BTreeSet};
 use std::fs;
 use std::path::{Path, PathBuf};
 
@@ -14,9 +15,14 @@ pub struct Words {
     pub log: usize,
 }
 
-/// Compares all of a folder; whether nothing differs.
-pub fn compare(dir: &Path) -> Result<bool, String> {
-    let (mut closings, mut runs, mut explorations, mut differ) = (0, 0, 0, 0);
+/// Compares all of a folder, with answers that lists of moved ones put in place of its own; whether
+/// nothing differs.
+pub fn compare(dir: &Path, lists: &[&str]) -> Result<bool, String> {
+    let mut moved = Moved::default();
+    for list in lists {
+        moved.add(Path::new(list))?;
+    }
+    let (mut closings, mut runs, mut explorations, mut cuts, mut differ) = (0, 0, 0, 0, 0);
     for path in sorted(dir)? {
         let extension = path
             .extension()
@@ -24,13 +30,17 @@ pub fn compare(dir: &Path) -> Result<bool, String> {
             .unwrap_or_default();
         let same = if extension == "close" {
             closings += 1;
-            closing_same(&path)?
+            closing_same(&path, &mut moved)?
         } else if extension.starts_with("run") {
             runs += 1;
-            run_same(&path)?
+            run_same(&path, &mut moved)?
         } else if extension.starts_with("explore") {
             explorations += 1;
-            exploration_same(&path)?
+            exploration_same(&path, &mut moved)?
+        } else if extension == "cuts" {
+            let text = bytes_of(&path.with_extension("txt"))?;
+            cuts += text.len() + 1;
+            cuts_same(&path, &text)?
         } else {
             true
         };
@@ -39,8 +49,64 @@ pub fn compare(dir: &Path) -> Result<bool, String> {
             println!("differs: {}", path.display());
         }
     }
-    println!("closings={closings} runs={runs} explorations={explorations} differ={differ}");
-    Ok(differ == 0 && closings + runs + explorations > 0)
+    for vector in moved.left() {
+        differ += 1;
+        println!("moved, but not there: {vector}");
+    }
+    let taken = moved.met.len();
+    println!(
+        "closings={closings} runs={runs} explorations={explorations} cuts={cuts} moved={taken} differ={differ}"
+    );
+    Ok(differ == 0 && closings + runs + explorations + cuts > 0)
+}
+
+/// Answers that moved, by the name of their vector: the first line as it was, and the line now.
+#[derive(Default)]
+struct Moved {
+    lines: BTreeMap<String, (String, String)>,
+    met: BTreeSet<String>,
+}
+
+impl Moved {
+    /// Adds a list with a line `NAME EXTENSION: BEFORE -> NOW` for each answer; a later list goes on
+    /// from an earlier one.
+    fn add(&mut self, list: &Path) -> Result<(), String> {
+        let text = fs::read_to_string(list).map_err(|e| format!("{}: {e}", list.display()))?;
+        for line in text.lines() {
+            let (vector, before, now) =
+                moved_line(line).ok_or(format!("{}: '{line}'", list.display()))?;
+            match self.lines.get_mut(&vector) {
+                Some((_, last)) if *last == before => *last = now,
+                Some(_) => return Err(format!("{}: '{line}'", list.display())),
+                None => drop(self.lines.insert(vector, (before, now))),
+            }
+        }
+        Ok(())
+    }
+
+    /// What is expected of a vector now.
+    fn expected(&mut self, path: &Path, expected: Vec<u8>) -> Result<Vec<u8>, String> {
+        let name = path.file_name().unwrap_or_default().to_string_lossy();
+        let Some((before, now)) = self.lines.get(&*name) else {
+            return Ok(expected);
+        };
+        if !expected.starts_with(format!("{before}\n").as_bytes()) {
+            return Err(format!("{name} is not '{before}' before it moves"));
+        }
+        self.met.insert(name.into_owned());
+        Ok(format!("{now}\n").into_bytes())
+    }
+
+    /// The vectors that moved and were not met.
+    fn left(&self) -> impl Iterator<Item = &String> {
+        self.lines.keys().filter(|name| !self.met.contains(*name))
+    }
+}
+
+fn moved_line(line: &str) -> Option<(String, String, String)> {
+    let (vector, answers) = line.split_once(": ")?;
+    let (before, now) = answers.split_once(" -> ")?;
+    Some((vector.replace(' ', "."), before.into(), now.into()))
 }
 
 fn sorted(dir: &Path) -> Result<Vec<PathBuf>, String> {
@@ -54,18 +120,42 @@ fn bytes_of(path: &Path) -> Result<Vec<u8>, String> {
     fs::read(path).map_err(|e| format!("{}: {e}", path.display()))
 }
 
-fn closing_same(path: &Path) -> Result<bool, String> {
+fn closing_same(path: &Path, moved: &mut Moved) -> Result<bool, String> {
     let text = bytes_of(&path.with_extension("txt"))?;
-    let expected = bytes_of(path)?;
+    let expected = moved.expected(path, bytes_of(path)?)?;
     Ok(both(&expected, |by_proved, out| match by_proved {
         true => proved::close(&text, out),
         false => close_text(&text, out),
     }))
 }
 
-fn run_same(path: &Path) -> Result<bool, String> {
+/// What the closing program says of every cut of a text: for each length its refusal, or `accepted`.
+fn cuts_same(path: &Path, text: &[u8]) -> Result<bool, String> {
+    let mut out = vec![0; 1 << 16];
+    let expected = bytes_of(path)?;
+    Ok([false, true].iter().all(|&by_proved| {
+        let mut lines = Vec::new();
+        for len in 0..=text.len() {
+            let cut = &text[..len];
+            let printed = match by_proved {
+                true => proved::close(cut, &mut out),
+                false => close_text(cut, &mut out),
+            };
+            let answer = match out[..printed].starts_with(b"refused=") {
+                true => &out[..printed],
+                false => b"accepted\n",
+            };
+            lines.extend_from_slice(format!("{len} ").as_bytes());
+            lines.extend_from_slice(answer);
+        }
+        lines == expected
+    }))
+}
+
+fn run_same(path: &Path, moved: &mut Moved) -> Result<bool, String> {
     let text = bytes_of(&path.with_extension("txt"))?;
     let (line, expected) = divided(path)?;
+    let expected = moved.expected(path, expected)?;
     let words = words_of(&line).ok_or(format!("{}: words of the run", path.display()))?;
     let Words {
         schedule,
@@ -82,9 +172,10 @@ fn run_same(path: &Path) -> Result<bool, String> {
     }))
 }
 
-fn exploration_same(path: &Path) -> Result<bool, String> {
+fn exploration_same(path: &Path, moved: &mut Moved) -> Result<bool, String> {
     let text = bytes_of(&path.with_extension("txt"))?;
     let (line, expected) = divided(path)?;
+    let expected = moved.expected(path, expected)?;
     let limits = limits_of(&line).ok_or(format!("{}: depth and bound", path.display()))?;
     let Limits { depth, bound } = limits;
     Ok(both(&expected, |by_proved, out| match by_proved {

@@ -1,8 +1,8 @@
 //! Explorations at random: a depth, and a bound that is about as large as the search needs.
 
 use crate::plain::explore::{explore_valid, DEPTH};
+use crate::plain::fault::Fault;
 use crate::plain::table::Table;
-use crate::plain::Refusal;
 use crate::random::Random;
 
 /// The two numbers of an exploration.
@@ -28,7 +28,7 @@ pub fn near(table: &Table, r: &mut Random) -> Limits {
     loop {
         let bound = match explore_valid(table, depth, most) {
             Ok(exploration) => around(exploration.tried, r),
-            Err(Refusal { number: 18, .. }) if lowered => {
+            Err(refusal) if lowered && refusal.is(Fault::Bound) => {
                 depth -= depth.div_ceil(8);
                 continue;
             }

@@ -1,7 +1,7 @@
 //! The faults of a table: those after all lines, and those of a hand-made table.
 
+use super::fault::{Fault, Refusal};
 use super::table::*;
-use super::Refusal;
 
 /// Faults 6 and 7, by line; the table has none of the faults before them.
 pub fn late(t: &Table) -> Result<(), Refusal> {
@@ -9,7 +9,7 @@ pub fn late(t: &Table) -> Result<(), Refusal> {
     for &top in &t.tops[..t.task_count as usize] {
         let p = &t.procs[top as usize];
         if t.closed && p.drop != all_params(p.params) {
-            return Err(Refusal { number: 7, line });
+            return Err(Fault::Closed.at(line));
         }
         line += 1;
     }
@@ -21,9 +21,8 @@ pub fn late(t: &Table) -> Result<(), Refusal> {
             if *node == Node::Absent {
                 continue;
             }
-            let number = late_node(t, present, node);
-            if number != 0 {
-                return Err(Refusal { number, line });
+            if let Some(fault) = late_node(t, present, node) {
+                return Err(fault.at(line));
             }
             line += 1;
         }
@@ -31,18 +30,18 @@ pub fn late(t: &Table) -> Result<(), Refusal> {
     Ok(())
 }
 
-/// Fault 6 or 7 of a node, or 0.
+/// Fault 6 or 7 of a node.
 #[inline]
-fn late_node(t: &Table, present: u32, node: &Node) -> u8 {
+fn late_node(t: &Table, present: u32, node: &Node) -> Option<Fault> {
     if let Node::Call { proc, count, .. } = *node {
         if count != t.procs[proc as usize].params {
-            return 6;
+            return Some(Fault::Arguments);
         }
     }
     if t.closed && (targets_of(node) & !present != 0 || !removed_right(t, node)) {
-        return 7;
+        return Some(Fault::Closed);
     }
-    0
+    None
 }
 
 /// All targets of a node.
@@ -83,61 +82,73 @@ fn removed_right(t: &Table, node: &Node) -> bool {
 /// The fault of a hand-made table, with line 0: what the reader says of the lines it stands for,
 /// then 2 for an unused place that is not 0.
 pub fn check(t: &Table) -> Result<(), Refusal> {
-    let refuse = |number| Refusal { number, line: 0 };
-    lines(t).map_err(refuse)?;
-    late(t).map_err(|r| refuse(r.number))?;
-    if unused_clear(t) {
-        Ok(())
-    } else {
-        Err(refuse(2))
-    }
+    lines(t).map_err(|fault| fault.at(0))?;
+    late(t).map_err(|refusal| Refusal { line: 0, ..refusal })?;
+    require(unused_clear(t), Fault::Form).map_err(|fault| fault.at(0))
 }
 
-/// Faults 2 to 5 in the order of the lines.
-fn lines(t: &Table) -> Result<(), u8> {
+/// The faults met line by line, in the order of the lines.
+fn lines(t: &Table) -> Result<(), Fault> {
     let counts = (1..=TASKS).contains(&(t.task_count as usize))
         && (1..=PROCS).contains(&(t.proc_count as usize))
         && t.sem_count as usize <= SEMS
         && t.queue_count as usize <= QUEUES;
-    require(counts, 3)?;
+    require(counts, Fault::Range)?;
     for &top in &t.tops[..t.task_count as usize] {
-        require(top < t.proc_count, 5)?;
+        require(top < t.proc_count, Fault::Reference)?;
     }
     for queue in &t.queues[..t.queue_count as usize] {
-        require((1..=8).contains(&queue.cap), 3)?;
+        require((1..=8).contains(&queue.cap), Fault::Range)?;
     }
-    for p in &t.procs[..t.proc_count as usize] {
-        procedure(t, p)?;
+    for i in 0..t.proc_count as usize {
+        procedure(t, i)?;
     }
     Ok(())
 }
 
-fn procedure(t: &Table, p: &Proc) -> Result<(), u8> {
+fn procedure(t: &Table, i: usize) -> Result<(), Fault> {
+    let p = &t.procs[i];
     let sizes = p.params as usize <= PARAMS
         && (p.params as usize..=VARS).contains(&(p.vars as usize))
         && (2..=NODES).contains(&(p.count as usize));
-    require(sizes, 3)?;
-    require(!t.closed || p.drop & !all_params(p.params) == 0, 5)?;
+    require(sizes, Fault::Range)?;
+    let declared = p.drop & !all_params(p.params) == 0;
+    require(!t.closed || declared, Fault::Reference)?;
     for (j, node) in p.used().iter().enumerate() {
         if *node == Node::Absent {
             if t.closed && j > 0 {
                 continue;
             }
-            let later = p.used()[j..].iter().any(|n| *n != Node::Absent);
-            return Err(if later { 4 } else { 2 });
+            return Err(missing(t, i, j));
         }
-        require(!(t.closed && matches!(node, Node::Read { .. })), 2)?;
-        require(matches!(node, Node::Start { .. }) == (j == 0), 4)?;
+        let (start, read) = (
+            matches!(node, Node::Start { .. }),
+            matches!(node, Node::Read { .. }),
+        );
+        require(!(t.closed && read), Fault::Form)?;
+        require(start == (j == 0), Fault::Index)?;
         fields(t, p, node)?;
     }
     Ok(())
 }
 
+/// The fault of a node that is due and missing, by what stands instead of its line: a later node's
+/// line, the next procedure's or the end.
+fn missing(t: &Table, i: usize, j: usize) -> Fault {
+    let later = t.procs[i].used()[j..].iter().any(|n| *n != Node::Absent);
+    let last = i + 1 == t.proc_count as usize;
+    match (later, last) {
+        (true, _) => Fault::Index,
+        (false, false) => Fault::Form,
+        (false, true) => Fault::End,
+    }
+}
+
 /// The fields of a node, left to right.
-fn fields(t: &Table, p: &Proc, node: &Node) -> Result<(), u8> {
-    let variable = |v: u8| require(v < p.vars, 5);
+fn fields(t: &Table, p: &Proc, node: &Node) -> Result<(), Fault> {
+    let variable = |v: u8| require(v < p.vars, Fault::Reference);
     let maybe = |v: u8| match v {
-        GONE => require(t.closed, 2),
+        GONE => require(t.closed, Fault::Misspelt),
         _ => variable(v),
     };
     let operand = |o: Operand| match o {
@@ -145,8 +156,8 @@ fn fields(t: &Table, p: &Proc, node: &Node) -> Result<(), u8> {
         Operand::Const(_) => Ok(()),
     };
     let arc = |to: Arc| {
-        require(t.closed || to.count_ones() == 1, 2)?;
-        require(to & !p.targets() == 0, 5)
+        require(t.closed || to.count_ones() == 1, Fault::Misspelt)?;
+        require(to & !p.targets() == 0, Fault::Reference)
     };
     match *node {
         Node::Absent | Node::Return => Ok(()),
@@ -158,7 +169,7 @@ fn fields(t: &Table, p: &Proc, node: &Node) -> Result<(), u8> {
             arc(to)
         }
         Node::Test { op, a, b, yes, no } => {
-            require(op.compares(), 2)?;
+            require(op.compares(), Fault::Form)?;
             operand(a)?;
             operand(b)?;
             arc(yes)?;
@@ -174,9 +185,10 @@ fn fields(t: &Table, p: &Proc, node: &Node) -> Result<(), u8> {
             args,
             to,
         } => {
-            require(proc < t.proc_count, 5)?;
+            require(proc < t.proc_count, Fault::Reference)?;
             let given = &args[..(count as usize).min(PARAMS)];
-            require(t.closed || given.iter().all(|&v| v != GONE), 2)?;
+            let spelt = t.closed || given.iter().all(|&v| v != GONE);
+            require(spelt, Fault::Misspelt)?;
             // arguments behind the fourth repeat it
             for &v in given {
                 maybe(v)?;
@@ -184,11 +196,11 @@ fn fields(t: &Table, p: &Proc, node: &Node) -> Result<(), u8> {
             arc(to)
         }
         Node::Wait { sem, to } | Node::Signal { sem, to } => {
-            require(sem < t.sem_count, 5)?;
+            require(sem < t.sem_count, Fault::Reference)?;
             arc(to)
         }
         Node::Send { queue, var, to } | Node::Recv { queue, var, to } => {
-            require(queue < t.queue_count, 5)?;
+            require(queue < t.queue_count, Fault::Reference)?;
             maybe(var)?;
             arc(to)
         }
@@ -227,10 +239,10 @@ fn args_clear(node: &Node) -> bool {
     }
 }
 
-fn require(holds: bool, number: u8) -> Result<(), u8> {
+fn require(holds: bool, fault: Fault) -> Result<(), Fault> {
     if holds {
         Ok(())
     } else {
-        Err(number)
+        Err(fault)
     }
 }

@@ -1,7 +1,8 @@
 //! The closer: dirty settings by a worklist over bit masks, then the kept nodes and their arcs.
 
+use super::check;
+use super::fault::{Fault, Refusal};
 use super::table::*;
-use super::{check, Refusal};
 
 /// What is dirty: variable v as bit v, parameter i as bit i, queue q as bit q.
 pub struct Dirt {
@@ -24,7 +25,7 @@ pub fn close(open: &Table, closed: &mut Table) -> Result<(), Refusal> {
 pub fn close_valid(open: &Table, closed: &mut Table) -> Result<(), Refusal> {
     if open.closed {
         *closed = Table::default();
-        return Err(Refusal { number: 9, line: 0 });
+        return Err(Fault::OtherForm.at(0));
     }
     let dirt = analyse(open);
     closed.clone_from(open);

@@ -2,11 +2,11 @@
 
 use super::close::close_valid;
 use super::explore::{explore_valid, Exploration, Found, Step};
+use super::fault::Refusal;
 use super::read::read;
 use super::run::{run_valid, Answer, State, ENTRY};
 use super::table::*;
 use super::write::{constant, write_valid, Buffer, Sink};
-use super::Refusal;
 
 /// What the closing program prints for a text, and its length.
 pub fn close_text(text: &[u8], out: &mut [u8]) -> usize {

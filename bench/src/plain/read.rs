@@ -1,14 +1,14 @@
 //! The reader: one pass over the text, then the faults 6 and 7 of the table.
 
 use super::check;
+use super::fault::{Fault, Refusal};
 use super::table::*;
-use super::Refusal;
 
 /// The longest text that is read.
 pub const LONGEST: usize = 65_536;
 
-/// The number of a fault.
-type Fault = u8;
+/// How a node line begins.
+const NODE: &[u8] = b"node=";
 
 /// Numbers of this size and above are only known to be large.
 const LARGE: u32 = 100_000_000;
@@ -17,7 +17,7 @@ const LARGE: u32 = 100_000_000;
 pub fn read(text: &[u8], table: &mut Table) -> Result<(), Refusal> {
     *table = Table::default();
     if text.len() > LONGEST {
-        return Err(Refusal { number: 1, line: 0 });
+        return Err(Fault::Long.at(0));
     }
     let mut lines = Lines {
         rest: text,
@@ -25,10 +25,7 @@ pub fn read(text: &[u8], table: &mut Table) -> Result<(), Refusal> {
     };
     let outcome = match lines.table(table) {
         Ok(()) => check::late(table),
-        Err(number) => Err(Refusal {
-            number,
-            line: lines.line,
-        }),
+        Err(fault) => Err(fault.at(lines.line)),
     };
     if outcome.is_err() {
         *table = Table::default();
@@ -115,7 +112,7 @@ impl<'a> Lines<'a> {
         if self.rest.is_empty() {
             Ok(())
         } else {
-            Err(2)
+            Err(Fault::End)
         }
     }
 
@@ -159,27 +156,31 @@ impl<'a> Lines<'a> {
 
     fn open_nodes(&mut self, scope: &Scope, p: &mut Proc) -> Result<(), Fault> {
         for (j, place) in p.nodes[..p.count as usize].iter_mut().enumerate() {
-            self.word(b"node=")?;
+            self.word(NODE)?;
             self.index(j as u8)?;
             *place = self.node(j == 0, scope)?;
         }
         Ok(())
     }
 
-    /// The node lines of a closed procedure: node 0, then each line that begins `node=`.
+    /// The node lines of a closed procedure: node 0, then each line that begins `node=` or that the
+    /// text's end breaks off within it.
     fn closed_nodes(&mut self, scope: &Scope, p: &mut Proc) -> Result<(), Fault> {
-        self.word(b"node=")?;
+        self.word(NODE)?;
         self.index(0)?;
         p.nodes[0] = self.node(true, scope)?;
         let mut least = 1;
-        while self.rest.starts_with(b"node=") {
-            self.word(b"node=")?;
+        while self.rest.starts_with(NODE) {
+            self.word(NODE)?;
             let j = self.number()?;
             if j < least || j >= p.count as u32 {
-                return Err(4);
+                return Err(Fault::Index);
             }
             p.nodes[j as usize] = self.node(false, scope)?;
             least = j + 1;
+        }
+        if !self.rest.is_empty() && NODE.starts_with(self.rest) {
+            return Err(Fault::End);
         }
         Ok(())
     }
@@ -189,10 +190,10 @@ impl<'a> Lines<'a> {
         self.word(b" kind=")?;
         let kind = self.kind()?;
         if kind == Kind::Read && s.closed {
-            return Err(2);
+            return Err(Fault::Form);
         }
         if (kind == Kind::Start) != first {
-            return Err(4);
+            return Err(Fault::Index);
         }
         let node = match kind {
             Kind::Start => Node::Start { to: self.to(s)? },
@@ -251,7 +252,7 @@ impl<'a> Lines<'a> {
         self.word(b" op=")?;
         let op = self.op()?;
         if !op.compares() {
-            return Err(2);
+            return Err(Fault::Form);
         }
         self.word(b" a=")?;
         let a = self.operand(s)?;
@@ -297,7 +298,7 @@ impl<'a> Lines<'a> {
         self.word(b" var=")?;
         if s.closed && self.rest.first() == Some(&b'-') {
             self.rest = &self.rest[1..];
-            self.ended()?;
+            self.spelt()?;
             return Ok(GONE);
         }
         self.reference(s.vars)
@@ -316,7 +317,7 @@ impl<'a> Lines<'a> {
         if target < 32 && s.targets >> target & 1 == 1 {
             Ok(1 << target)
         } else {
-            Err(5)
+            Err(Fault::Reference)
         }
     }
 
@@ -329,9 +330,11 @@ impl<'a> Lines<'a> {
         let (mut least, mut before) = (0, self.rest);
         let mut start = self.rest;
         loop {
-            let (item, rest) = digits(start)?;
+            let Some((item, rest)) = digits(start) else {
+                return Err(self.wrong(Fault::Misspelt));
+            };
             if item < least && !(item == LARGE && larger(start, before)) {
-                return Err(2);
+                return Err(self.wrong(Fault::Misspelt));
             }
             (least, before) = (item + 1, start);
             if item < 32 {
@@ -345,11 +348,11 @@ impl<'a> Lines<'a> {
                     self.rest = rest;
                     break;
                 }
-                _ => return Err(2),
+                _ => return Err(self.wrong(Fault::Misspelt)),
             }
         }
         if stray || mask & !allowed != 0 {
-            Err(5)
+            Err(Fault::Reference)
         } else {
             Ok(mask)
         }
@@ -380,7 +383,7 @@ impl<'a> Lines<'a> {
             }
         }
         if stray {
-            Err(5)
+            Err(Fault::Reference)
         } else {
             Ok((count, args))
         }
@@ -389,11 +392,11 @@ impl<'a> Lines<'a> {
     /// Whether the value is `none`, which is then passed over.
     #[inline]
     fn none(&mut self) -> Result<bool, Fault> {
-        if self.rest.first() != Some(&b'n') {
+        let Some(rest) = self.rest.strip_prefix(b"none") else {
             return Ok(false);
-        }
-        self.word(b"none")?;
-        self.ended()?;
+        };
+        self.rest = rest;
+        self.spelt()?;
         Ok(true)
     }
 
@@ -406,7 +409,7 @@ impl<'a> Lines<'a> {
                 Ok(true)
             }
             [b' ' | b'\n', ..] => Ok(false),
-            _ => Err(2),
+            _ => Err(self.wrong(Fault::Misspelt)),
         }
     }
 
@@ -420,14 +423,14 @@ impl<'a> Lines<'a> {
                 self.rest = rest;
                 let size = self.size()?;
                 match size {
-                    0 => Err(2),
+                    0 => Err(Fault::Misspelt),
                     1..=0x8000_0000 => Ok(Operand::Const((size as i64).wrapping_neg() as i32)),
-                    _ => Err(3),
+                    _ => Err(Fault::Range),
                 }
             }
             _ => {
                 let size = self.size()?;
-                i32::try_from(size).map(Operand::Const).map_err(|_| 3)
+                (i32::try_from(size).map(Operand::Const)).map_err(|_| Fault::Range)
             }
         }
     }
@@ -436,7 +439,7 @@ impl<'a> Lines<'a> {
     #[inline]
     fn size(&mut self) -> Result<u64, Fault> {
         let [first @ b'0'..=b'9', rest @ ..] = self.rest else {
-            return Err(2);
+            return Err(self.wrong(Fault::Misspelt));
         };
         let mut rest = rest;
         let mut n = (first - b'0') as u64;
@@ -447,7 +450,7 @@ impl<'a> Lines<'a> {
             }
         }
         self.rest = rest;
-        self.ended()?;
+        self.spelt()?;
         Ok(n)
     }
 
@@ -465,10 +468,10 @@ impl<'a> Lines<'a> {
             [b'a', b's', b's', b'e', b'r', b't', ..] => (Kind::Assert, 6),
             [b'o', b'u', b't', ..] => (Kind::Out, 3),
             [b'r', b'e', b't', b'u', b'r', b'n', ..] => (Kind::Return, 6),
-            _ => return Err(2),
+            _ => return Err(self.wrong(Fault::Form)),
         };
         self.rest = &self.rest[len..];
-        self.ended()?;
+        self.ended(Fault::Form)?;
         Ok(kind)
     }
 
@@ -482,18 +485,21 @@ impl<'a> Lines<'a> {
             [b's', b'h', b'r', ..] => (Op::Shr, 3),
             [b'l', b't', ..] => (Op::Lt, 2),
             [b'e', b'q', ..] => (Op::Eq, 2),
-            _ => return Err(2),
+            _ => return Err(self.wrong(Fault::Form)),
         };
         self.rest = &self.rest[len..];
-        self.ended()?;
+        self.ended(Fault::Form)?;
         Ok(op)
     }
 
     /// True for the first word, false for the second.
     fn choice(&mut self, yes: &[u8], no: &[u8]) -> Result<bool, Fault> {
         let is_yes = self.rest.starts_with(yes);
-        self.word(if is_yes { yes } else { no })?;
-        self.ended()?;
+        let Some(rest) = self.rest.strip_prefix(if is_yes { yes } else { no }) else {
+            return Err(self.wrong(Fault::Form));
+        };
+        self.rest = rest;
+        self.ended(Fault::Form)?;
         Ok(is_yes)
     }
 
@@ -503,7 +509,7 @@ impl<'a> Lines<'a> {
         if self.number()? == due as u32 {
             Ok(())
         } else {
-            Err(4)
+            Err(Fault::Index)
         }
     }
 
@@ -514,7 +520,7 @@ impl<'a> Lines<'a> {
         if n < count {
             Ok(n as u8)
         } else {
-            Err(5)
+            Err(Fault::Reference)
         }
     }
 
@@ -522,29 +528,52 @@ impl<'a> Lines<'a> {
     #[inline]
     fn number(&mut self) -> Result<u32, Fault> {
         let n = self.digits()?;
-        self.ended()?;
+        self.spelt()?;
         Ok(n)
     }
 
     #[inline(always)]
     fn digits(&mut self) -> Result<u32, Fault> {
-        let (n, rest) = digits(self.rest)?;
+        let Some((n, rest)) = digits(self.rest) else {
+            return Err(self.wrong(Fault::Misspelt));
+        };
         self.rest = rest;
         Ok(n)
     }
 
-    /// The value ends here; one that the text's end breaks off is an early end.
+    /// The number, operand or list ends here.
     #[inline]
-    fn ended(&self) -> Result<(), Fault> {
+    fn spelt(&self) -> Result<(), Fault> {
+        self.ended(Fault::Misspelt)
+    }
+
+    /// The value ends here, else it has the fault.
+    #[inline]
+    fn ended(&self, fault: Fault) -> Result<(), Fault> {
         match self.rest {
             [b' ' | b'\n', ..] => Ok(()),
-            _ => Err(2),
+            _ => Err(self.wrong(fault)),
         }
     }
 
+    /// The fault of a value that is not what is due, within which the rest begins; one that the
+    /// text's end breaks off is an early end.
+    #[cold]
+    #[inline(never)]
+    fn wrong(&self, fault: Fault) -> Fault {
+        match self.rest.iter().any(|b| matches!(b, b' ' | b'\n')) {
+            true => fault,
+            false => Fault::End,
+        }
+    }
+
+    /// Passes over a word; a text that ends within it ends early.
     #[inline(always)]
     fn word(&mut self, word: &[u8]) -> Result<(), Fault> {
-        self.rest = self.rest.strip_prefix(word).ok_or(2u8)?;
+        self.rest = self
+            .rest
+            .strip_prefix(word)
+            .ok_or_else(|| unmet(word, self.rest))?;
         Ok(())
     }
 
@@ -558,31 +587,41 @@ impl<'a> Lines<'a> {
 
 /// Digits at the front of a text with no needless leading zero, exact below `LARGE`, and the rest.
 #[inline(always)]
-fn digits(text: &[u8]) -> Result<(u32, &[u8]), Fault> {
+fn digits(text: &[u8]) -> Option<(u32, &[u8])> {
     match *text {
-        [a @ b'0'..=b'9', b, ..] if !b.is_ascii_digit() => Ok(((a - b'0') as u32, &text[1..])),
+        [a @ b'0'..=b'9', b, ..] if !b.is_ascii_digit() => Some(((a - b'0') as u32, &text[1..])),
         [a @ b'1'..=b'9', b @ b'0'..=b'9', c, ..] if !c.is_ascii_digit() => {
-            Ok(((a - b'0') as u32 * 10 + (b - b'0') as u32, &text[2..]))
+            Some(((a - b'0') as u32 * 10 + (b - b'0') as u32, &text[2..]))
         }
         _ => more_digits(text),
     }
 }
 
 #[inline(never)]
-fn more_digits(text: &[u8]) -> Result<(u32, &[u8]), Fault> {
+fn more_digits(text: &[u8]) -> Option<(u32, &[u8])> {
     let [first @ b'0'..=b'9', rest @ ..] = text else {
-        return Err(2);
+        return None;
     };
     let mut rest = rest;
     let mut n = (first - b'0') as u32;
     while let [d @ b'0'..=b'9', after @ ..] = rest {
         if n == 0 {
-            return Err(2);
+            return None;
         }
         n = (n * 10 + (d - b'0') as u32).min(LARGE);
         rest = after;
     }
-    Ok((n, rest))
+    Some((n, rest))
+}
+
+/// The fault of a text that doesn't begin with a word that is due.
+#[cold]
+#[inline(never)]
+fn unmet(word: &[u8], text: &[u8]) -> Fault {
+    match word.starts_with(text) {
+        true => Fault::End,
+        false => Fault::Form,
+    }
 }
 
 /// Whether the number at the front of a text is larger than that of another.
@@ -599,7 +638,7 @@ fn larger(text: &[u8], than: &[u8]) -> bool {
 #[inline]
 fn within(n: u32, least: u32, most: u32) -> Result<u8, Fault> {
     if n < least || n > most {
-        Err(3)
+        Err(Fault::Range)
     } else {
         Ok(n as u8)
     }

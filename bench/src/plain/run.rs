@@ -1,16 +1,14 @@
 //! The runner: one machine for open and closed tables, over a borrowed table.
 
+use super::check;
 use super::close::kept_nodes;
+use super::fault::{Fault, Refusal};
 use super::table::*;
-use super::{check, Refusal};
 
 pub const FRAMES: usize = 8;
 
 /// The bytes that a completed step logs.
 pub const ENTRY: usize = 8;
-
-/// The number that stopped a run or a step.
-type Stop = u8;
 
 /// An open call: its procedure, the node before which it stands (or its call), its variables.
 #[derive(Clone, Copy, Debug, Default, PartialEq, Eq)]
@@ -42,12 +40,13 @@ pub struct State {
     pub queues: [Entries; QUEUES],
 }
 
-/// What a run answers, beside its state and its log.
+/// What a run answers, beside its state and its log: the steps completed, the values used, and the
+/// number of the fault that stopped it, or 0.
 #[derive(Clone, Copy, Debug, Default, PartialEq, Eq)]
 pub struct Answer {
     pub steps: usize,
     pub used: usize,
-    pub stop: Stop,
+    pub stop: u8,
 }
 
 /// Runs a table along a schedule.
@@ -135,14 +134,14 @@ impl<'a, const CLOSED: bool> Machine<'a, CLOSED> {
 
     fn run(mut self, schedule: &[u8], log: &mut [u8], state: &mut State) -> Answer {
         let mut answer = Answer::default();
-        if let Err(stop) = self.start(state) {
-            answer.stop = stop;
+        if let Err(fault) = self.start(state) {
+            answer.stop = fault.number();
             return answer;
         }
         let mut places = log.chunks_exact_mut(ENTRY);
         for &task in schedule {
-            if let Err(stop) = self.step(state, task, places.next()) {
-                answer.stop = stop;
+            if let Err(fault) = self.step(state, task, places.next()) {
+                answer.stop = fault.number();
                 break;
             }
             answer.steps += 1;
@@ -152,7 +151,7 @@ impl<'a, const CLOSED: bool> Machine<'a, CLOSED> {
     }
 
     /// Makes the first state.
-    pub fn start(&mut self, state: &mut State) -> Result<(), Stop> {
+    pub fn start(&mut self, state: &mut State) -> Result<(), Fault> {
         *state = State::default();
         state.sems = self.table.sems;
         let tops = &self.table.tops[..self.table.task_count as usize];
@@ -165,7 +164,7 @@ impl<'a, const CLOSED: bool> Machine<'a, CLOSED> {
         }
         let params = |&top: &u8| self.table.procs[top as usize].params as usize;
         if tops.iter().map(params).sum::<usize>() > self.values.len() {
-            return Err(15);
+            return Err(Fault::Spent);
         }
         for (task, top) in state.tasks.iter_mut().zip(tops) {
             let count = params(top);
@@ -183,11 +182,11 @@ impl<'a, const CLOSED: bool> Machine<'a, CLOSED> {
         state: &mut State,
         number: u8,
         place: Option<&mut [u8]>,
-    ) -> Result<(), Stop> {
+    ) -> Result<(), Fault> {
         if number >= self.table.task_count {
-            return Err(10);
+            return Err(Fault::NoTask);
         }
-        let place = place.ok_or(11u8)?;
+        let place = place.ok_or(Fault::Log)?;
         let State {
             tasks,
             sems,
@@ -199,10 +198,10 @@ impl<'a, const CLOSED: bool> Machine<'a, CLOSED> {
             frames,
         } = &mut tasks[number as usize % TASKS];
         if *lost {
-            return Err(12);
+            return Err(Fault::Lost);
         }
         let (below, rest) = frames.split_at_mut(*depth as usize - 1);
-        let (frame, above) = rest.split_first_mut().ok_or(13u8)?;
+        let (frame, above) = rest.split_first_mut().ok_or(Fault::Blocked)?;
         let (proc, node) = (frame.proc, frame.node);
         let mut shown = None;
         match self.table.procs[proc as usize % PROCS].nodes[node as usize % NODES] {
@@ -218,7 +217,7 @@ impl<'a, const CLOSED: bool> Machine<'a, CLOSED> {
             Node::Wait { sem, to } => {
                 let count = &mut sems[sem as usize % SEMS];
                 if *count == 0 {
-                    return Err(13);
+                    return Err(Fault::Blocked);
                 }
                 self.go_on(frame, lost, to, None)?;
                 *count -= 1;
@@ -226,7 +225,7 @@ impl<'a, const CLOSED: bool> Machine<'a, CLOSED> {
             Node::Signal { sem, to } => {
                 let count = &mut sems[sem as usize % SEMS];
                 if *count == u8::MAX {
-                    return Err(13);
+                    return Err(Fault::Blocked);
                 }
                 self.go_on(frame, lost, to, None)?;
                 *count += 1;
@@ -234,7 +233,7 @@ impl<'a, const CLOSED: bool> Machine<'a, CLOSED> {
             Node::Send { queue, var, to } => {
                 let entries = &mut queues[queue as usize % QUEUES];
                 if entries.len >= self.table.queues[queue as usize % QUEUES].cap {
-                    return Err(13);
+                    return Err(Fault::Blocked);
                 }
                 let value = value_of(frame, var).unwrap_or(0);
                 self.go_on(frame, lost, to, None)?;
@@ -243,7 +242,7 @@ impl<'a, const CLOSED: bool> Machine<'a, CLOSED> {
             Node::Recv { queue, var, to } => {
                 let entries = &mut queues[queue as usize % QUEUES];
                 if entries.len == 0 {
-                    return Err(13);
+                    return Err(Fault::Blocked);
                 }
                 let write = (var != GONE).then(|| (var, entries.oldest()));
                 self.go_on(frame, lost, to, write)?;
@@ -259,17 +258,17 @@ impl<'a, const CLOSED: bool> Machine<'a, CLOSED> {
                 args,
                 ..
             } => {
-                let new = above.first_mut().ok_or(13u8)?;
+                let new = above.first_mut().ok_or(Fault::Blocked)?;
                 enter(new, callee, &args[..count as usize], frame);
                 *depth += 1;
             }
             Node::Return => {
-                let caller = below.last_mut().ok_or(13u8)?;
+                let caller = below.last_mut().ok_or(Fault::Blocked)?;
                 let to = self.call_arc(caller);
                 self.go_on(caller, lost, to, None)?;
                 *depth -= 1;
             }
-            Node::Read { .. } | Node::Absent => return Err(13),
+            Node::Read { .. } | Node::Absent => return Err(Fault::Blocked),
         }
         log_entry(place, [number, proc, node], shown);
         Ok(())
@@ -292,7 +291,7 @@ impl<'a, const CLOSED: bool> Machine<'a, CLOSED> {
         lost: &mut bool,
         arc: Arc,
         write: Option<(u8, i32)>,
-    ) -> Result<(), Stop> {
+    ) -> Result<(), Fault> {
         let target = if CLOSED {
             self.toss(arc)?
         } else {
@@ -316,11 +315,11 @@ impl<'a, const CLOSED: bool> Machine<'a, CLOSED> {
 
     /// The target of a closed arc; 32 where it has none.
     #[inline]
-    fn toss(&mut self, mut arc: Arc) -> Result<u32, Stop> {
+    fn toss(&mut self, mut arc: Arc) -> Result<u32, Fault> {
         if arc & arc.wrapping_sub(1) != 0 {
-            let value = *self.values.get(self.used).ok_or(15u8)?;
+            let value = *self.values.get(self.used).ok_or(Fault::Spent)?;
             if value < 0 || value as u32 >= arc.count_ones() {
-                return Err(16);
+                return Err(Fault::Toss);
             }
             for _ in 0..value {
                 arc &= arc - 1;
@@ -336,7 +335,7 @@ impl<'a, const CLOSED: bool> Machine<'a, CLOSED> {
         frame: &mut Frame,
         target: u32,
         write: Option<(u8, i32)>,
-    ) -> Result<(), Stop> {
+    ) -> Result<(), Fault> {
         let p = &self.table.procs[frame.proc as usize];
         let kept = self.kept[frame.proc as usize];
         let mut vars = frame.vars;
@@ -347,7 +346,7 @@ impl<'a, const CLOSED: bool> Machine<'a, CLOSED> {
         for _ in 0..self.most {
             let to = match p.nodes[at as usize] {
                 Node::Read { var, to } => {
-                    vars[var as usize] = *self.values.get(used).ok_or(15u8)?;
+                    vars[var as usize] = *self.values.get(used).ok_or(Fault::Spent)?;
                     used += 1;
                     to
                 }
@@ -371,7 +370,7 @@ impl<'a, const CLOSED: bool> Machine<'a, CLOSED> {
                 return Ok(());
             }
         }
-        Err(14)
+        Err(Fault::Dropped)
     }
 }
 

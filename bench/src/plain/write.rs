@@ -1,7 +1,8 @@
 //! The writer: one pass into the lent buffer.
 
+use super::check;
+use super::fault::{Fault, Refusal};
 use super::table::*;
-use super::{check, Refusal};
 
 /// The length of the longest text that a valid table has.
 pub const LONGEST_TEXT: usize = 57_855;
@@ -15,7 +16,7 @@ pub fn write(t: &Table, out: &mut [u8]) -> Result<usize, Refusal> {
 /// The same for a table that is known to be valid.
 pub fn write_valid(t: &Table, out: &mut [u8]) -> Result<usize, Refusal> {
     if out.len() < LONGEST_TEXT && out.len() < length(t) {
-        return Err(Refusal { number: 8, line: 0 });
+        return Err(Fault::Buffer.at(0));
     }
     Ok(write_lines(t, out))
 }
