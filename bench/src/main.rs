@@ -20,8 +20,8 @@ const USAGE: &str = "usage: bench vectors DIR [MOVED ..]
        bench compare [CASES] [SEED]
        bench show SEED
        bench handmade [CASES SEED]
-       bench speed [read|close|step|short|explore]
-       bench once proved|plain read|close|step|short|explore";
+       bench speed [read|close|refuse|step|short|explore]
+       bench once proved|plain read|close|refuse|step|short|explore";
 
 fn main() -> ExitCode {
     let words: Vec<String> = std::env::args().skip(1).collect();
@@ -49,7 +49,7 @@ fn command(words: &[String]) -> Result<bool, String> {
             compare::show(number(seed)?);
             Ok(true)
         }
-        ["once", side @ ("proved" | "plain"), what @ ("read" | "close" | "step" | "short" | "explore")] =>
+        ["once", side @ ("proved" | "plain"), what @ ("read" | "close" | "refuse" | "step" | "short" | "explore")] =>
         {
             speed::once(side == "proved", what);
             Ok(true)
@@ -58,7 +58,7 @@ fn command(words: &[String]) -> Result<bool, String> {
             speed::speed("");
             Ok(true)
         }
-        ["speed", what @ ("read" | "close" | "step" | "short" | "explore")] => {
+        ["speed", what @ ("read" | "close" | "refuse" | "step" | "short" | "explore")] => {
             speed::speed(what);
             Ok(true)
         }

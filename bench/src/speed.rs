@@ -27,6 +27,13 @@ const TRIED: usize = 500_000;
 /// The steps of short runs.
 const SHORT: [usize; 3] = [1, 10, 100];
 
+/// Texts that are refused on their first line: an empty one, one that begins with a wrong word, one with a wrong form.
+const REFUSED: [(&str, &[u8]); 3] = [
+    ("an empty text", b""),
+    ("a wrong first word", b"table=1 form=open\n"),
+    ("a wrong form", b"trap=1 form=shut\n"),
+];
+
 /// The table of README.
 const EXAMPLE: &[u8] = include_bytes!("../../crates/close/stdin");
 
@@ -67,9 +74,14 @@ pub fn speed(word: &str) {
             rows.push(reading(name, lines_of(&table)));
             rows.push(writing(name, lines_of(&table)));
         }
+        rows.extend(example().map(|(name, text)| reading(&format!("the example, {name}"), text)));
     }
     if "close".starts_with(word) {
         rows.extend(closings().map(|(name, table)| closing(name, lines_of(&table))));
+        rows.push(closing("the example", EXAMPLE.to_vec()));
+    }
+    if "refuse".starts_with(word) {
+        rows.extend(REFUSED.map(|(name, text)| refusing(name, text)));
     }
     rows.extend(runs.iter().map(steps));
     if "short".starts_with(word) {
@@ -98,6 +110,12 @@ pub fn once(by_proved: bool, word: &str) {
                 false => _ = black_box((read_text(&text), write_text(&text, &mut out))),
             }
         }
+        for (_, text) in example() {
+            match by_proved {
+                true => _ = black_box(proved::read(&text)),
+                false => _ = black_box(read_text(&text)),
+            }
+        }
     }
     if "close".starts_with(word) {
         for (_, table) in closings() {
@@ -105,6 +123,26 @@ pub fn once(by_proved: bool, word: &str) {
             match by_proved {
                 true => _ = black_box(proved::close(&text, &mut out)),
                 false => _ = black_box(close_text(&text, &mut out)),
+            }
+        }
+        match by_proved {
+            true => _ = black_box(proved::close(EXAMPLE, &mut out)),
+            false => _ = black_box(close_text(EXAMPLE, &mut out)),
+        }
+    }
+    if "refuse".starts_with(word) {
+        for (_, text) in REFUSED {
+            match by_proved {
+                true => _ = black_box(proved::read(text)),
+                false => _ = black_box(read_text(text)),
+            }
+        }
+    }
+    if "refuse".starts_with(word) {
+        for (_, text) in REFUSED {
+            match by_proved {
+                true => _ = black_box(proved::read(text)),
+                false => _ = black_box(read_text(text)),
             }
         }
     }
@@ -186,6 +224,25 @@ fn closing(name: &str, text: Vec<u8>) -> Row<'static> {
                 true => _ = black_box(proved::close(text, &mut out)),
                 false => _ = black_box(close_text(text, &mut out)),
             }
+        },
+    )
+}
+
+/// Refusing a text.
+fn refusing(name: &str, text: &'static [u8]) -> Row<'static> {
+    let name = format!("refuse {name}");
+    Row::of_calls(
+        name,
+        "ns",
+        |s, _| s * 1e9,
+        1,
+        move |by_proved| {
+            let text = black_box(text);
+            let refused = match by_proved {
+                true => proved::read(text).is_err(),
+                false => read_text(text).is_err(),
+            };
+            assert!(refused, "the text is refused");
         },
     )
 }

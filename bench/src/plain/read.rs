@@ -13,9 +13,14 @@ const NODE: &[u8] = b"node=";
 /// Numbers of this size and above are only known to be large.
 const LARGE: u32 = 100_000_000;
 
-/// Reads a text into a table; a refused text leaves the table all 0.
+/// Reads a text into any table; a refused text leaves it all 0.
 pub fn read(text: &[u8], table: &mut Table) -> Result<(), Refusal> {
     *table = Table::default();
+    read_first(text, table)
+}
+
+/// Reads a text into a table that is all 0; a refused text leaves it so.
+pub fn read_first(text: &[u8], table: &mut Table) -> Result<(), Refusal> {
     if text.len() > LONGEST {
         return Err(Fault::Long.at(0));
     }

@@ -1,4 +1,1 @@
-pub mod CloseLaws
 pub mod RunLaws
-pub mod WriteLaws
-pub mod PrintLaws

@@ -178,13 +178,5 @@ pub fn explore(t: Table, depth: usize, bound: u64) -> Exploring
 pub fn close_text(s: &[u8], out: &mut [u8]) -> usize
     ensures { λ r. ⌜ Put 65536 (now (out .entry)) 0 (printed (now (s .entry))) (now (out .exit)) r ⌝ }
 {
-    let r = reader::read(s);
-    if r.number != 0 {
-        return refusals::put_refused(out, r.number, r.line);
-    }
-    let t = r.table;
-    if t.closed {
-        return refusals::put_refused(out, 9, 0);
-    }
-    closed_text::put_closed(out, t)
+    closed_text::close_text(s, out)
 }

@@ -1,1 +1,3 @@
 pub mod ClosedLaws
+pub mod CloseLaws
+pub mod PrintLaws

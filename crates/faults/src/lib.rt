@@ -1,9 +1,7 @@
 // The fault of a hand-made table, by its number; 0 is none.
 use late::Late;
 use table::Table;
-use text::Fault;
 ghost use mathlib.Core.Path.{_≡_};
-ghost use Rattle.text.specs.Fault.{number as numberOf};
 ghost use Rattle.text.specs.Reader.{good};
 ghost use Rattle.text.specs.Writer.{faultIn, fault as tableFault};
 ghost use Rattle.unused.specs.Unused.{Ranged};
@@ -13,25 +11,6 @@ fn unused(t: Table) -> u8
     ensures { λ r. ⌜ r ≡ faultIn t (good t) ⌝ }
 {
     if unused::all_tidy(t) { 0 } else { text::UNUSED }
-}
-
-// Document 01's number for a fault.
-pub fn number(f: Fault) -> u8
-    ensures { λ r. ⌜ r ≡ numberOf f ⌝ }
-{
-    match f {
-        Fault::Long => text::LONG,
-        Fault::Form => text::FORM,
-        Fault::Misspelt => text::MISSPELT,
-        Fault::Ended => text::ENDED,
-        Fault::Range => text::RANGE,
-        Fault::Index => text::INDEX,
-        Fault::Reference => text::REFERENCE,
-        Fault::Arguments => text::ARGUMENTS,
-        Fault::Unclosed => text::UNCLOSED,
-        Fault::Unused => text::UNUSED,
-        Fault::Short => text::SHORT,
-    }
 }
 
 // The number of a table's first fault, faulty or not; 0 where there is none.
@@ -45,6 +24,6 @@ pub fn fault(t: Table) -> u8
     let l = late::find(t);
     match l {
         Late::Good => unused(t),
-        Late::Bad(f, _) => number(f),
+        Late::Bad(f, _) => codes::number(f),
     }
 }

@@ -4,7 +4,7 @@ use mathlib.Core.Path.{_≡_}
 use mathlib.Core.Bool.{Bool, true, false}
 use mathlib.Core.List.{List}
 use lib.Dec.{ltb}
-use lib.ListN.{drop, replicate}
+use lib.ListN.{drop}
 use Rattle.table.specs.Mask.{pick}
 use Rattle.table.specs.Table.{noSlots, noProc}
 use Rattle.table.specs.declared.Slot.{Slot}
@@ -22,10 +22,9 @@ use Rattle.nodes.specs.declared.Line.{Line}
 use Rattle.nodes.specs.declared.Line.the-variants.{Node as IsNode, Refused as NotNode}
 use Rattle.rows.specs.declared.End.{End}
 use Rattle.rows.specs.declared.End.the-variants.{At, Refused}
-use Rattle.rows.specs.Rows.{endIn, endWithin, endBlank, RowsAt}
+use Rattle.rows.specs.Rows.{endIn, endWithin, endBlank}
 use Rattle.procs.specs.declared.Slots.{Slots}
 use Rattle.procs.specs.declared.ProcRow.{ProcRow}
-use Rattle.procs.specs.declared.Procs.{Procs}
 
 -- ---- node lines
 
@@ -85,7 +84,3 @@ pub record ProcRowAt (closed : Bool) (x : Counts) (i : ℕ) (s : List ℕ) (at l
   pub within : endWithin s (r .end)
   pub blank : endBlank noProc (r .proc) (r .end)
   pub lines : r .line ≤ line + 33
-
--- all procedures
-pub record ProcsAt (closed : Bool) (x : Counts) (s : List ℕ) (at line : ℕ) (r : Procs) : Type 0 where
-  pub rows : RowsAt (rowIn closed x) (x .procs) (replicate 8 noProc) s at line (r .end) (r .line) (r .proc)

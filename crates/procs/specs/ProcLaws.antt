@@ -27,11 +27,11 @@ use Rattle.records.specs.Answer.{Counted, headOf, ProcAt, Sized}
 use Rattle.nodes.specs.Answer.{Fits}
 use Rattle.rows.specs.declared.End.{End}
 use Rattle.rows.specs.declared.End.the-variants.{At, Refused}
-use Rattle.rows.specs.Rows.{endIn, endBlank}
+use Rattle.rows.specs.Rows.{endIn, endBlank, RowsAt}
 use Rattle.rows.specs.RowLaws.{end-mapped, Step, Stop, Rowing, rows-start, rows-turn, rows-stop, rows-end}
 use Rattle.procs.specs.declared.Slots.{Slots}
 use Rattle.procs.specs.declared.ProcRow.{ProcRow}
-use Rattle.procs.specs.Answer.{SlotsAt, procFault, procOf, headKept, rowOf, rowIn, ProcRowAt, ProcsAt}
+use Rattle.procs.specs.Answer.{SlotsAt, procFault, procOf, headKept, rowOf, rowIn, ProcRowAt}
 
 abbrev scopeFor : Bool → Counts → ProcHead → Judged
 scopeFor closed x h = record { closed = closed; procs = x .procs; sems = x .sems; queues = x .queues; vars = h .vars; nodes = h .nodes }
@@ -120,13 +120,13 @@ module _ {closed : Bool} {x : Counts} {s : List ℕ} {at line : ℕ} {acc : List
       record { rowing = rows-turn (o .rowing) h u; lines = omega (arith, o .lines, m .lines) }
 
   pub procs-stop : i < x .procs → {r : ProcRow} → ProcRowAt closed x i s p l r → {f : Fault} → r .end ≡ Refused f
-      → {a : List Proc} → a ≡ replicate 8 noProc → ProcsAt closed x s at line (record { end = r .end; line = r .line; proc = a })
-  procs-stop h {r} m {f} q z =
+      → RowsAt (rowIn closed x) (x .procs) (replicate 8 noProc) s at line (r .end) (r .line) (replicate 8 noProc)
+  procs-stop h {r} m {f} q =
       let u : Stop (rowIn closed x) i s p l f (r .line) = record { same = sym (m .same) ∙ rw q } in
-      record { rows = rw (q, z) (rows-stop (o .rowing) h u) }
+      rw q (rows-stop (o .rowing) h u)
 
-  pub procs-end : x .procs ≤ i → ProcsAt closed x s at line (record { end = At p; line = l; proc = acc })
-  procs-end h = record { rows = rows-end (o .rowing) h }
+  pub procs-end : x .procs ≤ i → RowsAt (rowIn closed x) (x .procs) (replicate 8 noProc) s at line (At p) l acc
+  procs-end h = rows-end (o .rowing) h
 
 -- ---- a procedure all 0
 pub set-blank : {A : Type 0} (n i : ℕ) (a : A) → set (replicate n a) i a ≡ replicate n a
@@ -140,9 +140,6 @@ blank-is i = λ ι. record { params = 0; vars = 0; nodes = 0; drop = 0; slots = 
 pub blank-of : (i : ℕ) {q : Proc} (d : Slot) → q ≡ noProc
     → _≡_ {A = Proc} (record { params = q .params; vars = q .vars; nodes = q .nodes; drop = q .drop; slots = set (q .slots) i (getD (q .slots) 0 d) }) noProc
 blank-of i d p = rw p (blank-is i)
-
-pub blank-all : {q : Proc} → q ≡ noProc → replicate 8 q ≡ replicate 8 noProc
-blank-all p = rw p
 
 pub blank-slots : (i : ℕ) → set (replicate 32 noSlot) i noSlot ≡ noSlots
 blank-slots i = set-blank 32 i noSlot

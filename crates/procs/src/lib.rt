@@ -2,9 +2,9 @@
 ghost use Prim.Native.Nat.{_<_, _≤_};
 ghost use mathlib.Core.Path.{_≡_};
 ghost use mathlib.Core.Bool.{true, false};
-ghost use lib.ListN.{length, replicate};
+ghost use lib.ListN.{length};
 ghost use Rattle.nodes.specs.Answer.{scopeIn, Fits};
-ghost use Rattle.procs.specs.Answer.{stoppedOf, nodeStands, isFurther, lineDue, numberBelow, SlotsAt, headKept, rowOf, procFault, ProcRowAt, ProcsAt};
+ghost use Rattle.procs.specs.Answer.{stoppedOf, nodeStands, isFurther, lineDue, numberBelow, SlotsAt, headKept, rowOf, procFault, ProcRowAt};
 ghost use Rattle.records.specs.Answer.{Counted};
 ghost use Rattle.table.specs.Table.{noSlots, noProc};
 
@@ -16,22 +16,15 @@ pub struct Slots {
 }
 
 // A procedure, with the line reached; or its first fault, with its line and a procedure all 0.
-struct ProcRow {
-    end: rows::End,
-    line: usize,
-    proc: table::Proc,
-}
-
-// All procedures, with the line reached; or their first fault, with its line and procedures all 0.
-pub struct Procs {
+pub struct ProcRow {
     pub end: rows::End,
     pub line: usize,
-    pub proc: [table::Proc; 8],
+    pub proc: table::Proc,
 }
 
 // ---- places all 0
 
-fn empty_proc() -> table::Proc
+pub fn empty_proc() -> table::Proc
     ensures { λ r. ⌜ r ≡ noProc ⌝ }
 {
     let none = table::Slot {
@@ -68,13 +61,6 @@ fn blank_proc(k: usize) -> table::Proc
     let i = k % 32;
     q.slots[i] = none;
     q
-}
-
-fn blank_procs(k: usize) -> [table::Proc; 8]
-    ensures { λ r. ⌜ r ≡ replicate 8 noProc ⌝ }
-{
-    let none = blank_proc(k);
-    [none; 8]
 }
 
 // ---- node lines
@@ -223,7 +209,7 @@ fn proc_fault(head: records::ProcLine) -> text::Fault
 }
 
 // A procedure's line and its node lines.
-fn proc_row(
+pub fn proc_row(
     s: &[u8],
     at: usize,
     line: usize,
@@ -252,37 +238,4 @@ fn proc_row(
     };
     let body = node_rows(s, e, line + 1, c);
     with_nodes(h, body)
-}
-
-pub fn proc_rows(s: &[u8], at: usize, line: usize, closed: bool, counts: records::Counts) -> Procs
-    requires { ⌜ (at ≤ length (now s)) × Counted counts × (line ≤ 100) ⌝ }
-    ensures { λ r. ⌜ ProcsAt closed counts (now (s .entry)) at line r ⌝ }
-{
-    let none = empty_proc();
-    let mut proc = [none; 8];
-    let n = counts.procs as usize;
-    let mut p = at;
-    let mut l = line;
-    let mut i = 0;
-    while i < n {
-        let row = proc_row(s, p, l, closed, counts, i as u64);
-        let end = row.end;
-        let rows::End::At(e) = end else {
-            return Procs {
-                end,
-                line: row.line,
-                proc: blank_procs(row.line),
-            };
-        };
-        let q = row.proc;
-        proc[i] = q;
-        p = e;
-        l = row.line;
-        i += 1;
-    }
-    Procs {
-        end: rows::End::At(p),
-        line: l,
-        proc,
-    }
 }

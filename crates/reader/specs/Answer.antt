@@ -2,18 +2,20 @@
 use Prim.Native.Nat.{ℕ, _≤_}
 use mathlib.Core.Path.{_≡_}
 use mathlib.Core.List.{List}
-use mathlib.Core.Bool.{Bool}
+use mathlib.Core.Bool.{Bool, false}
 use lib.ListN.{drop, replicate}
-use Rattle.table.specs.Table.{noTask, noSem, noQueue}
+use Rattle.table.specs.Table.{noTask, noSem, noQueue, noProc, noTable}
 use Rattle.table.specs.declared.Task.{Task}
 use Rattle.table.specs.declared.Sem.{Sem}
 use Rattle.table.specs.declared.Queue.{Queue}
+use Rattle.table.specs.declared.Proc.{Proc}
 use Rattle.table.specs.declared.Table.{Table}
 use Rattle.text.specs.declared.Fault.{Fault}
 use Rattle.text.specs.declared.Reading.{Reading}
 use Rattle.text.specs.Line.{Outcome, Parser, _>>=_, give}
-use Rattle.text.specs.Reader.{rows, taskRow, semRow, queueRow, body, resultOf, reading}
+use Rattle.text.specs.Reader.{rows, taskRow, semRow, queueRow, procRow, atEnd, body, resultOf, bad, reading}
 use Rattle.records.specs.declared.Counts.{Counts}
+use Rattle.records.specs.Answer.{Counted}
 use Rattle.records.specs.declared.HeadLine.{HeadLine}
 use Rattle.records.specs.declared.HeadLine.the-variants.{Is as IsHead, Refused as NotHead}
 use Rattle.records.specs.declared.CountsLine.{CountsLine}
@@ -22,6 +24,7 @@ use Rattle.rows.specs.declared.End.{End}
 use Rattle.rows.specs.declared.End.the-variants.{At, Refused}
 use Rattle.rows.specs.Rows.{endIn, endWithin, endBlank}
 use Rattle.reader.specs.declared.Objects.{Objects}
+use Rattle.reader.specs.declared.Front.{Front}
 
 abbrev pub headFault : HeadLine → Fault
 headFault (IsHead n c e) = Fault.Form
@@ -76,3 +79,56 @@ answered o = reading (resultOf o)
 -- the lines behind the first two
 abbrev pub bodyIn : ℕ → Bool → Counts → List ℕ → Outcome Table
 bodyIn trap closed x s = body trap closed (x .tasks) (x .procs) (x .sems) (x .queues) 3 s
+
+-- a table by its parts
+abbrev pub tableOf : ℕ → Bool → Counts → Lists → List Proc → Table
+tableOf trap closed x o ps = record {
+  trap = trap;
+  closed = closed;
+  tasks = x .tasks;
+  procs = x .procs;
+  sems = x .sems;
+  queues = x .queues;
+  task = o .task;
+  sem = o .sem;
+  queue = o .queue;
+  proc = ps;
+}
+
+-- procedures and the text's end
+abbrev pub others : ℕ → Bool → Counts → Lists → Parser Table
+others trap closed x o =
+    rows (procRow closed (x .procs) (x .sems) (x .queues)) (x .procs) 0 (replicate 8 noProc) >>= λ ps.
+    atEnd >>= λ u.
+    give (tableOf trap closed x o ps)
+
+abbrev pub frontLists : Front → Lists
+frontLists o = lists (o .task) (o .sem) (o .queue)
+
+-- the table of what stands before its procedures
+abbrev pub tableWith : Front → List Proc → Table
+tableWith o = tableOf (o .trap) (o .closed) (o .counts) (frontLists o)
+
+abbrev pub noFront : Fault → ℕ → Front
+noFront f l = record {
+  end = Refused f;
+  line = l;
+  trap = 0;
+  closed = false;
+  counts = record { tasks = 0; procs = 0; sems = 0; queues = 0 };
+  task = noLists .task;
+  sem = noLists .sem;
+  queue = noLists .queue;
+}
+
+-- what the rest of the text leads to
+abbrev pub restIn : List ℕ → Front → End → Reading
+restIn s o (At p) = answered (others (o .trap) (o .closed) (o .counts) (frontLists o) (o .line) (drop p s))
+restIn s o (Refused f) = reading (bad f (o .line))
+
+pub record FrontAt (s : List ℕ) (a : Reading) (o : Front) : Type 0 where
+  pub same : restIn s o (o .end) ≡ a
+  pub within : endWithin s (o .end)
+  pub blank : endBlank noTable (tableWith o (replicate 8 noProc)) (o .end)
+  pub lines : o .line ≤ 23
+  pub fit : Counted (o .counts)

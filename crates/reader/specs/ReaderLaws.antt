@@ -1,6 +1,6 @@
 -- The lines of a text, one group behind the other.
 use Prim.Native.Nat.{ℕ, _+_, _≤_, _<_}
-use mathlib.Core.Path.{_≡_, refl, sym, _∙_, ap}
+use mathlib.Core.Path.{_≡_, refl, sym, _∙_, ap, subst}
 use mathlib.Core.List.{List, []}
 use mathlib.Core.Bool.{Bool, false}
 use native.Mathlib.Omega.{arith}
@@ -34,14 +34,15 @@ use Rattle.rows.specs.declared.Tasks.{Tasks}
 use Rattle.rows.specs.declared.Sems.{Sems}
 use Rattle.rows.specs.declared.Queues.{Queues}
 use Rattle.rows.specs.Rows.{RowsAt}
-use Rattle.procs.specs.declared.Procs.{Procs}
-use Rattle.procs.specs.Answer.{ProcsAt}
-use Rattle.procs.specs.ProcLaws.{set-blank}
+use Rattle.procs.specs.declared.ProcRow.{ProcRow}
+use Rattle.procs.specs.Answer.{ProcRowAt}
+use Rattle.procs.specs.ProcLaws.{set-blank, Procing, procs-start, procs-turn, procs-stop, procs-end}
 use Rattle.late.specs.declared.Late.{Late}
 use Rattle.late.specs.declared.Late.the-variants.{Good, Bad}
 use Rattle.late.specs.Late.{lateIn, Counted as Few}
 use Rattle.reader.specs.declared.Objects.{Objects}
-use Rattle.reader.specs.Answer.{headFault, countsFault, faultOf, Lists, lists, noObjects, listsOf, queueRows, semRows, objectRows, ObjectsAt, answered, bodyIn}
+use Rattle.reader.specs.declared.Front.{Front}
+use Rattle.reader.specs.Answer.{headFault, countsFault, faultOf, Lists, lists, noObjects, listsOf, queueRows, semRows, objectRows, ObjectsAt, answered, bodyIn, tableOf, others, frontLists, tableWith, noFront, FrontAt}
 
 module _ {A : Type 0} {f : ℕ → Parser A} {n : ℕ} {acc : List A} {s : List ℕ} {at line : ℕ} {e : End} {l : ℕ} {a : List A} (m : RowsAt f n acc s at line e l a) where
   rows-took : {p : ℕ} → e ≡ At p → rows f n 0 acc line (drop at s) ≡ took a l (drop p s)
@@ -54,44 +55,30 @@ module _ {A : Type 0} {f : ℕ → Parser A} {n : ℕ} {acc : List A} {s : List 
   rows-place q = rw q at (m .within)
 
 -- ---- a table all 0
-pub blank-is : (i : ℕ) → _≡_ {A = Table} (record {
-  trap = 0;
-  closed = false;
-  tasks = 0;
-  procs = 0;
-  sems = 0;
-  queues = 0;
-  task = replicate 4 noTask;
-  sem = replicate 8 noSem;
-  queue = replicate 8 noQueue;
-  proc = set (replicate 8 noProc) i noProc;
-}) noTable
-blank-is i = λ ι. record {
-  trap = 0;
-  closed = false;
-  tasks = 0;
-  procs = 0;
-  sems = 0;
-  queues = 0;
-  task = replicate 4 noTask;
-  sem = replicate 8 noSem;
-  queue = replicate 8 noQueue;
-  proc = set-blank 8 i noProc ι;
-}
-
-pub blank-of : (i : ℕ) {t : Table} (d : Proc) → t ≡ noTable → _≡_ {A = Table} (record {
+pub blank-is : (i : ℕ) {t : Table} → t ≡ noTable → _≡_ {A = Table} (record {
   trap = t .trap;
   closed = t .closed;
   tasks = t .tasks;
   procs = t .procs;
   sems = t .sems;
   queues = t .queues;
-  task = t .task;
+  task = set (t .task) i noTask;
   sem = t .sem;
   queue = t .queue;
-  proc = set (t .proc) i (getD (t .proc) 0 d);
+  proc = t .proc;
 }) noTable
-blank-of i d p = rw p (blank-is i)
+blank-is i p = rw p (λ ι. record {
+  trap = 0;
+  closed = false;
+  tasks = 0;
+  procs = 0;
+  sems = 0;
+  queues = 0;
+  task = set-blank 4 i noTask ι;
+  sem = replicate 8 noSem;
+  queue = replicate 8 noQueue;
+  proc = replicate 8 noProc;
+})
 
 -- ---- tasks, semaphores and queues
 module _ {closed : Bool} {x : Counts} {s : List ℕ} {at line : ℕ} {a : Tasks}
@@ -114,27 +101,6 @@ pub objects-place : {closed : Bool} {x : Counts} {s : List ℕ} {at line : ℕ} 
 objects-place m q = rw q at (m .within)
 
 -- ---- the lines behind the first two
-
-abbrev tableOf : ℕ → Bool → Counts → Lists → List Proc → Table
-tableOf trap closed x o ps = record {
-  trap = trap;
-  closed = closed;
-  tasks = x .tasks;
-  procs = x .procs;
-  sems = x .sems;
-  queues = x .queues;
-  task = o .task;
-  sem = o .sem;
-  queue = o .queue;
-  proc = ps;
-}
-
--- procedures and the text's end
-abbrev others : ℕ → Bool → Counts → Lists → Parser Table
-others trap closed x o =
-    rows (procRow closed (x .procs) (x .sems) (x .queues)) (x .procs) 0 (replicate 8 noProc) >>= λ ps.
-    atEnd >>= λ u.
-    give (tableOf trap closed x o ps)
 
 body-parts : (trap : ℕ) (closed : Bool) (x : Counts) (l : ℕ) (t : List ℕ)
     → onto (objectRows closed x l t) (others trap closed x) ≡ body trap closed (x .tasks) (x .procs) (x .sems) (x .queues) l t
@@ -177,40 +143,23 @@ stopped-is : (o : Outcome Table) {f y : Fault} {l : ℕ} → o ≡ refused f l �
 stopped-is o q d p = p ∙ rw (d, q)
 
 module _ (trap : ℕ) {closed : Bool} {x : Counts} {s : List ℕ} {at : ℕ} {o : Objects} (m : ObjectsAt closed x s at 3 o) where
-  pub body-stop : {f : Fault} → o .end ≡ Refused f → {y : Fault} → y ≡ faultOf (o .end) → {r : Reading} → r ≡ reading (bad y (o .line))
-      → r ≡ answered (bodyIn trap closed x (drop at s))
-  body-stop {f} q d = stopped-is (bodyIn trap closed x (drop at s)) {f = f} (rw (← body-parts trap closed x 3 (drop at s), ← m .same, q)) (d ∙ rw q)
+  body-stop : {f : Fault} → o .end ≡ Refused f → {y : Fault} → y ≡ faultOf (o .end) → reading (bad y (o .line)) ≡ answered (bodyIn trap closed x (drop at s))
+  body-stop {f} q d = stopped-is (bodyIn trap closed x (drop at s)) {f = f} (rw (← body-parts trap closed x 3 (drop at s), ← m .same, q)) (d ∙ rw q) refl
 
-  module _ {p : ℕ} (q : o .end ≡ At p) {b : Procs} (n : ProcsAt closed x s p (o .line) b) where
-    pub procs-stop : {f : Fault} → b .end ≡ Refused f → {y : Fault} → y ≡ faultOf (b .end) → {r : Reading} → r ≡ reading (bad y (b .line))
-        → r ≡ answered (bodyIn trap closed x (drop at s))
-    procs-stop {f} u d = stopped-is (bodyIn trap closed x (drop at s)) {f = f} (rw (← body-parts trap closed x 3 (drop at s), ← m .same, q, rows-refused (n .rows) u)) (d ∙ rw u)
+  body-go : {p : ℕ} → o .end ≡ At p → answered (others trap closed x (listsOf o) (o .line) (drop p s)) ≡ answered (bodyIn trap closed x (drop at s))
+  body-go q = rw (← body-parts trap closed x 3 (drop at s), ← m .same, q)
 
-    pub body-more : {e : ℕ} → b .end ≡ At e → e < length s → {r : Reading} → r ≡ reading (bad Ended (b .line)) → r ≡ answered (bodyIn trap closed x (drop at s))
-    body-more {e} u h = stopped-is (bodyIn trap closed x (drop at s)) (rw (← body-parts trap closed x 3 (drop at s), ← m .same, q, rows-took (n .rows) u, drop-cons s e 0 h)) refl
+-- ---- what stands before the procedures
+no-front : {s : List ℕ} {a : Reading} {f : Fault} {l : ℕ} → l ≤ 23 → reading (bad f l) ≡ a → {o : Front} → o ≡ noFront f l → FrontAt s a o
+no-front h e d = rw d (record { same = e; within = tt; blank = refl; lines = h; fit = record { tasks = omega arith; procs = omega arith; sems = omega arith; queues = omega arith } })
 
-    module _ {e : ℕ} (u : b .end ≡ At e) (h : length s ≤ e) where
-      -- the counts of a table that was read are in range
-      pub body-few : Counted x → Few (tableOf trap closed x (listsOf o) (b .proc))
-      body-few c =
-          let f = rows-fill small (procRow closed (x .procs) (x .sems) (x .queues)) (small-row closed (x .procs) (x .sems) (x .queues)) (x .procs) 0 (x .procs) (replicate 8 noProc) (o .line) (drop p s) (b .proc) (b .line) (drop e s) (omega arith) (omega (arith, c .procs)) (rows-took (n .rows) u) in
-          record { tasks = omega (arith, c .tasks); procs = omega (arith, c .procs); nodes = λ i k. f .fine i (omega arith) k }
-
-      module _ (l : Late) (v : lateIn (tableOf trap closed x (listsOf o) (b .proc)) l ≡ firstLate (tableOf trap closed x (listsOf o) (b .proc)) 1 (late (tableOf trap closed x (listsOf o) (b .proc)))) where
-        found : reading (lateIn (tableOf trap closed x (listsOf o) (b .proc)) l) ≡ answered (bodyIn trap closed x (drop at s))
-        found = ap reading v ∙ rw (← body-parts trap closed x 3 (drop at s), ← m .same, q, rows-took (n .rows) u, drop-of-length-le s h)
-
-        pub body-good : l ≡ Good → _≡_ {A = Reading} (record { number = 0; line = 0; table = tableOf trap closed x (listsOf o) (b .proc) }) (answered (bodyIn trap closed x (drop at s)))
-        body-good g = rw g at found
-
-        pub body-bad : {f : Fault} {k : ℕ} → l ≡ Bad f k → {r : Reading} → r ≡ reading (bad f k) → r ≡ answered (bodyIn trap closed x (drop at s))
-        body-bad g d = d ∙ (rw g at found)
-
--- ---- the whole text
 module _ {s : List ℕ} {k : HeadLine} (m : LineAt headLine (λ w. w) s 0 (headIn k)) where
-  pub head-stop : {f : Fault} → k ≡ NotHead f → {y : Fault} → y ≡ headFault k → {r : Reading} → r ≡ reading (bad y 1) → r ≡ answered (table 1 s)
+  head-fault : {f : Fault} → k ≡ NotHead f → {y : Fault} → y ≡ headFault k → reading (bad y 1) ≡ answered (table 1 s)
   unfolding table
-  head-stop {f} q d = stopped-is (table 1 s) {f = f} (rw (onto-stop (line headLine 1 s) (λ w. w) {f = f} {l = 1} (sym (m .same 1) ∙ rw q))) (d ∙ rw q)
+  head-fault {f} q d = stopped-is (table 1 s) {f = f} (rw (onto-stop (line headLine 1 s) (λ w. w) {f = f} {l = 1} (sym (m .same 1) ∙ rw q))) (d ∙ rw q) refl
+
+  pub head-stop : {f : Fault} → k ≡ NotHead f → {y : Fault} → y ≡ headFault k → {o : Front} → o ≡ noFront y 1 → FrontAt s (answered (table 1 s)) o
+  head-stop q d = no-front (omega arith) (head-fault q d)
 
   pub head-place : {n : ℕ} {c : Bool} {a : ℕ} → k ≡ IsHead n c a → a ≤ length s
   head-place q = rw q at (m .within)
@@ -221,9 +170,12 @@ module _ {s : List ℕ} {k : HeadLine} (m : LineAt headLine (λ w. w) s 0 (headI
       t .1 ∙ rw (t .2)
 
   module _ {n : ℕ} {c : Bool} {a : ℕ} (q : k ≡ IsHead n c a) {j : CountsLine} (o : CountsAt countsLine (λ w. w) s a j) where
-    pub counts-stop : {f : Fault} → j ≡ NotCounts f → {y : Fault} → y ≡ countsFault j → {r : Reading} → r ≡ reading (bad y 2) → r ≡ answered (table 1 s)
+    counts-fault : {f : Fault} → j ≡ NotCounts f → {y : Fault} → y ≡ countsFault j → reading (bad y 2) ≡ answered (table 1 s)
     unfolding table
-    counts-stop {f} p d = stopped-is (table 1 s) {f = f} (rw (head-got q, onto-stop (line countsLine 2 (drop a s)) (λ w. w) {f = f} {l = 2} (sym (o .is .same 2) ∙ rw p))) (d ∙ rw p)
+    counts-fault {f} p d = stopped-is (table 1 s) {f = f} (rw (head-got q, onto-stop (line countsLine 2 (drop a s)) (λ w. w) {f = f} {l = 2} (sym (o .is .same 2) ∙ rw p))) (d ∙ rw p) refl
+
+    pub counts-stop : {f : Fault} → j ≡ NotCounts f → {y : Fault} → y ≡ countsFault j → {z : Front} → z ≡ noFront y 2 → FrontAt s (answered (table 1 s)) z
+    counts-stop p d = no-front (omega arith) (counts-fault p d)
 
     pub counts-place : {x : Counts} {b : ℕ} → j ≡ IsCounts x b → b ≤ length s
     counts-place p = rw p at (o .is .within)
@@ -231,20 +183,111 @@ module _ {s : List ℕ} {k : HeadLine} (m : LineAt headLine (λ w. w) s 0 (headI
     pub counts-fit : {x : Counts} {b : ℕ} → j ≡ IsCounts x b → Counted x
     counts-fit p = rw p at (o .fit)
 
-    pub table-go : {x : Counts} {b : ℕ} → j ≡ IsCounts x b → {r : Reading} → r ≡ answered (bodyIn n c x (drop b s)) → r ≡ answered (table 1 s)
+    table-go : {x : Counts} {b : ℕ} → j ≡ IsCounts x b → {r : Reading} → r ≡ answered (bodyIn n c x (drop b s)) → r ≡ answered (table 1 s)
     unfolding table
     table-go {x} {b} p u =
         let t = onto-got (line countsLine 2 (drop a s)) (λ w. w) {b = valsOf x} {l = 3} {s = drop b s} (sym (o .is .same 2) ∙ rw p) in
         u ∙ rw (head-got q, t .1, t .2)
 
+    module _ {x : Counts} {b : ℕ} (p : j ≡ IsCounts x b) {z : Objects} (u : ObjectsAt c x s b 3 z) where
+      pub front-stop : {f : Fault} → z .end ≡ Refused f → {y : Fault} → y ≡ faultOf (z .end) → {r : Front} → r ≡ noFront y (z .line) → FrontAt s (answered (table 1 s)) r
+      front-stop g d = no-front (u .lines) (table-go p (body-stop n u g d))
+
+      pub front-end : {e : ℕ} → z .end ≡ At e → FrontAt s (answered (table 1 s)) (record { end = z .end; line = z .line; trap = n; closed = c; counts = x; task = z .task; sem = z .sem; queue = z .queue })
+      front-end g = record { same = rw g (table-go p (body-go n u g)); within = u .within; blank = rw g tt; lines = u .lines; fit = counts-fit p }
+
+pub front-long : (s : List ℕ) → 65536 < length s → {o : Front} → o ≡ noFront Long 0 → FrontAt s (read s) o
+unfolding read
+front-long s h = no-front (omega arith) (rw (lt-ltb 65536 (length s) h, read))
+
+pub front-lines : (s : List ℕ) → length s ≤ 65536 → {o : Front} → FrontAt s (answered (table 1 s)) o → FrontAt s (read s) o
+unfolding read readLines
+front-lines s h m = rw (le-ltb 65536 (length s) h, read, readLines) m
+
 -- ---- the answer
 pub refused-is : (f : Fault) {l n : ℕ} {t : Table} → n ≡ number f → t ≡ noTable → _≡_ {A = Reading} (record { number = n; line = l; table = t }) (reading (bad f l))
 refused-is f {l} p q = λ ι. record { number = p ι; line = l; table = q ι }
 
-pub read-long : (s : List ℕ) → 65536 < length s → {r : Reading} → r ≡ reading (bad Long 0) → r ≡ read s
-unfolding read
-read-long s h q = q ∙ rw (lt-ltb 65536 (length s) h, read)
+-- the table as far as it is filled, with the place, the line and the procedure reached
+pub record Filled (s : List ℕ) (o : Front) (start : ℕ) (t : Table) (p l i : ℕ) : Type 0 where
+  pub table : t ≡ tableWith o (t .proc)
+  pub procs : Procing (o .closed) (o .counts) s start (o .line) (t .proc) p l i
 
-pub read-lines : (s : List ℕ) → length s ≤ 65536 → {r : Reading} → r ≡ answered (table 1 s) → r ≡ read s
-unfolding read readLines
-read-lines s h q = q ∙ rw (le-ltb 65536 (length s) h, read, readLines)
+module _ {s : List ℕ} {a : Reading} {o : Front} (m : FrontAt s a o) where
+  pub read-front : {f : Fault} → o .end ≡ Refused f → {y : Fault} → y ≡ faultOf (o .end) → {n : ℕ} → n ≡ number y → {z : Proc} → z ≡ noProc
+      → _≡_ {A = Reading} (record { number = n; line = o .line; table = tableWith o (replicate 8 z) }) a
+  read-front {f} q d e z =
+      let g : reading (bad f (o .line)) ≡ a = rw q at (m .same) in
+      let b : tableWith o (replicate 8 noProc) ≡ noTable = rw q at (m .blank) in
+      refused-is f (e ∙ rw (d, q)) (rw z b) ∙ g
+
+  pub filled-start : {p : ℕ} → o .end ≡ At p → {z : Proc} → z ≡ noProc → Filled s o p (tableWith o (replicate 8 z)) p (o .line) 0
+  filled-start q z = record { table = refl; procs = procs-start z (rw q at (m .within)) }
+
+  module _ {p : ℕ} (q : o .end ≡ At p) where
+    rest-is : answered (others (o .trap) (o .closed) (o .counts) (frontLists o) (o .line) (drop p s)) ≡ a
+    rest-is = rw q at (m .same)
+
+    module _ {t : Table} {k l i : ℕ} (w : Filled s o p t k l i) where
+      pub read-row : i < o .counts .procs → {r : ProcRow} → ProcRowAt (o .closed) (o .counts) i s k l r → {f : Fault} → r .end ≡ Refused f → {y : Fault} → y ≡ faultOf (r .end)
+          → {b : Reading} → b ≡ reading (bad y (r .line)) → b ≡ a
+      read-row h c {f} u d e =
+          stopped-is (others (o .trap) (o .closed) (o .counts) (frontLists o) (o .line) (drop p s)) {f = f} (rw (rows-refused (procs-stop (w .procs) h c u) u)) (d ∙ rw u) e ∙ rest-is
+
+      module _ (h : o .counts .procs ≤ i) where
+        rows-all : rows (procRow (o .closed) (o .counts .procs) (o .counts .sems) (o .counts .queues)) (o .counts .procs) 0 (replicate 8 noProc) (o .line) (drop p s) ≡ took (t .proc) l (drop k s)
+        rows-all = rows-took (procs-end (w .procs) h) refl
+
+        pub read-more : k < length s → {b : Reading} → b ≡ reading (bad Ended l) → b ≡ a
+        read-more v e =
+            stopped-is (others (o .trap) (o .closed) (o .counts) (frontLists o) (o .line) (drop p s)) (rw (rows-all, drop-cons s k 0 v)) refl e ∙ rest-is
+
+        -- the counts of a table that was read are in range
+        pub read-few : Few t
+        read-few =
+            let c = m .fit in
+            let f = rows-fill small (procRow (o .closed) (o .counts .procs) (o .counts .sems) (o .counts .queues)) (small-row (o .closed) (o .counts .procs) (o .counts .sems) (o .counts .queues)) (o .counts .procs) 0 (o .counts .procs) (replicate 8 noProc) (o .line) (drop p s) (t .proc) l (drop k s) (omega arith) (omega (arith, c .procs)) rows-all in
+            subst (λ (x : Table). Few x) (sym (w .table)) (record { tasks = omega (arith, c .tasks); procs = omega (arith, c .procs); nodes = λ i k. f .fine i (omega arith) k })
+
+        module _ (v : length s ≤ k) (z : Late) (g : lateIn t z ≡ firstLate t 1 (late t)) where
+          found : reading (lateIn t z) ≡ a
+          found =
+              ap reading g
+              ∙ ap (λ (x : Table). reading (firstLate x 1 (late x))) (w .table)
+              ∙ rw (rows-all, drop-of-length-le s v) at rest-is
+
+          pub read-good : z ≡ Good → _≡_ {A = Reading} (record { number = 0; line = 0; table = t }) a
+          read-good u = rw u at found
+
+          pub read-late : {f : Fault} {j : ℕ} → z ≡ Bad f j → {b : Reading} → b ≡ reading (bad f j) → b ≡ a
+          read-late u e = e ∙ (rw u at found)
+
+pub filled-turn : {s : List ℕ} {o : Front} {start : ℕ} {t : Table} {p l i : ℕ} → Filled s o start t p l i → i < o .counts .procs
+    → {r : ProcRow} → ProcRowAt (o .closed) (o .counts) i s p l r → {e : ℕ} → r .end ≡ At e
+    → Filled s o start (record {
+      trap = t .trap;
+      closed = t .closed;
+      tasks = t .tasks;
+      procs = t .procs;
+      sems = t .sems;
+      queues = t .queues;
+      task = t .task;
+      sem = t .sem;
+      queue = t .queue;
+      proc = set (t .proc) i (r .proc);
+    }) e (r .line) (i + 1)
+filled-turn {t = t} {i = i} w h {r} c q = record {
+  table = ap (λ (x : Table). let y : Table = record {
+    trap = x .trap;
+    closed = x .closed;
+    tasks = x .tasks;
+    procs = x .procs;
+    sems = x .sems;
+    queues = x .queues;
+    task = x .task;
+    sem = x .sem;
+    queue = x .queue;
+    proc = set (t .proc) i (r .proc);
+  } in y) (w .table);
+  procs = procs-turn (w .procs) h c q;
+}

@@ -11,11 +11,11 @@ use text::Fault;
 use text::Reading;
 ghost use Prim.Native.Nat.{_≤_};
 ghost use mathlib.Core.Path.{_≡_};
-ghost use lib.ListN.{length, drop};
+ghost use lib.ListN.{length};
 ghost use Rattle.table.specs.Table.{noTable};
 ghost use Rattle.text.specs.Reader.{table, bad, reading, read};
 ghost use Rattle.records.specs.Answer.{Counted};
-ghost use Rattle.reader.specs.Answer.{noObjects, ObjectsAt, answered, bodyIn, faultOf, headFault, countsFault};
+ghost use Rattle.reader.specs.Answer.{noObjects, ObjectsAt, noFront, FrontAt, answered, faultOf, headFault, countsFault};
 
 // A table all 0.
 pub fn no_table() -> Table
@@ -45,21 +45,22 @@ pub fn no_table() -> Table
     }
 }
 
-// A table all 0, stored into at a computed place: tables are then copied in one piece and not slot by slot.
-fn blank_table(k: usize) -> Table
-    ensures { λ r. ⌜ r ≡ noTable ⌝ }
-{
-    let mut t = no_table();
-    let q = t.proc[0];
-    let i = k % 8;
-    t.proc[i] = q;
-    t
-}
-
 // The tasks, semaphores and queues, with the line reached; or their first fault, with its line and places all 0.
 struct Objects {
     end: rows::End,
     line: usize,
+    task: [Task; 4],
+    sem: [Sem; 8],
+    queue: [Queue; 8],
+}
+
+// What stands before the procedures, with the line reached; or the first fault, with its line and places all 0.
+struct Front {
+    end: rows::End,
+    line: usize,
+    trap: u8,
+    closed: bool,
+    counts: records::Counts,
     task: [Task; 4],
     sem: [Sem; 8],
     queue: [Queue; 8],
@@ -140,43 +141,101 @@ fn object_rows(s: &[u8], at: usize, line: usize, closed: bool, counts: records::
     }
 }
 
-// The answer where a fault was found.
+// A refusal, with places all 0.
+fn no_front(f: Fault, line: usize) -> Front
+    ensures { λ r. ⌜ r ≡ noFront f line ⌝ }
+{
+    let counts = records::Counts {
+        tasks: 0,
+        procs: 0,
+        sems: 0,
+        queues: 0,
+    };
+    Front {
+        end: rows::End::Refused(f),
+        line,
+        trap: 0,
+        closed: false,
+        counts,
+        task: [Task { top: 0 }; 4],
+        sem: [Sem { count: 0 }; 8],
+        queue: [Queue {
+            cap: 0,
+            blank: false,
+        }; 8],
+    }
+}
+
+// The lines before the procedures.
+fn front_rows(s: &[u8]) -> Front
+    ensures { λ r. ⌜ FrontAt (now (s .entry)) (answered (table 1 (now (s .entry)))) r ⌝ }
+{
+    let head = line_reader::next_head(s, 0);
+    let records::HeadLine::Is(trap, closed, a) = head else {
+        return no_front(head_fault(head), 1);
+    };
+    let row = line_reader::next_counts(s, a);
+    let records::CountsLine::Is(counts, b) = row else {
+        return no_front(counts_fault(row), 2);
+    };
+    let o = object_rows(s, b, 3, closed, counts);
+    let end = o.end;
+    let rows::End::At(_) = end else {
+        return no_front(fault_of(end), o.line);
+    };
+    let task = o.task;
+    let sem = o.sem;
+    let queue = o.queue;
+    Front {
+        end,
+        line: o.line,
+        trap,
+        closed,
+        counts,
+        task,
+        sem,
+        queue,
+    }
+}
+
+// The same of any bytes.
+fn front_of(s: &[u8]) -> Front
+    ensures { λ r. ⌜ FrontAt (now (s .entry)) (read (now (s .entry))) r ⌝ }
+{
+    if s.len() > 65536 {
+        return no_front(Fault::Long, 0);
+    }
+    front_rows(s)
+}
+
+// The answer where a fault was found. The table is stored into at a computed place: it is then copied in one piece and not slot by slot.
 fn refused(f: Fault, line: usize) -> Reading
     ensures { λ r. ⌜ r ≡ reading (bad f line) ⌝ }
 {
-    let table = blank_table(line);
+    let mut table = no_table();
+    let i = line % 4;
+    table.task[i] = Task { top: 0 };
     Reading {
-        number: faults::number(f),
+        number: codes::number(f),
         line,
         table,
     }
 }
 
-// The lines behind the first two, then faults 6 and 7.
-fn body(s: &[u8], at: usize, trap: u8, closed: bool, counts: records::Counts) -> Reading
-    requires { ⌜ (at ≤ length (now s)) × Counted counts ⌝ }
-    ensures { λ r. ⌜ r ≡ answered (bodyIn trap closed counts (drop at (now (s .entry)))) ⌝ }
+// Any bytes: the table, or the number and line of the first fault with a table all 0. The table is filled in its place, and a refusal has a local of its own, so
+// that the table is copied twice only: for `late::find`, and into the answer.
+pub fn read(s: &[u8]) -> Reading
+    ensures { λ r. ⌜ r ≡ read (now (s .entry)) ⌝ }
 {
-    let o = object_rows(s, at, 3, closed, counts);
-    let first = o.end;
-    let rows::End::At(p) = first else {
-        return refused(fault_of(first), o.line);
-    };
-    let b = procs::proc_rows(s, p, o.line, closed, counts);
-    let second = b.end;
-    let rows::End::At(e) = second else {
-        return refused(fault_of(second), b.line);
-    };
-    if e < s.len() {
-        return refused(Fault::Ended, b.line);
-    }
+    let o = front_of(s);
+    let counts = o.counts;
     let task = o.task;
     let sem = o.sem;
     let queue = o.queue;
-    let proc = b.proc;
-    let table = Table {
-        trap,
-        closed,
+    let none = procs::empty_proc();
+    let mut table = Table {
+        trap: o.trap,
+        closed: o.closed,
         tasks: counts.tasks,
         procs: counts.procs,
         sems: counts.sems,
@@ -184,39 +243,45 @@ fn body(s: &[u8], at: usize, trap: u8, closed: bool, counts: records::Counts) ->
         task,
         sem,
         queue,
-        proc,
+        proc: [none; 8],
     };
-    match late::find(table) {
-        late::Late::Good => Reading {
-            number: 0,
-            line: 0,
+    let first = o.end;
+    let rows::End::At(start) = first else {
+        return Reading {
+            number: codes::number(fault_of(first)),
+            line: o.line,
             table,
-        },
-        late::Late::Bad(f, line) => refused(f, line),
-    }
-}
-
-// The lines of a whole text.
-fn table_rows(s: &[u8]) -> Reading
-    ensures { λ r. ⌜ r ≡ answered (table 1 (now (s .entry))) ⌝ }
-{
-    let head = line_reader::next_head(s, 0);
-    let records::HeadLine::Is(trap, closed, a) = head else {
-        return refused(head_fault(head), 1);
+        };
     };
-    let row = line_reader::next_counts(s, a);
-    let records::CountsLine::Is(counts, b) = row else {
-        return refused(counts_fault(row), 2);
-    };
-    body(s, b, trap, closed, counts)
-}
-
-// Any bytes: the table, or the number and line of the first fault with a table all 0.
-pub fn read(s: &[u8]) -> Reading
-    ensures { λ r. ⌜ r ≡ read (now (s .entry)) ⌝ }
-{
-    if s.len() > 65536 {
-        return refused(Fault::Long, 0);
+    let n = counts.procs as usize;
+    let mut p = start;
+    let mut l = o.line;
+    let mut i = 0;
+    while i < n {
+        let row = procs::proc_row(s, p, l, o.closed, counts, i as u64);
+        let end = row.end;
+        let rows::End::At(e) = end else {
+            let bad = refused(fault_of(end), row.line);
+            return bad;
+        };
+        let q = row.proc;
+        table.proc[i] = q;
+        p = e;
+        l = row.line;
+        i += 1;
     }
-    table_rows(s)
+    if p < s.len() {
+        let bad = refused(Fault::Ended, l);
+        return bad;
+    }
+    let found = late::find(table);
+    if let late::Late::Bad(f, line) = found {
+        let bad = refused(f, line);
+        return bad;
+    }
+    Reading {
+        number: 0,
+        line: 0,
+        table,
+    }
 }

@@ -1,3 +1,4 @@
 pub mod Table
 pub mod TableLaws
 pub mod CountsLaws
+pub mod WriteLaws

@@ -1,7 +1,7 @@
 use mathlib.Core.Path.{sym, _∙_}
 use Rattle.text.specs.ShapeLaws.{shaped}
 use Rattle.analysis.specs.ReadyLaws.{ready}
-use Rattle.bufshani.specs.CloseLaws.{close-faulty, close-closed, close-open}
+use Rattle.closed_text.specs.CloseLaws.{close-faulty, close-closed, close-open}
 use borrow.Author.Needs.{needs}
 use Rattle.bufshani.proofs.close_checked.Statement.{statement}
 use Rattle.bufshani.proofs.close_checked.Tie as tie

@@ -1,4 +1,4 @@
-use Rattle.bufshani.specs.CloseLaws.{refusal-is}
+use Rattle.closed_text.specs.CloseLaws.{refusal-is}
 use borrow.Author.Needs.{needs}
 use Rattle.bufshani.proofs.refused.Statement.{statement}
 use Rattle.bufshani.proofs.refused.Tie as tie

@@ -1,7 +1,7 @@
 use mathlib.Core.Path.{sym, _∙_, ap}
 use Rattle.text.specs.Writer.{Written}
 use Rattle.writer.specs.CountsLaws.{counts}
-use Rattle.bufshani.specs.WriteLaws.{write-faulty, write-good}
+use Rattle.writer.specs.WriteLaws.{write-faulty, write-good}
 use borrow.Author.Needs.{needs}
 use Rattle.bufshani.proofs.write_checked.Statement.{statement}
 use Rattle.bufshani.proofs.write_checked.Tie as tie

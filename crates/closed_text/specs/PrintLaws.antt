@@ -10,7 +10,7 @@ use Rattle.text.specs.RoundTrip.{read-good, read-fault}
 use Rattle.closing.specs.declared.Closing.{Closing}
 use Rattle.closing.specs.Close.{closeTable, close}
 use Rattle.closing.specs.Program.{refusedLine, afterClosing, afterReading, printed}
-use Rattle.bufshani.specs.CloseLaws.{close-closed, close-open}
+use Rattle.closed_text.specs.CloseLaws.{close-closed, close-open}
 
 -- a table that was read has no fault
 pub sound-read : (s : List ℕ) (r : Reading) → r ≡ read s → r .number ≡ 0 → 0 ≡ fault (r .table)

@@ -1,7 +1,7 @@
 use Rattle.text.specs.Fault.{number}
 use borrow.Author.Needs.{needs}
-use Rattle.faults.proofs.number.Statement.{statement}
-use Rattle.faults.proofs.number.Tie as tie
+use Rattle.codes.proofs.number.Statement.{statement}
+use Rattle.codes.proofs.number.Tie as tie
 
 enum-told : tie.Need-enum-told
 enum-told c = search needs

@@ -1,10 +1,10 @@
 use mathlib.Core.Path.{sym}
 use Rattle.put.specs.PutLaws.{put-more}
-use Rattle.bufshani.specs.PrintLaws.{sound-read, printed-refused, printed-closed, printed-open}
+use Rattle.closed_text.specs.PrintLaws.{sound-read, printed-refused, printed-closed, printed-open}
 use borrow.Author.Needs.{needs}
 use native.Mathlib.Omega.{arith}
-use Rattle.bufshani.proofs.close_text.Statement.{statement}
-use Rattle.bufshani.proofs.close_text.Tie as tie
+use Rattle.closed_text.proofs.close_text.Statement.{statement}
+use Rattle.closed_text.proofs.close_text.Tie as tie
 
 read-requires : tie.Need-read-requires
 read-requires c κs = search needs
