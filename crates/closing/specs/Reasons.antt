@@ -56,9 +56,9 @@ stopLine k (suc n) = place (bytes "step ") k ++ (reason (suc n) ++ (10 ∷ []))
 
 -- ---- the lines that are explained
 
--- a text has at most 65,536 bytes, a run of the programs at most 65,536 steps and values
+-- a text has at most 65,536 bytes, a run of the programs at most 100,000 steps and values
 abbrev pub count : ValueKind
-count = from 0 99999
+count = from 0 999999
 
 -- a number that has words
 abbrev pub inWords : ValueKind
@@ -83,3 +83,9 @@ ofRefusal (refused f l) stop = stop
 -- what is said of a text that was printed: by its first line
 unfoldable pub explained : List ℕ → List ℕ
 explained s = ofRefusal (line refusalLine 1 s) (ofStop (line stoppedLine 1 s))
+
+-- ---- what is said last, when all of a text was written
+
+-- `written=N`: of a text of N bytes
+abbrev pub writtenLine : ℕ → List ℕ
+writtenLine n = bytes "written=" ++ (digits n ++ (10 ∷ []))

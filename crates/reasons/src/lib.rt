@@ -8,7 +8,7 @@ ghost use mathlib.Core.Path.{_≡_};
 ghost use mathlib.Core.List.{_++_, _∷_, []};
 ghost use Prim.Native.Nat.{_≤_, _<_};
 ghost use lib.ListN.{length};
-ghost use Rattle.closing.specs.Reasons.{reason, place, reasonLine, stopLine, stoppedLine, ofStop, explained};
+ghost use Rattle.closing.specs.Reasons.{reason, place, reasonLine, stopLine, stoppedLine, ofStop, explained, writtenLine};
 ghost use Rattle.text.specs.Line.{line};
 ghost use Rattle.put.specs.Put.{Put};
 ghost use Rattle.reasons.specs.Answer.{withinOf, CountIn, CountAt, refusalOf, stopOf};
@@ -70,7 +70,7 @@ fn refusal(s: &[u8]) -> Wrong
     let Count::Is(n, a) = count_at(s, 0, b"refused=", 1, 20) else {
         return Wrong::Nothing;
     };
-    let Count::Is(l, b) = count_at(s, a, b" line=", 0, 99999) else {
+    let Count::Is(l, b) = count_at(s, a, b" line=", 0, 999999) else {
         return Wrong::Nothing;
     };
     let Ended::Is(_) = scan::feed(s, b) else {
@@ -83,10 +83,10 @@ fn refusal(s: &[u8]) -> Wrong
 fn stop(s: &[u8]) -> Wrong
     ensures { λ r. ⌜ stopOf (now (s .entry)) r ⌝ }
 {
-    let Count::Is(k, a) = count_at(s, 0, b"steps=", 0, 99999) else {
+    let Count::Is(k, a) = count_at(s, 0, b"steps=", 0, 999999) else {
         return Wrong::Nothing;
     };
-    let Count::Is(_, b) = count_at(s, a, b" used=", 0, 99999) else {
+    let Count::Is(_, b) = count_at(s, a, b" used=", 0, 999999) else {
         return Wrong::Nothing;
     };
     let Count::Is(n, d) = count_at(s, b, b" stop=", 1, 20) else {
@@ -269,13 +269,31 @@ pub fn explain(printed: &[u8], out: &mut [u8]) -> usize
     }
 }
 
-// Writes a text on standard output, and what is said of it on the standard error stream, whose length is the answer.
+// What is said last, when all of a text of n bytes was written.
+fn put_written(out: &mut [u8], n: usize) -> usize
+    ensures { λ r. ⌜ Put 29 (now (out .entry)) 0 (writtenLine n) (now (out .exit)) r ⌝ }
+{
+    let a = put_fields::put_size(out, 0, b"written=", n);
+    put::put_byte(out, a, 10)
+}
+
+fn say_written(n: usize) {
+    let mut line = [0u8; 32];
+    let k = put_written(&mut line, n);
+    console::say(&line[..k]);
+}
+
+// Writes a text on standard output, and on the standard error stream what is said of it, whose length is the answer; last, if all of it was
+// written, its length.
 pub fn print(text: &[u8]) -> usize
     ensures { λ r. ⌜ r ≡ length (explained (now (text .entry))) ⌝ }
 {
     let mut line = [0u8; 128];
     let n = explain(text, &mut line);
-    io::write_all(libc::STDOUT_FILENO, text);
-    io::write_all(libc::STDERR_FILENO, &line[..n]);
+    let whole = console::show(text);
+    console::say(&line[..n]);
+    if whole {
+        say_written(text.len());
+    }
     n
 }

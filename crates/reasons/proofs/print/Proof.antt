@@ -12,20 +12,26 @@ slice-aggregate-explain c = search needs
 explain-requires : tie.Need-explain-requires
 explain-requires c κs = search needs
 
-write-all-requires : tie.Need-write-all-requires
-write-all-requires c κs = search needs
+show-requires : tie.Need-show-requires
+show-requires c κs = search needs
 
 array-share-prefix-line : tie.Need-array-share-prefix-line
 array-share-prefix-line c = search needs
 
-slice-aggregate-write-all : tie.Need-slice-aggregate-write-all
-slice-aggregate-write-all c = sym (length-take-le _ _ (omega arith))
+slice-aggregate-say : tie.Need-slice-aggregate-say
+slice-aggregate-say c = sym (length-take-le _ _ (omega arith))
 
-write-all-requires-2 : tie.Need-write-all-requires-2
-write-all-requires-2 c κs = search needs
+say-requires : tie.Need-say-requires
+say-requires c κs = search needs
+
+say-written-requires : tie.Need-say-written-requires
+say-written-requires c κs = search needs
 
 returns : tie.Need-returns
 returns c = search needs
+
+returns-2 : tie.Need-returns-2
+returns-2 c = search needs
 
 pub print-spec : {M : Type 1} → statement M
 print-spec =
@@ -33,8 +39,10 @@ print-spec =
     (tie.spec
     slice-aggregate-explain
     explain-requires
-    write-all-requires
+    show-requires
     array-share-prefix-line
-    slice-aggregate-write-all
-    write-all-requires-2
-    returns)
+    slice-aggregate-say
+    say-requires
+    say-written-requires
+    returns
+    returns-2)
