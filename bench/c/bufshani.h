@@ -26,7 +26,7 @@ uint64_t bufshani_write(const uint8_t *text, size_t text_len, uint8_t *out, size
 size_t bufshani_close(const uint8_t *text, size_t text_len, uint8_t *out, size_t out_len);
 
 /* What the program `run` prints for a text, as far as the buffer reaches; gives its length, at most
-   4,400,000. The log has 8 bytes for each step; its first 524,288 bytes are used. */
+   5,925,000. The log has 8 bytes for each step; its first 800,000 bytes are used. */
 size_t bufshani_run(const uint8_t *text, size_t text_len, const uint8_t *schedule,
                     size_t schedule_len, const int32_t *values, size_t values_len, size_t most,
                     uint8_t *log, size_t log_len, uint8_t *out, size_t out_len);

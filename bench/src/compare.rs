@@ -24,7 +24,7 @@ const FILL: u8 = 0xa5;
 const BEHIND: usize = 16;
 
 /// The steps of a run that fills the longest log.
-const STEPS: usize = 66_000;
+const STEPS: usize = 100_500;
 
 /// The bound of a search of a table for long runs.
 const BOUND: u64 = 100_000;

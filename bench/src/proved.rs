@@ -29,7 +29,7 @@ mod ffi {
             out_len: usize,
         ) -> usize;
 
-        /// The length of the report that the `run` program prints, in the log's first 524,288 bytes.
+        /// The length of the report that the `run` program prints, in the log's first 800,000 bytes.
         pub fn bufshani_run(
             text: *const u8,
             text_len: usize,

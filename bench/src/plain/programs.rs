@@ -3,7 +3,7 @@
 use super::close::close_valid;
 use super::explore::{explore_valid, Exploration, Found, Step};
 use super::fault::Refusal;
-use super::read::read;
+use super::read::read_first;
 use super::run::{run_valid, Answer, State, ENTRY};
 use super::table::*;
 use super::write::{constant, write_valid, Buffer, Sink};
@@ -11,7 +11,7 @@ use super::write::{constant, write_valid, Buffer, Sink};
 /// What the closing program prints for a text, and its length.
 pub fn close_text(text: &[u8], out: &mut [u8]) -> usize {
     let (mut open, mut closed) = (Table::default(), Table::default());
-    let done = read(text, &mut open)
+    let done = read_first(text, &mut open)
         .and_then(|()| close_valid(&open, &mut closed))
         .and_then(|()| write_valid(&closed, out));
     done.unwrap_or_else(|refusal| print_refusal(refusal, out))
@@ -19,13 +19,13 @@ pub fn close_text(text: &[u8], out: &mut [u8]) -> usize {
 
 /// Reads a text.
 pub fn read_text(text: &[u8]) -> Result<(), Refusal> {
-    read(text, &mut Table::default())
+    read_first(text, &mut Table::default())
 }
 
 /// Reads a text and writes its table.
 pub fn write_text(text: &[u8], out: &mut [u8]) -> Result<usize, Refusal> {
     let mut table = Table::default();
-    read(text, &mut table)?;
+    read_first(text, &mut table)?;
     write_valid(&table, out)
 }
 
@@ -38,12 +38,12 @@ pub fn steps_text(
     log: &mut [u8],
 ) -> Result<Answer, Refusal> {
     let (mut table, mut state) = (Table::default(), State::default());
-    read(text, &mut table)?;
+    read_first(text, &mut table)?;
     Ok(run_valid(&table, schedule, values, most, log, &mut state))
 }
 
 /// The bytes of a log that a run with a report uses.
-pub const LOG: usize = 524_288;
+pub const LOG: usize = 800_000;
 
 /// What the `run` program prints for a text, and its length.
 pub fn run_text(
@@ -55,7 +55,7 @@ pub fn run_text(
     out: &mut [u8],
 ) -> usize {
     let (mut table, mut state) = (Table::default(), State::default());
-    if let Err(refusal) = read(text, &mut table) {
+    if let Err(refusal) = read_first(text, &mut table) {
         return print_refusal(refusal, out);
     }
     let used = log.len().min(LOG);
@@ -70,7 +70,7 @@ pub fn run_text(
 /// What the `explore` program prints for a text, and its length.
 pub fn explore_text(text: &[u8], depth: usize, bound: u64, out: &mut [u8]) -> usize {
     let mut table = Table::default();
-    let explored = read(text, &mut table).and_then(|()| explore_valid(&table, depth, bound));
+    let explored = read_first(text, &mut table).and_then(|()| explore_valid(&table, depth, bound));
     match explored {
         Ok(exploration) => print_exploration(&table, &exploration, out),
         Err(refusal) => print_refusal(refusal, out),

@@ -1,4 +1,4 @@
--- What the readers of the words answer.
+-- What the readers of the words answer, and a program.
 use Prim.Native.Nat.{ℕ}
 use mathlib.Core.List.{List, [], _∷_}
 use mathlib.Core.Option.{Option, none, some}
@@ -8,9 +8,13 @@ use lib.IntN.{ℤ}
 use Rattle.table.specs.Mask.{pick}
 use Rattle.text.specs.Number.{bytes, allDigits, value}
 use Rattle.text.specs.Value.{same, split}
-use Rattle.machine.specs.Words.{filtered}
+use Rattle.put.specs.Put.{Put}
+use Rattle.machine.specs.Words.{filtered, prints, says}
+use Rattle.machine.specs.Words.{Answer as Answered}
 use Rattle.arguments.specs.declared.Number.{Number}
 use Rattle.arguments.specs.declared.Number.the-variants.{Is, Not}
+use Rattle.arguments.specs.declared.Answer.{Answer}
+use Rattle.arguments.specs.declared.Answer.the-variants.{Prints, Says}
 use Rattle.arguments.specs.declared.Value.{Value}
 use Rattle.arguments.specs.declared.Value.the-variants.{Is as IsValue, Not as NotValue}
 
@@ -42,3 +46,14 @@ leadingOf f (s ∷ ss) = before (f s) (leadingOf f ss)
 
 abbrev pub leading : {A : Type 0} → (List ℕ → Option A) → List ℕ → List A
 leading f s = pick (same (bytes "none") s) [] (leadingOf f (split s))
+
+-- the text, of at most k bytes, or what is said in its place, stands in the buffer, as far as that reaches
+abbrev pub AnswerPut : ℕ → List ℕ → Answered → List ℕ → Answer → Type 0
+AnswerPut k l (prints t) m (Prints n) = Put k l 0 t m n
+AnswerPut k l (prints t) m (Says n) = ⊥
+AnswerPut k l (says t) m (Prints n) = ⊥
+AnswerPut k l (says t) m (Says n) = Put k l 0 t m n
+
+abbrev pub lengthOf : Answer → ℕ
+lengthOf (Prints n) = n
+lengthOf (Says n) = n

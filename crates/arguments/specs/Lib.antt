@@ -3,3 +3,4 @@ pub mod NumberLaws
 pub mod ItemLaws
 pub mod ListLaws
 pub mod OperandLaws
+pub mod FileLaws

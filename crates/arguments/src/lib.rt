@@ -1,13 +1,16 @@
-// The words of the program `run`, each read into a number or a lent list.
+// The words of the programs, each read into a number or a lent list.
 
 ghost use mathlib.Core.Path.{_≡_};
+ghost use lib.Dec.{eqb};
 ghost use lib.ListN.{length};
 ghost use lib.Seq.{sets};
+ghost use Rattle.table.specs.Mask.{pick};
 ghost use Rattle.text.specs.Value.{numeral, asVar, asConst, asNegative, saidOperand};
 ghost use Rattle.operands.specs.Answer.{OperandJudged};
-ghost use Rattle.machine.specs.Words.{saidUpTo};
+ghost use Rattle.put.specs.Put.{Put};
+ghost use Rattle.machine.specs.Words.{saidUpTo, fileWord};
 ghost use Rattle.machine.specs.Program.{saidValue, saidItems, mostNodes, mostBytes};
-ghost use Rattle.arguments.specs.Answers.{digitsUpTo, numberOf, valueOf, countOf, leading};
+ghost use Rattle.arguments.specs.Answers.{digitsUpTo, numberOf, valueOf, countOf, leading, lengthOf};
 
 // A number, or the word says none.
 pub enum Number {
@@ -19,6 +22,22 @@ pub enum Number {
 enum Value {
     Is(i32),
     Not,
+}
+
+// The length of a text that a program prints, or of what it says in its place on the standard error stream.
+pub enum Answer {
+    Prints(usize),
+    Says(usize),
+}
+
+// Either length.
+pub fn length(a: Answer) -> usize
+    ensures { λ r. ⌜ r ≡ lengthOf a ⌝ }
+{
+    match a {
+        Answer::Prints(n) => n,
+        Answer::Says(n) => n,
+    }
 }
 
 // ---- numbers
@@ -126,6 +145,36 @@ fn signed(t: &[u8]) -> Value
     Value::Is(z)
 }
 
+// ---- a file
+
+// A comma for an LF.
+fn separator(b: u8) -> u8
+    ensures { λ r. ⌜ r ≡ pick (eqb b 10) 44 b ⌝ }
+{
+    if b == 10 { 44 } else { b }
+}
+
+// The word that a file stands for is put in the place of its bytes. The answer is its length.
+pub fn file_word(file: &mut [u8]) -> usize
+    ensures { λ r. ⌜ Put (length (now (file .entry))) (now (file .entry)) 0 (fileWord (now (file .entry))) (now (file .exit)) r ⌝ }
+{
+    let n = file.len();
+    if n == 0 {
+        return 0;
+    }
+    let last = n - 1;
+    let mut i = 0;
+    while i < last {
+        let b = file[i];
+        file[i] = separator(b);
+        i += 1;
+    }
+    if file[last] == 10 {
+        return last;
+    }
+    n
+}
+
 // ---- the words
 
 // SCHEDULE: its task numbers are put into a lent list, those before the first that can't be read, as far as the list reaches. The answer is their
@@ -194,5 +243,5 @@ pub fn most(word: &[u8]) -> Number
 pub fn log(word: &[u8]) -> Number
     ensures { λ r. ⌜ r ≡ numberOf (saidUpTo mostBytes (now (word .entry))) ⌝ }
 {
-    up_to(word, 524288)
+    up_to(word, 800000)
 }

@@ -6,8 +6,8 @@ use lib.IntN.{ℤ}
 use Rattle.text.specs.declared.Reading.{Reading}
 use Rattle.text.specs.Reader.{read}
 use Rattle.text.specs.Writer.{text, fitted}
-use Rattle.bufshani.specs.PrintLaws.{sound-read}
-use Rattle.bufshani.specs.WriteLaws.{write-good}
+use Rattle.closed_text.specs.PrintLaws.{sound-read}
+use Rattle.writer.specs.WriteLaws.{write-good}
 use Rattle.machine.specs.Run.{run}
 use Rattle.bufshani_c.specs.Texts.{Coded, afterWriting, rewriting, rewritten, afterRunning, running, stepped}
 use Rattle.codes.specs.Code.{packed}

@@ -37,11 +37,11 @@ pub extern "C" fn bufshani_write(text: &[u8], out: &mut [u8]) -> u64
 pub extern "C" fn bufshani_close(text: &[u8], out: &mut [u8]) -> usize
     ensures { λ r. ⌜ Put 65536 (now (out .entry)) 0 (printed (now (text .entry))) (now (out .exit)) r ⌝ }
 {
-    bufshani::close_text(text, out)
+    closed_text::close_text(text, out)
 }
 
-// What the program `run` prints for a text, as far as the buffer reaches, and its length, at most 4,400,000. Of the log buffer the first
-// 524,288 bytes are used, which is room for 65,536 steps.
+// What the program `run` prints for a text, as far as the buffer reaches, and its length, at most 5,925,000. Of the log buffer the first
+// 800,000 bytes are used, which is room for 100,000 steps.
 #[no_mangle]
 pub extern "C" fn bufshani_run(
     text: &[u8],

@@ -1,12 +1,11 @@
-// Prints what the program `explore` prints for many words and texts, so that it can be compared with what it should print. Standard input holds
+// Prints what the program `explore` answers to many words and texts, so that it can be compared with what it should answer. Standard input holds
 // the cases: the words DEPTH and BOUND and a text, each behind its length in five digits.
 
 fn print(first: &[u8], second: &[u8], text: &[u8]) {
     let mut out = [0u8; 65536];
-    let n = explore_words::explore_words(2, first, second, text, &mut out);
-    if n <= 65536 {
-        io::write_all(1, &out[..n]);
-    }
+    let a = explore_words::explore_words(2, first, second, text, &mut out);
+    let n = arguments::length(a);
+    parts::print(&out, n);
 }
 
 // The next case, read into buffers; whether there was none.

@@ -1,5 +1,7 @@
-// What the program `explore` prints for its words and a text. On a long search it says on the standard error stream how far it is.
+// What the program `explore` answers to its words and a text, in two steps: what the words ask for, and the search or the word's line. On a long
+// search it says on the standard error stream how far it is.
 
+use arguments::Answer;
 use arguments::Number;
 use table::Table;
 ghost use mathlib.Core.Path.{_≡_};
@@ -7,39 +9,68 @@ ghost use mathlib.Core.List.{_∷_, []};
 ghost use Prim.Native.Nat.{_<_, _≤_, min};
 ghost use Rattle.text.specs.Writer.{fault};
 ghost use Rattle.machine.specs.Words.{given};
-ghost use Rattle.exploring.specs.Program.{exploredText, exploreText, depth, bound, further, wordLine, printedFor, explorePrinted};
+ghost use Rattle.exploring.specs.Program.{exploredText, exploreText, said, wordLine, exploreAnswer};
 ghost use Rattle.put.specs.Put.{Put};
-ghost use Rattle.explore_words.specs.Words.{fromBound};
+ghost use Rattle.arguments.specs.Answers.{AnswerPut};
+ghost use Rattle.explore_words.specs.Words.{wordOf, askedWords};
+
+// The words; Further is one too many.
+pub enum Word {
+    Depth,
+    Bound,
+    Further,
+}
+
+// What the words ask for: a search, with its depth and the most steps tried; or the first word that can't be read, is missing or is too many.
+pub enum Asked {
+    Search(usize, usize),
+    Unread(Word),
+}
+
+// What n words ask for, of which the first two are given.
+pub fn ask(n: usize, first: &[u8], second: &[u8]) -> Asked
+    ensures { λ r. ⌜ said (given n (now (first .entry) ∷ now (second .entry) ∷ [])) ≡ askedWords r ⌝ }
+{
+    if n == 0 {
+        return Asked::Unread(Word::Depth);
+    }
+    let Number::Is(d) = arguments::up_to(first, 18446744073709551615) else {
+        return Asked::Unread(Word::Depth);
+    };
+    let left = n - 1;
+    if left == 0 {
+        return Asked::Unread(Word::Bound);
+    }
+    let Number::Is(b) = arguments::up_to(second, 18446744073709551615) else {
+        return Asked::Unread(Word::Bound);
+    };
+    if left != 1 {
+        return Asked::Unread(Word::Further);
+    }
+    Asked::Search(d, b)
+}
 
 // Which word, and what was expected.
-fn depth_line(out: &mut [u8]) -> usize
-    ensures { λ r. ⌜ Put 131072 (now (out .entry)) 0 (wordLine depth) (now (out .exit)) r ⌝ }
+pub fn word_line(w: Word, out: &mut [u8]) -> usize
+    ensures { λ r. ⌜ Put 256 (now (out .entry)) 0 (wordLine (wordOf w)) (now (out .exit)) r ⌝ }
 {
-    put::put_bytes(
-        out,
-        0,
-        b"word 1, DEPTH: expected a number of steps, at most 18446744073709551615\n",
-    )
-}
-
-fn bound_line(out: &mut [u8]) -> usize
-    ensures { λ r. ⌜ Put 131072 (now (out .entry)) 0 (wordLine bound) (now (out .exit)) r ⌝ }
-{
-    put::put_bytes(
-        out,
-        0,
-        b"word 2, BOUND: expected a number of steps tried, at most 18446744073709551615\n",
-    )
-}
-
-fn further_line(out: &mut [u8]) -> usize
-    ensures { λ r. ⌜ Put 131072 (now (out .entry)) 0 (wordLine further) (now (out .exit)) r ⌝ }
-{
-    put::put_bytes(
-        out,
-        0,
-        b"word 3: expected no more than two words, DEPTH BOUND\n",
-    )
+    match w {
+        Word::Depth => put::put_bytes(
+            out,
+            0,
+            b"word 1, DEPTH: expected a number of steps, at most 18446744073709551615\n",
+        ),
+        Word::Bound => put::put_bytes(
+            out,
+            0,
+            b"word 2, BOUND: expected a number of steps tried, at most 18446744073709551615\n",
+        ),
+        Word::Further => put::put_bytes(
+            out,
+            0,
+            b"word 3: expected no more than two words, DEPTH BOUND\n",
+        ),
+    }
 }
 
 // How far a long search is.
@@ -84,8 +115,8 @@ fn explore_loudly(t: Table, depth: usize, most: u64, out: &mut [u8]) -> usize
     }
 }
 
-// The answer for a text's table, or the refusal of the text.
-fn explore_said(s: &[u8], depth: usize, most: usize, out: &mut [u8]) -> usize
+// The search that was asked for: the answer for a text's table, or the refusal of the text.
+pub fn explore_asked(s: &[u8], depth: usize, most: usize, out: &mut [u8]) -> usize
     ensures { λ r. ⌜ Put 131072 (now (out .entry)) 0 (exploreText (now (s .entry)) depth most) (now (out .exit)) r ⌝ }
 {
     let r = reader::read(s);
@@ -96,31 +127,12 @@ fn explore_said(s: &[u8], depth: usize, most: usize, out: &mut [u8]) -> usize
     explore_loudly(t, depth, most as u64, out)
 }
 
-// From the word BOUND on; n words are left.
-fn after_depth(n: usize, second: &[u8], s: &[u8], d: usize, out: &mut [u8]) -> usize
-    ensures { λ r. ⌜ Put 131072 (now (out .entry)) 0 (printedFor (fromBound d (given n (now (second .entry) ∷ []))) (now (s .entry))) (now (out .exit)) r ⌝ }
+// What the program answers to n words, of which the first two are given, and to a text on its standard input.
+pub fn explore_words(n: usize, first: &[u8], second: &[u8], s: &[u8], out: &mut [u8]) -> Answer
+    ensures { λ r. ⌜ AnswerPut 131072 (now (out .entry)) (exploreAnswer (given n (now (first .entry) ∷ now (second .entry) ∷ [])) (now (s .entry))) (now (out .exit)) r ⌝ }
 {
-    if n == 0 {
-        return bound_line(out);
+    match ask(n, first, second) {
+        Asked::Search(d, b) => Answer::Prints(explore_asked(s, d, b, out)),
+        Asked::Unread(w) => Answer::Says(word_line(w, out)),
     }
-    let Number::Is(k) = arguments::up_to(second, 18446744073709551615) else {
-        return bound_line(out);
-    };
-    if n != 1 {
-        return further_line(out);
-    }
-    explore_said(s, d, k, out)
-}
-
-// What the program prints for a text on its standard input and n words, of which the first two are given.
-pub fn explore_words(n: usize, first: &[u8], second: &[u8], s: &[u8], out: &mut [u8]) -> usize
-    ensures { λ r. ⌜ Put 131072 (now (out .entry)) 0 (explorePrinted (given n (now (first .entry) ∷ now (second .entry) ∷ [])) (now (s .entry))) (now (out .exit)) r ⌝ }
-{
-    if n == 0 {
-        return depth_line(out);
-    }
-    let Number::Is(d) = arguments::up_to(first, 18446744073709551615) else {
-        return depth_line(out);
-    };
-    after_depth(n - 1, second, s, d, out)
 }

@@ -12,5 +12,6 @@ pub mod KeptLaws
 pub mod StopLaws
 pub mod ClosedStep
 pub mod ClosedRun
+pub mod LogLaws
 pub mod WordLaws
 pub mod ReasonLaws

@@ -1,4 +1,4 @@
--- The program `run`: its words, `run SCHEDULE VALUES MOST LOG`, and what it prints for them and for the text on its standard input.
+-- The program `run`: its words, `run SCHEDULE VALUES MOST LOG`, and what it answers to them and to the text on its standard input.
 use Prim.Native.Nat.{ℕ, zero, suc}
 use mathlib.Core.List.{List, [], _∷_, _++_}
 use mathlib.Core.Option.{Option, none, some}
@@ -13,7 +13,7 @@ use Rattle.text.specs.Number.{bytes}
 use Rattle.text.specs.Value.{saidOperand, saidList, operandFault}
 use Rattle.text.specs.Reader.{read}
 use Rattle.closing.specs.Program.{refusedLine}
-use Rattle.machine.specs.Words.{filtered, saidUpTo, Words, asks, unread, next, last}
+use Rattle.machine.specs.Words.{filtered, saidUpTo, Words, asks, unread, next, last, Answer, prints, says}
 use Rattle.machine.specs.Run.{run}
 use Rattle.machine.specs.Report.{report}
 
@@ -41,15 +41,15 @@ saidItems m f s = filtered (λ xs. leb (length xs) m) (saidList f s)
 pub data Word : Type 0 where
   schedule values most log further : Word
 
--- the most items of a list, the largest number of nodes, and the most bytes of a log buffer
+-- the most items of a list, the largest number of nodes, and the most bytes of a log buffer, which are those of 100,000 steps
 abbrev pub mostItems : ℕ
-mostItems = 65536
+mostItems = 100000
 
 abbrev pub mostNodes : ℕ
 mostNodes = 18446744073709551615
 
 abbrev pub mostBytes : ℕ
-mostBytes = 524288
+mostBytes = 800000
 
 pub record Request : Type 0 where
   pub schedule : List ℕ
@@ -67,13 +67,13 @@ said xs =
 
 -- which word, and what was expected
 abbrev pub wordLine : Word → List ℕ
-wordLine schedule = bytes "word 1, SCHEDULE: expected task numbers from 0 to 255 with commas between, at most 65536, or none" ++ (10 ∷ [])
-wordLine values = bytes "word 2, VALUES: expected numbers from -2147483648 to 2147483647 with commas between, at most 65536, or none" ++ (10 ∷ [])
+wordLine schedule = bytes "word 1, SCHEDULE: expected at most 100000 task numbers from 0 to 255 with commas between, or none, or @FILE, a file with such a list, by commas or lines" ++ (10 ∷ [])
+wordLine values = bytes "word 2, VALUES: expected at most 100000 numbers from -2147483648 to 2147483647 with commas between, or none, or @FILE, a file with such a list, by commas or lines" ++ (10 ∷ [])
 wordLine most = bytes "word 3, MOST: expected a number of dropped nodes, at most 18446744073709551615" ++ (10 ∷ [])
-wordLine log = bytes "word 4, LOG: expected a number of bytes, at most 524288" ++ (10 ∷ [])
+wordLine log = bytes "word 4, LOG: expected a number of bytes, at most 800000" ++ (10 ∷ [])
 wordLine further = bytes "word 5: expected no more than four words, SCHEDULE VALUES MOST LOG" ++ (10 ∷ [])
 
--- ---- what is printed
+-- ---- what is answered
 
 -- the report of a table's run
 abbrev pub reported : ℕ → Reading → List ℕ → List ℤ → ℕ → List ℕ → List ℕ
@@ -84,10 +84,10 @@ reported (suc n) r ks vs m l = refusedLine (suc n) (r .line)
 unfoldable pub runText : List ℕ → List ℕ → List ℤ → ℕ → List ℕ → List ℕ
 runText s ks vs m l = let r = read s in reported (r .number) r ks vs m l
 
--- the words are judged before the text
-abbrev pub printedFor : Words Word Request → List ℕ → List ℕ
-printedFor (asks q) s = runText s (q .schedule) (q .values) (q .most) (replicate (q .log) 0)
-printedFor (unread w) s = wordLine w
+-- the words are judged before the text; of one that can't be read nothing is printed
+abbrev pub answerFor : Words Word Request → List ℕ → Answer
+answerFor (asks q) s = prints (runText s (q .schedule) (q .values) (q .most) (replicate (q .log) 0))
+answerFor (unread w) s = says (wordLine w)
 
-unfoldable pub runPrinted : List (List ℕ) → List ℕ → List ℕ
-runPrinted xs s = printedFor (said xs) s
+unfoldable pub runAnswer : List (List ℕ) → List ℕ → Answer
+runAnswer xs s = answerFor (said xs) s

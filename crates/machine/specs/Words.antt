@@ -3,7 +3,7 @@ use Prim.Native.Nat.{ℕ}
 use mathlib.Core.Bool.{Bool}
 use mathlib.Core.List.{List, [], _∷_, _++_}
 use mathlib.Core.Option.{Option, none, some}
-use lib.Dec.{leb}
+use lib.Dec.{eqb, leb}
 use lib.ListN.{take}
 use Rattle.table.specs.Mask.{pick}
 use Rattle.text.specs.Value.{numeral}
@@ -18,6 +18,12 @@ filtered f (some a) = pick (f a) (some a) none
 -- a number up to m
 unfoldable pub saidUpTo : ℕ → List ℕ → Option ℕ
 saidUpTo m s = filtered (λ n. leb n m) (numeral s)
+
+-- the word that a file stands for: its bytes, with a comma for each LF, but none for an LF at the end
+unfoldable pub fileWord : List ℕ → List ℕ
+fileWord [] = []
+fileWord (b ∷ []) = pick (eqb b 10) [] (b ∷ [])
+fileWord (b ∷ c ∷ s) = pick (eqb b 10) 44 b ∷ fileWord (c ∷ s)
 
 -- ---- what words ask for: W names a word, R is a request
 
@@ -44,3 +50,9 @@ module _ {W R : Type 0} where
 -- n words, of which the first are given; of any further it counts only that there is one
 abbrev pub given : ℕ → List (List ℕ) → List (List ℕ)
 given n ws = take n (ws ++ ([] ∷ []))
+
+-- ---- what a program answers: a text that it prints, or what it says in its place on the standard error stream
+
+pub data Answer : Type 0 where
+  prints : List ℕ → Answer
+  says : List ℕ → Answer

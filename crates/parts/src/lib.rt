@@ -1,4 +1,4 @@
-// Standard input in parts, each behind its length in five digits.
+// Standard input in parts, each behind its length in five digits; and what is printed of a buffer.
 ghost use mathlib.Core.Path.{_≡_};
 ghost use Rattle.parts.specs.Parts.{digitOf, sizeOf, PartOf, Next};
 
@@ -61,4 +61,12 @@ pub fn next(buffer: &mut [u8]) -> Part
         };
     }
     bytes(size(h), buffer)
+}
+
+// Prints the first n bytes of a buffer, if it has as many.
+pub fn print(buffer: &[u8], n: usize) {
+    if buffer.len() < n {
+        return;
+    }
+    io::write_all(libc::STDOUT_FILENO, &buffer[..n]);
 }

@@ -35,7 +35,7 @@ module _ (t : Table) (s : State) (counts : List ℕ) (v : VariableCounts (t .pro
   state-put h a b c = rw (concat-same (taskLines t s) tasks task-rows (t .tasks) 0) (put-more (omega (arith, h .tasks, h .sems, h .queues)) (put-after a (put-after b c)))
 
 pub report-put : {l m n o log : List ℕ} {p q e : ℕ} (t : Table) (r : Running) → Reportable t r log
-    → Put 70 l 0 (answerLine r) m p → Put (65 * r .steps) m p (concatFrom (stepLine log) (r .steps) 0) n q → Put 124720 n q (stateLines t (r .state)) o e
-    → Put 4400000 l 0 (report t r log) o e
+    → Put 70 l 0 (answerLine r) m p → Put (58 * r .steps) m p (concatFrom (stepLine log) (r .steps) 0) n q → Put 124720 n q (stateLines t (r .state)) o e
+    → Put 5925000 l 0 (report t r log) o e
 unfolding report
 report-put t r h a b c = put-more (omega (arith, h .steps)) (put-after a (put-after b c))

@@ -89,7 +89,7 @@ pub fn put_state(out: &mut [u8], at: usize, t: Table, s: State) -> usize
 // The report of a run, from the buffer's start.
 pub fn put_report(out: &mut [u8], t: Table, r: Running, log: &[u8]) -> usize
     requires { ⌜ Reportable t r (now log) ⌝ }
-    ensures { λ e. ⌜ Put 4400000 (now (out .entry)) 0 (report t r (now (log .entry))) (now (out .exit)) e ⌝ }
+    ensures { λ e. ⌜ Put 5925000 (now (out .entry)) 0 (report t r (now (log .entry))) (now (out .exit)) e ⌝ }
 {
     let a = put_answer_line(out, 0, r);
     let b = put_steps(out, a, log, r.steps);

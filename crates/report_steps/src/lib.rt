@@ -8,12 +8,13 @@ use put_fields::put_count;
 use put_fields::put_size;
 ghost use mathlib.Core.Path.{_≡_};
 ghost use mathlib.Core.List.{_∷_, [], _++_};
-ghost use Prim.Native.Nat.{_+_, _*_, _≤_, _<_};
+ghost use Prim.Native.Nat.{ℕ, _+_, _*_, _≤_, _<_};
 ghost use lib.ListN.{length};
 ghost use Rattle.text.specs.Number.{bytes};
 ghost use Rattle.text.specs.Reader.{concatFrom};
 ghost use Rattle.put.specs.Put.{Put, LinesAt};
 ghost use Rattle.machine.specs.Report.{spellValue, loggedValue, stepFields, stepLine};
+ghost use Rattle.report_steps.specs.Entries.{Entered};
 
 // Four bytes, lowest first.
 fn word(a: u8, b: u8, c: u8, d: u8) -> u32
@@ -43,8 +44,9 @@ fn put_value(out: &mut [u8], at: usize, v: i32) -> usize
 
 // Step i without its line's end, as the log's entry j has it.
 pub fn put_step_fields(out: &mut [u8], at: usize, i: usize, log: &[u8], j: usize) -> usize
-    requires { ⌜ (LinesAt at) × (8 * j + 8 ≤ length (now log)) × (i < 65536) ⌝ }
-    ensures { λ r. ⌜ Put 64 (now (out .entry)) at (stepFields i (now (log .entry)) j) (now (out .exit)) r ⌝ }
+    requires { ⌜ (LinesAt at) × (8 * j + 8 ≤ length (now log)) × (i < 100000) ⌝ }
+    ensures printed { λ r. ⌜ Put 64 (now (out .entry)) at (stepFields i (now (log .entry)) j) (now (out .exit)) r ⌝ }
+    ensures short { λ _. ⌜ (Entered (now (log .entry)) j → length (stepFields i (now (log .entry)) j) ≤ 57) ⌝ }
 {
     let k = 8 * j;
     let a = put_size(out, at, b"step=", i);
@@ -58,17 +60,17 @@ pub fn put_step_fields(out: &mut [u8], at: usize, i: usize, log: &[u8], j: usize
 
 // The line of the log's entry i.
 fn put_step_line(out: &mut [u8], at: usize, log: &[u8], i: usize) -> usize
-    requires { ⌜ (LinesAt at) × (8 * i + 8 ≤ length (now log)) × (i < 65536) ⌝ }
-    ensures { λ r. ⌜ Put 65 (now (out .entry)) at (stepLine (now (log .entry)) i) (now (out .exit)) r ⌝ }
+    requires { ⌜ (LinesAt at) × (8 * i + 8 ≤ length (now log)) × (i < 100000) × Entered (now log) i ⌝ }
+    ensures { λ r. ⌜ Put 58 (now (out .entry)) at (stepLine (now (log .entry)) i) (now (out .exit)) r ⌝ }
 {
     let a = put_step_fields(out, at, i, log, i);
     put_byte(out, a, 10)
 }
 
-// The lines of the first n steps.
+// The lines of the first n steps, at most 58 bytes each.
 pub fn put_steps(out: &mut [u8], at: usize, log: &[u8], n: usize) -> usize
-    requires { ⌜ (at ≤ 1000) × (n ≤ 65536) × (8 * n ≤ length (now log)) ⌝ }
-    ensures { λ r. ⌜ Put (65 * n) (now (out .entry)) at (concatFrom (stepLine (now (log .entry))) n 0) (now (out .exit)) r ⌝ }
+    requires { ⌜ (at ≤ 1000) × (n ≤ 100000) × (8 * n ≤ length (now log)) × ((i : ℕ) → i < n → Entered (now log) i) ⌝ }
+    ensures { λ r. ⌜ Put (58 * n) (now (out .entry)) at (concatFrom (stepLine (now (log .entry))) n 0) (now (out .exit)) r ⌝ }
 {
     let mut p = at;
     let mut i = 0;

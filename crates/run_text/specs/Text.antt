@@ -26,10 +26,10 @@ logAfter s ks vs m l = let r = read s in logOf (r .number) r ks vs m l
 
 -- the report of a table's run with the first n bytes of a log buffer, as far as the buffer for it reaches
 pub record PartRun (t : Table) (ks : List ℕ) (vs : List ℤ) (m n : ℕ) (log log′ out out′ : List ℕ) (r : ℕ) : Type 0 where
-  pub printed : Put 4400000 out 0 (runReport t ks vs m (take n log)) out′ r
+  pub printed : Put 5925000 out 0 (runReport t ks vs m (take n log)) out′ r
   pub logged : log′ ≡ run t ks vs m (take n log) .log ++ drop n log
 
--- what is printed is the report, or the refusal of the text, as far as the buffer reaches; of the log buffer the first 524,288 bytes are used
+-- what is printed is the report, or the refusal of the text, as far as the buffer reaches; of the log buffer the first 800,000 bytes are used
 pub record TextRun (s ks : List ℕ) (vs : List ℤ) (m : ℕ) (log log′ out out′ : List ℕ) (n : ℕ) : Type 0 where
-  pub printed : Put 4400000 out 0 (runText s ks vs m (take 524288 log)) out′ n
-  pub logged : log′ ≡ logAfter s ks vs m (take 524288 log) ++ drop 524288 log
+  pub printed : Put 5925000 out 0 (runText s ks vs m (take 800000 log)) out′ n
+  pub logged : log′ ≡ logAfter s ks vs m (take 800000 log) ++ drop 800000 log

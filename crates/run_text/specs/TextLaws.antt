@@ -6,6 +6,7 @@ use native.Mathlib.Omega.{arith}
 use lib.ListN.{length, take, drop, length-append, take-append-drop, drop-of-length-le}
 use lib.Seq.{take-all, length-take-le}
 use lib.IntN.{ℤ}
+use Rattle.table.specs.Shape.{Shaped}
 use Rattle.table.specs.declared.Table.{Table}
 use Rattle.text.specs.declared.Reading.{Reading}
 use Rattle.text.specs.Reader.{read}
@@ -22,19 +23,21 @@ use Rattle.put.specs.PutLaws.{put-more}
 use Rattle.report.specs.Rows.{Reportable}
 use Rattle.writer.specs.CountsLaws.{counts}
 use Rattle.run_text.specs.RunLaws.{sound}
+use Rattle.run_text.specs.EntryLaws.{all-entered}
 use Rattle.run_text.specs.Text.{runReport, logOf, logAfter, PartRun, TextRun}
 
 -- ---- a run's report
 
-pub reportable : (t : Table) (ks : List ℕ) (vs : List ℤ) (m : ℕ) (l : List ℕ) {r : Running} {l′ : List ℕ} → 0 ≡ fault t → length l ≤ 524288
+pub reportable : (t : Table) (ks : List ℕ) (vs : List ℤ) (m : ℕ) (l : List ℕ) {r : Running} {l′ : List ℕ} → Shaped t → 0 ≡ fault t → length l ≤ 800000
     → r ≡ run t ks vs m l .answer → l′ ≡ run t ks vs m l .log → Reportable t r l′
-reportable t ks vs m l z h e d =
+reportable t ks vs m l w z h e d =
     let c = counts t (sym z) in
     let o = sound t ks vs m l in
     rw (e, d) (record {
       shown = record { tasks = c .front .tasks; sems = c .front .sems; queues = c .front .queues; depth = record { few = λ k i. o .few .few k } };
       steps = omega (arith, o .steps);
       logged = omega (arith, o .steps, o .size);
+      entries = all-entered t ks vs m l w (sym z);
     })
 
 pub report-is : {k : ℕ} {b a : List ℕ} {n : ℕ} (t : Table) (ks : List ℕ) (vs : List ℤ) (m : ℕ) (l : List ℕ) {r : Running} {l′ : List ℕ}
@@ -75,9 +78,9 @@ module _ (s ks : List ℕ) (vs : List ℤ) (m : ℕ) (l : List ℕ) (r : Reading
   pub sound-read : r .number ≡ 0 → 0 ≡ fault (r .table)
   sound-read h = let g : read s .number ≡ 0 = rw e at h in rw e (sym (read-fault s (read s .table) (read-good s g)))
 
--- ---- of the log buffer the first 524,288 bytes are used
+-- ---- of the log buffer the first 800,000 bytes are used
 
-pub part-size : (n : ℕ) (log : List ℕ) → n ≤ length log → n ≤ 524288 → length (take n log) ≤ 524288
+pub part-size : (n : ℕ) (log : List ℕ) → n ≤ length log → n ≤ 800000 → length (take n log) ≤ 800000
 part-size n log h u = omega (arith, length-take-le n log h)
 
 module _ (t : Table) (ks : List ℕ) (vs : List ℤ) (m n : ℕ) (log : List ℕ) {x : List ℕ} (d : x ≡ run t ks vs m (take n log) .log) where
@@ -86,7 +89,7 @@ module _ (t : Table) (ks : List ℕ) (vs : List ℤ) (m n : ℕ) (log : List ℕ
       let e : length x ≡ length (take n log) = ap length d ∙ sound t ks vs m (take n log) .size in
       length-append x (drop n log) ∙ ap (λ (k : ℕ). k + length (drop n log)) e ∙ sym (length-append (take n log) (drop n log)) ∙ ap length (take-append-drop n log)
 
-  pub part-run : {out out′ : List ℕ} {r : ℕ} → Put 4400000 out 0 (runReport t ks vs m (take n log)) out′ r → PartRun t ks vs m n log (x ++ drop n log) out out′ r
+  pub part-run : {out out′ : List ℕ} {r : ℕ} → Put 5925000 out 0 (runReport t ks vs m (take n log)) out′ r → PartRun t ks vs m n log (x ++ drop n log) out out′ r
   part-run p = record { printed = p; logged = ap (λ (l : List ℕ). l ++ drop n log) d }
 
 pub least-left : {n a : ℕ} (b : ℕ) → n ≡ min a b → n ≤ a
@@ -104,16 +107,16 @@ same-part n b log e =
 module _ (s ks : List ℕ) (vs : List ℤ) (m : ℕ) (log : List ℕ) {r : Reading} (e : r ≡ read s) {out out′ : List ℕ} {k : ℕ} where
   pub run-refused : (r .number ≡ 0 → ⊥) → Put 38 out 0 (refusedLine (r .number) (r .line)) out′ k → TextRun s ks vs m log log out out′ k
   run-refused h p = record {
-    printed = rw (← text-refused s ks vs m (take 524288 log) r e h) (put-more (omega arith) p);
-    logged = sym (take-append-drop 524288 log) ∙ ap (λ (l : List ℕ). l ++ drop 524288 log) (log-refused s ks vs m (take 524288 log) r e h);
+    printed = rw (← text-refused s ks vs m (take 800000 log) r e h) (put-more (omega arith) p);
+    logged = sym (take-append-drop 800000 log) ∙ ap (λ (l : List ℕ). l ++ drop 800000 log) (log-refused s ks vs m (take 800000 log) r e h);
   }
 
-  pub run-whole : {n : ℕ} {log′ : List ℕ} → r .number ≡ 0 → n ≡ min (length log) 524288 → PartRun (r .table) ks vs m n log log′ out out′ k → TextRun s ks vs m log log′ out out′ k
+  pub run-whole : {n : ℕ} {log′ : List ℕ} → r .number ≡ 0 → n ≡ min (length log) 800000 → PartRun (r .table) ks vs m n log log′ out out′ k → TextRun s ks vs m log log′ out out′ k
   run-whole {n} {log′} h u p =
-      let w = same-part n 524288 log u in
+      let w = same-part n 800000 log u in
       record {
-        printed = rw (← text-run s ks vs m (take 524288 log) r e h) (rw (w .0) at (p .printed));
+        printed = rw (← text-run s ks vs m (take 800000 log) r e h) (rw (w .0) at (p .printed));
         logged = p .logged ∙ ap (λ (l : List ℕ). run (r .table) ks vs m l .log ++ drop n log) (w .0)
-            ∙ ap (λ (l : List ℕ). run (r .table) ks vs m (take 524288 log) .log ++ l) (w .1)
-            ∙ ap (λ (l : List ℕ). l ++ drop 524288 log) (log-run s ks vs m (take 524288 log) r e h);
+            ∙ ap (λ (l : List ℕ). run (r .table) ks vs m (take 800000 log) .log ++ l) (w .1)
+            ∙ ap (λ (l : List ℕ). l ++ drop 800000 log) (log-run s ks vs m (take 800000 log) r e h);
       }

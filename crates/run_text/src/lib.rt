@@ -18,8 +18,8 @@ fn run_table(
     log: &mut [u8],
     out: &mut [u8],
 ) -> usize
-    requires { ⌜ (0 ≡ fault t) × (length (now log) ≤ 524288) ⌝ }
-    ensures printed { λ r. ⌜ Put 4400000 (now (out .entry)) 0 (runReport t (now (schedule .entry)) (now (values .entry)) most (now (log .entry))) (now (out .exit)) r ⌝ }
+    requires { ⌜ (0 ≡ fault t) × (length (now log) ≤ 800000) ⌝ }
+    ensures printed { λ r. ⌜ Put 5925000 (now (out .entry)) 0 (runReport t (now (schedule .entry)) (now (values .entry)) most (now (log .entry))) (now (out .exit)) r ⌝ }
     ensures log { λ _. ⌜ now (log .exit) ≡ run t (now (schedule .entry)) (now (values .entry)) most (now (log .entry)) .log ⌝ }
 {
     let r = runner::run_valid(t, schedule, values, most, log);
@@ -36,7 +36,7 @@ fn run_part(
     n: usize,
     out: &mut [u8],
 ) -> usize
-    requires { ⌜ (0 ≡ fault t) × (n ≤ length (now log)) × (n ≤ 524288) ⌝ }
+    requires { ⌜ (0 ≡ fault t) × (n ≤ length (now log)) × (n ≤ 800000) ⌝ }
     ensures { λ r. ⌜ PartRun t (now (schedule .entry)) (now (values .entry)) most n (now (log .entry)) (now (log .exit)) (now (out .entry)) (now (out .exit)) r ⌝ }
 {
     run_table(t, schedule, values, most, &mut log[..n], out)
@@ -44,15 +44,15 @@ fn run_part(
 
 // How many of a log buffer's bytes are used.
 fn used(len: usize) -> usize
-    ensures { λ r. ⌜ r ≡ min len 524288 ⌝ }
+    ensures { λ r. ⌜ r ≡ min len 800000 ⌝ }
 {
-    if len < 524288 {
+    if len < 800000 {
         return len;
     }
-    524288
+    800000
 }
 
-// The report of a text's run, or the refusal of the text. Of the log buffer the first 524,288 bytes are used.
+// The report of a text's run, or the refusal of the text. Of the log buffer the first 800,000 bytes are used.
 pub fn run_text(
     s: &[u8],
     schedule: &[u8],
@@ -63,7 +63,7 @@ pub fn run_text(
 ) -> usize
     ensures { λ r. ⌜ TextRun (now (s .entry)) (now (schedule .entry)) (now (values .entry)) most (now (log .entry)) (now (log .exit)) (now (out .entry)) (now (out .exit)) r ⌝ }
 {
-    let r = bufshani::read(s);
+    let r = reader::read(s);
     if r.number != 0 {
         return refusals::put_refused(out, r.number, r.line);
     }

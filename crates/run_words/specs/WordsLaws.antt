@@ -1,31 +1,92 @@
--- Laws of the words, one after another.
+-- Laws of the words, one after another, and of the answer.
 use Prim.Native.Nat.{ℕ, zero, suc, _-_, _≤_}
 use mathlib.Core.Path.{_≡_, refl, sym, subst, _∙_, ap}
 use mathlib.Core.List.{List, [], _∷_}
 use mathlib.Core.Option.{none, some}
 use native.Mathlib.Omega.{arith}
-use lib.ListN.{length, take, replicate, length-replicate}
+use lib.ListN.{length, take, replicate}
 use lib.Seq.{take-all}
-use lib.IntN.{ℤ, pos}
-use Rattle.machine.specs.Words.{Words, next, given, saidUpTo}
+use lib.IntN.{ℤ}
+use Rattle.machine.specs.Words.{unread, next, given, saidUpTo, Answer as Answered}
 use Rattle.machine.specs.WordLaws.{next-missing, next-unread, next-said}
-use Rattle.machine.specs.Program.{Word, Request, schedule, values, most, log, further, saidValue, saidItems, mostItems, mostNodes, mostBytes, said, wordLine, runText, printedFor, runPrinted}
+use Rattle.machine.specs.Program.{schedule, values, most, saidValue, saidItems, mostItems, mostNodes, mostBytes, said, wordLine, runText, answerFor, runAnswer}
 use Rattle.put.specs.Put.{Put}
+use Rattle.put.specs.PutLaws.{put-more}
+use Rattle.arguments.specs.Answers.{AnswerPut}
+use Rattle.arguments.specs.declared.Answer.the-variants.{Prints, Says}
 use Rattle.log_word.specs.declared.Rest.{Rest}
-use Rattle.log_word.specs.declared.Rest.the-variants.{Log, NoLog, Further}
+use Rattle.log_word.specs.declared.Rest.the-variants.{Log as LogIs, NoLog, Further as FurtherWord}
 use Rattle.log_word.specs.Words.{fromLog, restWords, RestFits}
-use Rattle.run_words.specs.Words.{fromMost, fromValues}
+use Rattle.run_words.specs.declared.Word.{Word as Found}
+use Rattle.run_words.specs.declared.Word.the-variants.{Most}
+use Rattle.run_words.specs.declared.Asked.{Asked}
+use Rattle.run_words.specs.declared.Asked.the-variants.{Run, Unread}
+use Rattle.run_words.specs.Words.{fromMost, fromValues, wordOf, askedWords, restAsked, NumbersFit, AskedFits}
 
-pub printed-as : {x y : Words Word Request} {k at r : ℕ} {b a : List ℕ} (s : List ℕ) → x ≡ y → Put k b at (printedFor y s) a r → Put k b at (printedFor x s) a r
-printed-as {x} {y} {k} {at} {r} {b} {a} s e p = subst (λ (u : Words Word Request). Put k b at (printedFor u s) a r) (sym e) p
+-- ---- from MOST on
 
-pub printed-all : (ws : List (List ℕ)) (s : List ℕ) → printedFor (next schedule (saidItems mostItems (saidUpTo 255)) ws (λ ks ys. fromValues ks ys)) s ≡ runPrinted ws s
-unfolding runPrinted said
-printed-all ws s = refl
+module _ (c d : List ℕ) (n a b : ℕ) where
+  abbrev Asks : Asked → Type 0
+  Asks r = (ks : List ℕ) (vs : List ℤ) → fromMost (take a ks) (take b vs) (given n (c ∷ d ∷ [])) ≡ askedWords ks vs r
+
+  pub most-missing : n ≡ 0 → Asks (Unread Most)
+  most-missing h ks vs = next-missing most (saidUpTo mostNodes) (λ m ys. fromLog (take a ks) (take b vs) m ys) c (d ∷ []) n h
+
+  pub most-unread : (n ≡ 0 → ⊥) → saidUpTo mostNodes c ≡ none → Asks (Unread Most)
+  most-unread h e ks vs = next-unread most (saidUpTo mostNodes) (λ m ys. fromLog (take a ks) (take b vs) m ys) c (d ∷ []) n h e
+
+  rest-asked : (ks : List ℕ) (vs : List ℤ) (m : ℕ) (w : Rest) → restWords (take a ks) (take b vs) m w ≡ askedWords ks vs (restAsked a b m w)
+  rest-asked ks vs m (LogIs k) = refl
+  rest-asked ks vs m NoLog = refl
+  rest-asked ks vs m FurtherWord = refl
+
+  pub most-said : {m : ℕ} {w x : Rest} → (n ≡ 0 → ⊥) → saidUpTo mostNodes c ≡ some m
+      → ((ks : List ℕ) (vs : List ℤ) (m : ℕ) → fromLog ks vs m (given (n - 1) (d ∷ [])) ≡ restWords ks vs m w) → w ≡ x → Asks (restAsked a b m x)
+  most-said {m} {w} {x} h e f q ks vs =
+      next-said most (saidUpTo mostNodes) (λ m ys. fromLog (take a ks) (take b vs) m ys) c (d ∷ []) n h e
+      ∙ f (take a ks) (take b vs) m ∙ ap (restWords (take a ks) (take b vs) m) q ∙ rest-asked ks vs m x
+
+pub log-fits : {j : ℕ} {w : Rest} → w ≡ LogIs j → RestFits w → j ≤ mostBytes
+log-fits e h = rw e at h
+
+-- ---- all the words
+
+module _ (y x c d : List ℕ) (n : ℕ) where
+  abbrev allWords : List (List ℕ)
+  allWords = given n (y ∷ x ∷ c ∷ d ∷ [])
+
+  all-said : said allWords ≡ next schedule (saidItems mostItems (saidUpTo 255)) allWords (λ ks ys. fromValues ks ys)
+  unfolding said
+  all-said = refl
+
+  pub schedule-missing : n ≡ 0 → said allWords ≡ unread schedule
+  schedule-missing h = all-said ∙ next-missing schedule (saidItems mostItems (saidUpTo 255)) (λ ks ys. fromValues ks ys) y (x ∷ c ∷ d ∷ []) n h
+
+  module _ (h : n ≡ 0 → ⊥) (l : List ℕ) (e : mostItems ≡ length l) where
+    pub schedule-unread : saidItems (length l) (saidUpTo 255) y ≡ none → said allWords ≡ unread schedule
+    schedule-unread q = all-said ∙ next-unread schedule (saidItems mostItems (saidUpTo 255)) (λ ks ys. fromValues ks ys) y (x ∷ c ∷ d ∷ []) n h (rw (← e) at q)
+
+    module _ {ks : List ℕ} (q : saidItems (length l) (saidUpTo 255) y ≡ some ks) where
+      schedule-said : said allWords ≡ fromValues ks (given (n - 1) (x ∷ c ∷ d ∷ []))
+      schedule-said = all-said ∙ next-said schedule (saidItems mostItems (saidUpTo 255)) (λ ks ys. fromValues ks ys) y (x ∷ c ∷ d ∷ []) n h (rw (← e) at q)
+
+      pub values-missing : n - 1 ≡ 0 → said allWords ≡ unread values
+      values-missing g = schedule-said ∙ next-missing values (saidItems mostItems saidValue) (λ vs ys. fromMost ks vs ys) x (c ∷ d ∷ []) (n - 1) g
+
+      module _ (g : n - 1 ≡ 0 → ⊥) (k : List ℤ) (i : mostItems ≡ length k) where
+        pub values-unread : saidItems (length k) saidValue x ≡ none → said allWords ≡ unread values
+        values-unread u = schedule-said ∙ next-unread values (saidItems mostItems saidValue) (λ vs ys. fromMost ks vs ys) x (c ∷ d ∷ []) (n - 1) g (rw (← i) at u)
+
+        pub lists-said : {vs : List ℤ} → saidItems (length k) saidValue x ≡ some vs → said allWords ≡ fromMost ks vs (given (n - 1 - 1) (c ∷ d ∷ []))
+        lists-said u = schedule-said ∙ next-said values (saidItems mostItems saidValue) (λ vs ys. fromMost ks vs ys) x (c ∷ d ∷ []) (n - 1) g (rw (← i) at u)
+
+pub lists-fit : {a b : ℕ} (ks : List ℕ) (vs : List ℤ) (r : Asked) → a ≤ length ks → b ≤ length vs → NumbersFit a b r → AskedFits ks vs r
+lists-fit ks vs (Run c d m k) h g f = (omega (arith, f .0), omega (arith, f .1), f .2)
+lists-fit ks vs (Unread w) h g f = tt
 
 -- ---- the log buffer
 
-abbrev pub zs : ℕ → List ℕ
+abbrev zs : ℕ → List ℕ
 zs n = replicate n 0
 
 first-zeros : (b k : ℕ) → k ≤ b → take k (zs b) ≡ zs k
@@ -40,75 +101,28 @@ count-zeros (suc k) = ap suc (count-zeros k)
 zeros : (b k : ℕ) {l : List ℕ} → l ≡ zs b → k ≤ b → take b (take k l) ≡ zs k
 zeros b k {l} e h = ap (λ (x : List ℕ). take b (take k x)) e ∙ ap (take b) (first-zeros b k h) ∙ take-all b (zs k) (omega (arith, count-zeros k))
 
--- a length that was found fits the buffer
-pub fits : {w : Rest} {j : ℕ} → RestFits w → w ≡ Log j → j ≤ mostBytes
-fits h e = rw e at h
-
 pub within : (b : ℕ) {k : ℕ} {l : List ℕ} → l ≡ zs b → k ≤ b → k ≤ length l
 within b {k} {l} e h = let c : length l ≡ b = ap length e ∙ count-zeros b in omega arith
 
--- how many places a buffer has
-room : {A : Type 0} (b : ℕ) (x : A) {l : List A} → l ≡ replicate b x → b ≡ length l
-room {A} b x e = sym (ap length e ∙ length-replicate {A = A} b x)
+pub log-zeros : (s ks : List ℕ) (vs : List ℤ) (m k : ℕ) {l b a : List ℕ} {i r : ℕ} → l ≡ zs mostBytes → k ≤ mostBytes
+    → Put i b 0 (runText s ks vs m (take mostBytes (take k l))) a r → Put i b 0 (runText s ks vs m (zs k)) a r
+log-zeros s ks vs m k {l} {b} {a} {i} {r} e h p = subst (λ (y : List ℕ). Put i b 0 (runText s ks vs m y) a r) (zeros mostBytes k e h) p
 
--- ---- what is printed, word by word
+-- ---- the answer
 
-module _ (s : List ℕ) where
-  module _ (ks : List ℕ) (vs : List ℤ) (m : ℕ) (d : List ℕ) (n : ℕ) {w : Rest} (f : (ks : List ℕ) (vs : List ℤ) (m : ℕ) → fromLog ks vs m (given n (d ∷ [])) ≡ restWords ks vs m w) where
-    says : {x : Rest} → w ≡ x → fromLog ks vs m (given n (d ∷ [])) ≡ restWords ks vs m x
-    says e = f ks vs m ∙ ap (restWords ks vs m) e
+pub line-of : {k r : ℕ} {l m : List ℕ} {w x : Found} → w ≡ x → k ≤ 256 → Put k l 0 (wordLine (wordOf x)) m r → Put 256 l 0 (wordLine (wordOf w)) m r
+line-of e h p = rw e (put-more h p)
 
-    pub log-unread : {k r : ℕ} {b a : List ℕ} → w ≡ NoLog → Put k b 0 (wordLine log) a r → Put k b 0 (printedFor (fromLog ks vs m (given n (d ∷ []))) s) a r
-    log-unread e p = printed-as s (says e) p
+pub asked-fits : (ks : List ℕ) (vs : List ℤ) {r : Asked} {a b m k : ℕ} → r ≡ Run a b m k → AskedFits ks vs r → (a ≤ length ks) × (b ≤ length vs) × (k ≤ mostBytes)
+asked-fits ks vs e h = rw e at h
 
-    pub log-further : {k r : ℕ} {b a : List ℕ} → w ≡ Further → Put k b 0 (wordLine further) a r → Put k b 0 (printedFor (fromLog ks vs m (given n (d ∷ []))) s) a r
-    log-further e p = printed-as s (says e) p
+module _ (ws : List (List ℕ)) (s ks : List ℕ) (vs : List ℤ) (r : Asked) (e : said ws ≡ askedWords ks vs r) where
+  answered : {x : Asked} → r ≡ x → runAnswer ws s ≡ answerFor (askedWords ks vs x) s
+  unfolding runAnswer
+  answered q = ap (λ u. answerFor u s) (e ∙ ap (askedWords ks vs) q)
 
-    pub log-run : {k r : ℕ} {b a : List ℕ} → {j : ℕ} {l : List ℕ} → l ≡ zs mostBytes → j ≤ mostBytes → w ≡ Log j
-        → Put k b 0 (runText s ks vs m (take mostBytes (take j l))) a r → Put k b 0 (printedFor (fromLog ks vs m (given n (d ∷ []))) s) a r
-    log-run {k} {r} {b} {a} {j} {l} z h e p =
-        printed-as s (says e) (subst (λ (y : List ℕ). Put k b 0 (runText s ks vs m y) a r) (zeros mostBytes j z h) p)
+  pub answer-run : {l o : List ℕ} {n a b m k : ℕ} → r ≡ Run a b m k → Put 5925000 l 0 (runText s (take a ks) (take b vs) m (replicate k 0)) o n → AnswerPut 5925000 l (runAnswer ws s) o (Prints n)
+  answer-run {l} {o} {n} q p = subst (λ (u : Answered). AnswerPut 5925000 l u o (Prints n)) (sym (answered q)) p
 
-  module _ (ks : List ℕ) (vs : List ℤ) (c d : List ℕ) (n : ℕ) where
-    abbrev mostWords : Words Word Request
-    mostWords = fromMost ks vs (given n (c ∷ d ∷ []))
-
-    pub most-missing : {k r : ℕ} {b a : List ℕ} → n ≡ 0 → Put k b 0 (wordLine most) a r → Put k b 0 (printedFor mostWords s) a r
-    most-missing h p = printed-as s (next-missing most (saidUpTo mostNodes) (λ m ys. fromLog ks vs m ys) c (d ∷ []) n h) p
-
-    pub most-unread : {k r : ℕ} {b a : List ℕ} → (n ≡ 0 → ⊥) → saidUpTo mostNodes c ≡ none → Put k b 0 (wordLine most) a r → Put k b 0 (printedFor mostWords s) a r
-    most-unread h e p = printed-as s (next-unread most (saidUpTo mostNodes) (λ m ys. fromLog ks vs m ys) c (d ∷ []) n h e) p
-
-    pub most-said : {k r : ℕ} {b a : List ℕ} → {m : ℕ} → (n ≡ 0 → ⊥) → saidUpTo mostNodes c ≡ some m → Put k b 0 (printedFor (fromLog ks vs m (given (n - 1) (d ∷ []))) s) a r → Put k b 0 (printedFor mostWords s) a r
-    most-said h e p = printed-as s (next-said most (saidUpTo mostNodes) (λ m ys. fromLog ks vs m ys) c (d ∷ []) n h e) p
-
-  module _ (ks x c d : List ℕ) (n : ℕ) where
-    abbrev valuesWords : Words Word Request
-    valuesWords = fromValues ks (given n (x ∷ c ∷ d ∷ []))
-
-    pub values-missing : {k r : ℕ} {b a : List ℕ} → n ≡ 0 → Put k b 0 (wordLine values) a r → Put k b 0 (printedFor valuesWords s) a r
-    values-missing h p = printed-as s (next-missing values (saidItems mostItems saidValue) (λ vs ys. fromMost ks vs ys) x (c ∷ d ∷ []) n h) p
-
-    pub values-unread : {k r : ℕ} {b a : List ℕ} → {l : List ℤ} → l ≡ replicate mostItems (pos 0) → (n ≡ 0 → ⊥) → saidItems (length l) saidValue x ≡ none → Put k b 0 (wordLine values) a r → Put k b 0 (printedFor valuesWords s) a r
-    values-unread q h e p = printed-as s (next-unread values (saidItems mostItems saidValue) (λ vs ys. fromMost ks vs ys) x (c ∷ d ∷ []) n h (rw (← room mostItems (pos 0) q) at e)) p
-
-    pub values-said : {k r : ℕ} {b a : List ℕ} → {l : List ℤ} {vs : List ℤ} → l ≡ replicate mostItems (pos 0) → (n ≡ 0 → ⊥) → saidItems (length l) saidValue x ≡ some vs → Put k b 0 (printedFor (fromMost ks vs (given (n - 1) (c ∷ d ∷ []))) s) a r
-        → Put k b 0 (printedFor valuesWords s) a r
-    values-said q h e p = printed-as s (next-said values (saidItems mostItems saidValue) (λ vs ys. fromMost ks vs ys) x (c ∷ d ∷ []) n h (rw (← room mostItems (pos 0) q) at e)) p
-
-  module _ (y x c d : List ℕ) (n : ℕ) where
-    abbrev allWords : List (List ℕ)
-    allWords = given n (y ∷ x ∷ c ∷ d ∷ [])
-
-    whole : {k r : ℕ} {b a : List ℕ} → Put k b 0 (printedFor (next schedule (saidItems mostItems (saidUpTo 255)) allWords (λ ks ys. fromValues ks ys)) s) a r → Put k b 0 (runPrinted allWords s) a r
-    whole {k} {r} {b} {a} p = subst (λ (t : List ℕ). Put k b 0 t a r) (printed-all allWords s) p
-
-    pub schedule-missing : {k r : ℕ} {b a : List ℕ} → n ≡ 0 → Put k b 0 (wordLine schedule) a r → Put k b 0 (runPrinted allWords s) a r
-    schedule-missing h p = whole (printed-as s (next-missing schedule (saidItems mostItems (saidUpTo 255)) (λ ks ys. fromValues ks ys) y (x ∷ c ∷ d ∷ []) n h) p)
-
-    pub schedule-unread : {k r : ℕ} {b a : List ℕ} → {l : List ℕ} → l ≡ replicate mostItems 0 → (n ≡ 0 → ⊥) → saidItems (length l) (saidUpTo 255) y ≡ none → Put k b 0 (wordLine schedule) a r → Put k b 0 (runPrinted allWords s) a r
-    schedule-unread q h e p = whole (printed-as s (next-unread schedule (saidItems mostItems (saidUpTo 255)) (λ ks ys. fromValues ks ys) y (x ∷ c ∷ d ∷ []) n h (rw (← room mostItems 0 q) at e)) p)
-
-    pub schedule-said : {k r : ℕ} {b a : List ℕ} → {l : List ℕ} {ks : List ℕ} → l ≡ replicate mostItems 0 → (n ≡ 0 → ⊥) → saidItems (length l) (saidUpTo 255) y ≡ some ks → Put k b 0 (printedFor (fromValues ks (given (n - 1) (x ∷ c ∷ d ∷ []))) s) a r
-        → Put k b 0 (runPrinted allWords s) a r
-    schedule-said q h e p = whole (printed-as s (next-said schedule (saidItems mostItems (saidUpTo 255)) (λ ks ys. fromValues ks ys) y (x ∷ c ∷ d ∷ []) n h (rw (← room mostItems 0 q) at e)) p)
+  pub answer-unread : {l o : List ℕ} {n : ℕ} {w : Found} → r ≡ Unread w → Put 256 l 0 (wordLine (wordOf w)) o n → AnswerPut 5925000 l (runAnswer ws s) o (Says n)
+  answer-unread {l} {o} {n} q p = subst (λ (u : Answered). AnswerPut 5925000 l u o (Says n)) (sym (answered q)) (put-more (omega arith) p)

@@ -1,164 +1,146 @@
-// What the program `run` prints for its words and a text.
+// What the program `run` answers to its words and a text, in two steps: what the words ask for, and the run or the word's line.
 
+use arguments::Answer;
 use arguments::Number;
 use log_word::Rest;
 ghost use mathlib.Core.Path.{_≡_};
-ghost use mathlib.Core.List.{_∷_, [], _++_};
-ghost use Prim.Native.Nat.{_≤_};
-ghost use lib.IntN.{pos};
-ghost use lib.ListN.{length, replicate};
+ghost use mathlib.Core.List.{List, _∷_, []};
+ghost use Prim.Native.Nat.{ℕ, _≤_};
+ghost use lib.IntN.{ℤ};
+ghost use lib.ListN.{length, take, replicate};
 ghost use Rattle.machine.specs.Words.{given};
-ghost use Rattle.machine.specs.Program.{schedule, values, most, log, further, wordLine, printedFor, runPrinted};
+ghost use Rattle.machine.specs.Program.{mostItems, mostBytes, said, wordLine, runText, runAnswer};
 ghost use Rattle.put.specs.Put.{Put};
-ghost use Rattle.log_word.specs.Words.{fromLog};
-ghost use Rattle.run_words.specs.Words.{fromMost, fromValues};
+ghost use Rattle.arguments.specs.Answers.{AnswerPut};
+ghost use Rattle.run_words.specs.Words.{fromMost, wordOf, askedWords, NumbersFit, AskedFits};
 
-// Two texts and an LF.
-fn put_line(out: &mut [u8], a: &[u8], b: &[u8]) -> usize
-    requires { ⌜ (length (now a) ≤ 64) × (length (now b) ≤ 64) ⌝ }
-    ensures { λ r. ⌜ Put 4400000 (now (out .entry)) 0 (now (a .entry) ++ (now (b .entry) ++ (10 ∷ []))) (now (out .exit)) r ⌝ }
-{
-    let p = put::put_text(out, 0, a);
-    let q = put::put_text(out, p, b);
-    put::put_byte(out, q, 10)
+// The words; Further is one too many.
+pub enum Word {
+    Schedule,
+    Values,
+    Most,
+    Log,
+    Further,
 }
 
-// Which word, and what was expected.
-fn schedule_line(out: &mut [u8]) -> usize
-    ensures { λ r. ⌜ Put 4400000 (now (out .entry)) 0 (wordLine schedule) (now (out .exit)) r ⌝ }
-{
-    put_line(
-        out,
-        b"word 1, SCHEDULE: expected task numbers from 0 to 255 ",
-        b"with commas between, at most 65536, or none",
-    )
+// What the words ask for: a run, with how many task numbers and values the lent lists then have, the most dropped nodes per step and the log
+// buffer's length; or the first word that can't be read, is missing or is too many.
+pub enum Asked {
+    Run(usize, usize, usize, usize),
+    Unread(Word),
 }
 
-fn values_line(out: &mut [u8]) -> usize
-    ensures { λ r. ⌜ Put 4400000 (now (out .entry)) 0 (wordLine values) (now (out .exit)) r ⌝ }
-{
-    put_line(
-        out,
-        b"word 2, VALUES: expected numbers from -2147483648 to 2147483647 ",
-        b"with commas between, at most 65536, or none",
-    )
-}
+// ---- what the words ask for
 
-fn most_line(out: &mut [u8]) -> usize
-    ensures { λ r. ⌜ Put 4400000 (now (out .entry)) 0 (wordLine most) (now (out .exit)) r ⌝ }
-{
-    put_line(
-        out,
-        b"word 3, MOST: expected a number of dropped nodes, ",
-        b"at most 18446744073709551615",
-    )
-}
-
-fn log_line(out: &mut [u8]) -> usize
-    ensures { λ r. ⌜ Put 4400000 (now (out .entry)) 0 (wordLine log) (now (out .exit)) r ⌝ }
-{
-    put_line(
-        out,
-        b"word 4, LOG: expected a number of bytes, ",
-        b"at most 524288",
-    )
-}
-
-fn further_line(out: &mut [u8]) -> usize
-    ensures { λ r. ⌜ Put 4400000 (now (out .entry)) 0 (wordLine further) (now (out .exit)) r ⌝ }
-{
-    put_line(
-        out,
-        b"word 5: expected no more than four words, ",
-        b"SCHEDULE VALUES MOST LOG",
-    )
-}
-
-// Zeros: the places of a log buffer, of task numbers and of values.
-fn log_buffer() -> [u8; 524288]
-    ensures { λ r. ⌜ r ≡ replicate 524288 0 ⌝ }
-{
-    [0; 524288]
-}
-
-fn task_buffer() -> [u8; 65536]
-    ensures { λ r. ⌜ r ≡ replicate 65536 0 ⌝ }
-{
-    [0; 65536]
-}
-
-fn value_buffer() -> [i32; 65536]
-    ensures { λ r. ⌜ r ≡ replicate 65536 (pos 0) ⌝ }
-{
-    [0; 65536]
-}
-
-// From the word LOG on; n words are left.
-fn after_most(
-    n: usize,
-    fourth: &[u8],
-    s: &[u8],
-    schedule: &[u8],
-    values: &[i32],
-    most: usize,
-    out: &mut [u8],
-) -> usize
-    ensures { λ r. ⌜ Put 4400000 (now (out .entry)) 0 (printedFor (fromLog (now (schedule .entry)) (now (values .entry)) most (given n (now (fourth .entry) ∷ []))) (now (s .entry))) (now (out .exit)) r ⌝ }
-{
-    match log_word::last_words(n, fourth) {
-        Rest::Log(k) => {
-            let mut log = log_buffer();
-            run_text::run_text(s, schedule, values, most, &mut log[..k], out)
-        }
-        Rest::NoLog => log_line(out),
-        Rest::Further => further_line(out),
-    }
-}
-
-// From the word MOST on.
-fn after_values(
-    n: usize,
-    third: &[u8],
-    fourth: &[u8],
-    s: &[u8],
-    schedule: &[u8],
-    values: &[i32],
-    out: &mut [u8],
-) -> usize
-    ensures { λ r. ⌜ Put 4400000 (now (out .entry)) 0 (printedFor (fromMost (now (schedule .entry)) (now (values .entry)) (given n (now (third .entry) ∷ now (fourth .entry) ∷ []))) (now (s .entry))) (now (out .exit)) r ⌝ }
+// From the word MOST on; n words are left.
+fn ask_numbers(n: usize, a: usize, b: usize, third: &[u8], fourth: &[u8]) -> Asked
+    ensures says { λ r. ⌜ ((ks : List ℕ) (vs : List ℤ) → fromMost (take a ks) (take b vs) (given n (now (third .entry) ∷ now (fourth .entry) ∷ [])) ≡ askedWords ks vs r) ⌝ }
+    ensures fits { λ r. ⌜ NumbersFit a b r ⌝ }
 {
     if n == 0 {
-        return most_line(out);
+        return Asked::Unread(Word::Most);
     }
-    let Number::Is(k) = arguments::most(third) else {
-        return most_line(out);
+    let Number::Is(m) = arguments::most(third) else {
+        return Asked::Unread(Word::Most);
     };
-    after_most(n - 1, fourth, s, schedule, values, k, out)
+    match log_word::last_words(n - 1, fourth) {
+        Rest::Log(k) => Asked::Run(a, b, m, k),
+        Rest::NoLog => Asked::Unread(Word::Log),
+        Rest::Further => Asked::Unread(Word::Further),
+    }
 }
 
-// From the word VALUES on.
-fn after_schedule(
+// What n words ask for, of which the first four are given; the lists of a run are put into the lent ones.
+pub fn ask(
     n: usize,
+    first: &[u8],
     second: &[u8],
     third: &[u8],
     fourth: &[u8],
-    s: &[u8],
-    schedule: &[u8],
-    out: &mut [u8],
-) -> usize
-    ensures { λ r. ⌜ Put 4400000 (now (out .entry)) 0 (printedFor (fromValues (now (schedule .entry)) (given n (now (second .entry) ∷ now (third .entry) ∷ now (fourth .entry) ∷ []))) (now (s .entry))) (now (out .exit)) r ⌝ }
+    schedule: &mut [u8],
+    values: &mut [i32],
+) -> Asked
+    requires { ⌜ (mostItems ≡ length (now schedule)) × (mostItems ≡ length (now values)) ⌝ }
+    ensures says { λ r. ⌜ said (given n (now (first .entry) ∷ now (second .entry) ∷ now (third .entry) ∷ now (fourth .entry) ∷ [])) ≡ askedWords (now (schedule .exit)) (now (values .exit)) r ⌝ }
+    ensures fits { λ r. ⌜ AskedFits (now (schedule .exit)) (now (values .exit)) r ⌝ }
 {
     if n == 0 {
-        return values_line(out);
+        return Asked::Unread(Word::Schedule);
     }
-    let mut values = value_buffer();
-    let Number::Is(k) = arguments::values(second, &mut values) else {
-        return values_line(out);
+    let Number::Is(a) = arguments::schedule(first, schedule) else {
+        return Asked::Unread(Word::Schedule);
     };
-    after_values(n - 1, third, fourth, s, schedule, &values[..k], out)
+    let left = n - 1;
+    if left == 0 {
+        return Asked::Unread(Word::Values);
+    }
+    let Number::Is(b) = arguments::values(second, values) else {
+        return Asked::Unread(Word::Values);
+    };
+    ask_numbers(left - 1, a, b, third, fourth)
 }
 
-// What the program prints for a text on its standard input and n words, of which the first four are given.
+// ---- what is answered
+
+// Which word, and what was expected.
+pub fn word_line(w: Word, out: &mut [u8]) -> usize
+    ensures { λ r. ⌜ Put 256 (now (out .entry)) 0 (wordLine (wordOf w)) (now (out .exit)) r ⌝ }
+{
+    match w {
+        Word::Schedule => put::put_bytes(
+            out,
+            0,
+            b"word 1, SCHEDULE: expected at most 100000 task numbers from 0 to 255 with commas between, or none, or @FILE, a file with such a list, by commas or lines\n",
+        ),
+        Word::Values => put::put_bytes(
+            out,
+            0,
+            b"word 2, VALUES: expected at most 100000 numbers from -2147483648 to 2147483647 with commas between, or none, or @FILE, a file with such a list, by commas or lines\n",
+        ),
+        Word::Most => put::put_bytes(
+            out,
+            0,
+            b"word 3, MOST: expected a number of dropped nodes, at most 18446744073709551615\n",
+        ),
+        Word::Log => put::put_bytes(
+            out,
+            0,
+            b"word 4, LOG: expected a number of bytes, at most 800000\n",
+        ),
+        Word::Further => put::put_bytes(
+            out,
+            0,
+            b"word 5: expected no more than four words, SCHEDULE VALUES MOST LOG\n",
+        ),
+    }
+}
+
+// Zeros: the places of a log buffer.
+fn log_buffer() -> [u8; 800000]
+    ensures { λ r. ⌜ r ≡ replicate 800000 0 ⌝ }
+{
+    [0; 800000]
+}
+
+// The run that was asked for: its report, or the refusal of the text.
+pub fn run_asked(
+    a: usize,
+    b: usize,
+    most: usize,
+    k: usize,
+    schedule: &[u8],
+    values: &[i32],
+    s: &[u8],
+    out: &mut [u8],
+) -> usize
+    requires { ⌜ (a ≤ length (now schedule)) × (b ≤ length (now values)) × (k ≤ mostBytes) ⌝ }
+    ensures { λ r. ⌜ Put 5925000 (now (out .entry)) 0 (runText (now (s .entry)) (take a (now (schedule .entry))) (take b (now (values .entry))) most (replicate k 0)) (now (out .exit)) r ⌝ }
+{
+    let mut log = log_buffer();
+    run_text::run_text(s, &schedule[..a], &values[..b], most, &mut log[..k], out)
+}
+
+// What the program answers to n words, of which the first four are given, and to a text on its standard input.
 pub fn run_words(
     n: usize,
     first: &[u8],
@@ -166,16 +148,17 @@ pub fn run_words(
     third: &[u8],
     fourth: &[u8],
     s: &[u8],
+    schedule: &mut [u8],
+    values: &mut [i32],
     out: &mut [u8],
-) -> usize
-    ensures { λ r. ⌜ Put 4400000 (now (out .entry)) 0 (runPrinted (given n (now (first .entry) ∷ now (second .entry) ∷ now (third .entry) ∷ now (fourth .entry) ∷ [])) (now (s .entry))) (now (out .exit)) r ⌝ }
+) -> Answer
+    requires { ⌜ (mostItems ≡ length (now schedule)) × (mostItems ≡ length (now values)) ⌝ }
+    ensures { λ r. ⌜ AnswerPut 5925000 (now (out .entry)) (runAnswer (given n (now (first .entry) ∷ now (second .entry) ∷ now (third .entry) ∷ now (fourth .entry) ∷ [])) (now (s .entry))) (now (out .exit)) r ⌝ }
 {
-    if n == 0 {
-        return schedule_line(out);
+    match ask(n, first, second, third, fourth, schedule, values) {
+        Asked::Run(a, b, m, k) => {
+            Answer::Prints(run_asked(a, b, m, k, schedule, values, s, out))
+        }
+        Asked::Unread(w) => Answer::Says(word_line(w, out)),
     }
-    let mut schedule = task_buffer();
-    let Number::Is(k) = arguments::schedule(first, &mut schedule) else {
-        return schedule_line(out);
-    };
-    after_schedule(n - 1, second, third, fourth, s, &schedule[..k], out)
 }

@@ -1,12 +1,23 @@
-// Prints what the program `run` prints for many words and texts, so that it can be compared with what it should print. Standard input holds
+// Prints what the program `run` answers to many words and texts, so that it can be compared with what it should answer. Standard input holds
 // the cases: the words SCHEDULE, VALUES, MOST and LOG and a text, each behind its length in five digits.
 
 fn print(first: &[u8], second: &[u8], third: &[u8], fourth: &[u8], text: &[u8]) {
+    let mut schedule = [0u8; 100000];
+    let mut values = [0i32; 100000];
     let mut out = [0u8; 65536];
-    let n = run_words::run_words(4, first, second, third, fourth, text, &mut out);
-    if n <= 65536 {
-        io::write_all(1, &out[..n]);
-    }
+    let a = run_words::run_words(
+        4,
+        first,
+        second,
+        third,
+        fourth,
+        text,
+        &mut schedule,
+        &mut values,
+        &mut out,
+    );
+    let n = arguments::length(a);
+    parts::print(&out, n);
 }
 
 // The next case, read into buffers; whether there was none.

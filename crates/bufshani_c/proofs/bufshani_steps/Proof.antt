@@ -3,7 +3,7 @@ use borrow.Author.Needs.{needs}
 use mathlib.Core.Path.{sym, _∙_, ap}
 use Rattle.machine.specs.declared.Running.{Running}
 use Rattle.codes.specs.Code.{packed}
-use Rattle.bufshani.specs.PrintLaws.{sound-read}
+use Rattle.closed_text.specs.PrintLaws.{sound-read}
 use Rattle.bufshani_c.specs.Texts.{Coded}
 use Rattle.bufshani_c.specs.TextLaws.{stepped-refused, stepped-good}
 use Rattle.bufshani_c.proofs.bufshani_steps.Statement.{statement}

@@ -1,7 +1,7 @@
 use mathlib.Core.Path.{sym, _∙_, ap}
 use Rattle.text.specs.declared.Writing.{Writing}
 use Rattle.writer.specs.CountsLaws.{counts}
-use Rattle.bufshani.specs.PrintLaws.{sound-read}
+use Rattle.closed_text.specs.PrintLaws.{sound-read}
 use Rattle.bufshani_c.specs.Texts.{Coded}
 use Rattle.codes.specs.Code.{packed}
 use Rattle.bufshani_c.specs.TextLaws.{rewritten-refused, rewritten-good}

@@ -17,14 +17,14 @@ enum-told : tie.Need-enum-told
 enum-told c = search needs
 
 returns-2 : tie.Need-returns-2
-returns-2 c = (log-unread (c .before .before .before .before .before .args .word .now) (c .before .before .before .before .before .args .n) (c .before .before .before .if1 .left) (number-none 524288 _ (c .before .before .log .ensures) (c .enum-told .given .1)), tt)
+returns-2 c = (log-unread (c .before .before .before .before .before .args .word .now) (c .before .before .before .before .before .args .n) (c .before .before .before .if1 .left) (number-none 800000 _ (c .before .before .log .ensures) (c .enum-told .given .1)), tt)
 
 returns-3 : tie.Need-returns-3
-returns-3 c = (log-further (c .before .before .before .before .before .before .before .args .word .now) (c .before .before .before .before .before .before .before .args .n) (c .before .before .before .before .before .if1 .left) (c .if2 .taken) (number-is 524288 _ (c .before .before .before .before .log .ensures) (c .before .before .k .given .1)), tt)
+returns-3 c = (log-further (c .before .before .before .before .before .before .before .args .word .now) (c .before .before .before .before .before .before .before .args .n) (c .before .before .before .before .before .if1 .left) (c .if2 .taken) (number-is 800000 _ (c .before .before .before .before .log .ensures) (c .before .before .k .given .1)), tt)
 
 returns-4 : tie.Need-returns-4
 returns-4 c =
-    let e = number-is 524288 _ (c .before .before .before .before .log .ensures) (c .before .before .k .given .1) in
+    let e = number-is 800000 _ (c .before .before .before .before .log .ensures) (c .before .before .k .given .1) in
     (log-asks (c .before .before .before .before .before .before .before .args .word .now) (c .before .before .before .before .before .before .before .args .n) (c .before .before .before .before .before .if1 .left) (c .if2 .left) e, number-small _ e)
 
 pub last-words-spec : {M : Type 1} → statement M

@@ -18,8 +18,7 @@ use Rattle.closing.specs.Dirty.{Unkept}
 use Rattle.closing.specs.KeptLaws.{unkept-is}
 use Rattle.machine.specs.Step.{Entry}
 use Rattle.machine.specs.Run.{flagged, entryBytes, SameLog}
-use Rattle.machine.specs.ClosedRun.{bytes-length}
-use Rattle.promise.specs.Sim.Stores.{sets-before, sets-at}
+use Rattle.machine.specs.LogLaws.{byte-old, byte-new}
 use Rattle.promise.specs.Sim.Locals.{keptAt}
 use Rattle.promise.specs.Sim.Exec.{SameValue}
 use Rattle.promise.specs.Sim.Step.{SameEntry}
@@ -82,13 +81,6 @@ entry-bytes t e e′ r = record {
     values : (b : ℕ) → SameValue (e .value) (e′ .value) → getD (flagged (e′ .value)) 0 0 ≡ 1 → getD (entryBytes e) (4 + b) 0 ≡ getD (entryBytes e′) (4 + b) 0
     values b (inl i) k = absurd (unflagged (e′ .value) i k)
     values b (inr i) k = λ j. getD (r .task j ∷ r .proc j ∷ r .node j ∷ flagged (i j)) (4 + b) 0
-
--- byte b of entry i after the store of entry n
-byte-old : (log : List ℕ) (n i b : ℕ) (e : Entry) → i < n → b < 8 → byte (sets log (8 * n) (entryBytes e)) i b ≡ byte log i b
-byte-old log n i b e l m = sets-before (entryBytes e) log (8 * n) (8 * i + b) 0 (omega arith)
-
-byte-new : (log : List ℕ) (n b : ℕ) (e : Entry) → 8 * n + 8 ≤ length log → b < 8 → byte (sets log (8 * n) (entryBytes e)) n b ≡ getD (entryBytes e) b 0
-byte-new log n b e l m = sets-at (entryBytes e) log (8 * n) b 0 (rw (bytes-length e) l) (rw (bytes-length e) m)
 
 pub log-next : (t : Table) (n : ℕ) (log log′ : List ℕ) (e e′ : Entry) → SameLogs t n log log′ → SameEntry t e e′ → length log′ ≡ length log → 8 * n + 8 ≤ length log
     → SameLogs t (suc n) (sets log (8 * n) (entryBytes e)) (sets log′ (8 * n) (entryBytes e′))

@@ -2,12 +2,12 @@
 use Prim.Native.Nat.{ℕ, zero, suc, _+_, _<_, _≤_}
 use native.Mathlib.Omega.{arith}
 use native.Mathlib.Nat.{add-zero, add-suc, suc-add}
-use mathlib.Core.Path.{_≡_, refl, _∙_, ap}
+use mathlib.Core.Path.{_≡_, refl, ap}
 use mathlib.Core.Logic.{_≢_}
 use mathlib.Core.Option.{some}
 use mathlib.Core.List.{List, [], _∷_, List·Memᴰ, List·Memᴰ·head, List·Memᴰ·tail}
-use lib.ListN.{length, getD, getElem?, set, take, length-set}
-use lib.Seq.{sets, set-out, getD-set-same, getD-set-other}
+use lib.ListN.{length, getD, getElem?, set, take}
+use lib.Seq.{set-out, getD-set-same, getD-set-other}
 use lib.Dec.{eqb, ltb}
 use borrow.Author.Tests.{eqb-true, eqb-false, ltb-true, ltb-false}
 use Rattle.text.specs.Reader.{concatFrom}
@@ -62,14 +62,3 @@ pub at-in : {A : Type 0} (l : List A) (i : ℕ) (a : A) → getElem? l i ≡ som
 at-in [] i a e = let z : _≡_ {A = ℕ} 0 1 = cc in absurd (omega arith)
 at-in (x ∷ xs) zero a e = let z : a ≡ x = cc in List·Memᴰ·head z
 at-in (x ∷ xs) (suc i) a e = List·Memᴰ·tail (at-in xs i a e)
-
--- ---- a run of stores
-
-pub sets-before : {A : Type 0} (vs l : List A) (i j : ℕ) (d : A) → j < i → getD (sets l i vs) j d ≡ getD l j d
-sets-before [] l i j d h = refl
-sets-before (v ∷ vs) l i j d h = sets-before vs (set l i v) (suc i) j d (omega arith) ∙ getD-set-other l i j v d (λ e. absurd (omega arith))
-
-pub sets-at : {A : Type 0} (vs l : List A) (i b : ℕ) (d : A) → i + length vs ≤ length l → b < length vs → getD (sets l i vs) (i + b) d ≡ getD vs b d
-sets-at [] l i b d h k = absurd (omega arith)
-sets-at (v ∷ vs) l i zero d h k = rw add-zero (sets-before vs (set l i v) (suc i) i d (omega arith) ∙ getD-set-same l i v d (omega arith))
-sets-at (v ∷ vs) l i (suc b) d h k = rw (add-suc, ← suc-add i b) (sets-at vs (set l i v) (suc i) b d (rw length-set (omega arith)) (omega arith))

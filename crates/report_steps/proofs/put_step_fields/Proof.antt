@@ -6,7 +6,7 @@ use mathlib.Core.Path.{_∙_}
 use native.Mathlib.Nat.{add-zero}
 use Rattle.put.specs.PutLaws.{put-more, field-then}
 use Rattle.machine.specs.Report.{loggedValue}
-use Rattle.report_steps.specs.StepLaws.{short}
+use Rattle.report_steps.specs.StepLaws.{short, fields-short}
 use native.Mathlib.Omega.{arith}
 use borrow.Author.Needs.{needs}
 use Rattle.report_steps.proofs.put_step_fields.Statement.{statement}
@@ -79,11 +79,13 @@ returns : tie.Need-returns
 returns c =
     let a = c .before .before .before .before .before .before .before .before .before .before .before .before .before .before .before .before .before .before .before .before .before .before .before .before .before .before .before .before .before .before .before .before .before .before .before .before in
     let v = c .before .before .before .before .logged-value in
-    let e : toZ w32 (ofZ w32 (v .result)) ≡ loggedValue (a .args .log .now) (a .args .j) = toZ-ofZ {w = w32} (record { sfits = v .ok }) ∙ v .ensures in
-    rw add-zero (put-more (omega arith)
-    (field-then (short (a .args .i) (omega (arith, a .pre .2)) (c .before .before .before .before .before .before .before .before .before .before .before .before .before .before .before .before .before .before .before .before .before .before .before .before .before .before .before .before .before .before .before .put-size .ensures))
-    (field-then (c .before .before .before .before .before .before .before .before .before .before .before .before .before .before .before .before .before .before .before .before .before .before .before .before .before .put-count .ensures) (field-then (c .before .before .before .before .before .before .before .before .before .before .before .before .before .before .before .before .before .before .before .put-count2 .ensures) (field-then (c .before .before .before .before .before .before .before .before .before .before .before .before .before .put-count3 .ensures) (field-then (c .before .before .before .before .before .before .before .put-count4 .ensures)
-    (rw e at (c .before .before .put-value .ensures))))))))
+    let e : toZ w32 (ofZ w32 (v .result)) ≡ loggedValue (a .args .log .now) (a .args .j) = toZ-ofZ {w = w32} (record { sfits = v .ok }) ∙ v .ensures in (
+      rw add-zero (put-more (omega arith)
+          (field-then (short (a .args .i) (omega (arith, a .pre .2)) (c .before .before .before .before .before .before .before .before .before .before .before .before .before .before .before .before .before .before .before .before .before .before .before .before .before .before .before .before .before .before .before .put-size .ensures))
+          (field-then (c .before .before .before .before .before .before .before .before .before .before .before .before .before .before .before .before .before .before .before .before .before .before .before .before .before .put-count .ensures) (field-then (c .before .before .before .before .before .before .before .before .before .before .before .before .before .before .before .before .before .before .before .put-count2 .ensures) (field-then (c .before .before .before .before .before .before .before .before .before .before .before .before .before .put-count3 .ensures) (field-then (c .before .before .before .before .before .before .before .put-count4 .ensures)
+          (rw e at (c .before .before .put-value .ensures)))))))),
+      λ h. fields-short (a .args .i) (a .args .log .now) (a .args .j) (a .pre .2) (rw e at (c .before .before .put-value .ensures .few)) h,
+    )
 
 pub put-step-fields-spec : {M : Type 1} → statement M
 put-step-fields-spec =

@@ -1,4 +1,4 @@
-use Rattle.put.specs.PutLaws.{put-after}
+use Rattle.report_steps.specs.StepLaws.{line-short}
 use borrow.Author.Needs.{needs}
 use Rattle.report_steps.proofs.put_step_line.Statement.{statement}
 use Rattle.report_steps.proofs.put_step_line.Tie as tie
@@ -13,7 +13,9 @@ same-length : tie.Need-same-length
 same-length c = search needs
 
 returns : tie.Need-returns
-returns c = put-after (c .before .before .before .before .before .before .put-step-fields .ensures) (c .before .before .put-byte .ensures)
+returns c =
+    let f = c .before .before .before .before .before .before in
+    line-short (f .put-step-fields .ensures .1) (f .before .before .before .before .pre .3) (f .put-step-fields .ensures .0) (c .before .before .put-byte .ensures)
 
 pub put-step-line-spec : {M : Type 1} → statement M
 put-step-line-spec =

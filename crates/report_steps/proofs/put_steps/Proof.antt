@@ -7,7 +7,7 @@ use Rattle.report_steps.proofs.put_steps.Statement.{statement}
 use Rattle.report_steps.proofs.put_steps.Tie as tie
 
 abbrev Inv-loop : tie.InvT-loop
-Inv-loop out₀ at log n p₀ i₀ out p i = (PutRows 65 (stepLine log) out₀ at out p i) × (i ≤ n)
+Inv-loop out₀ at log n p₀ i₀ out p i = (PutRows 58 (stepLine log) out₀ at out p i) × (i ≤ n)
 
 abbrev μ-loop : tie.MeasureT-loop
 μ-loop out₀ at log n p₀ i₀ out p i = n - i
@@ -16,7 +16,7 @@ loop-holds : tie.Need-loop-holds Inv-loop μ-loop
 loop-holds c = (rows-start, omega arith)
 
 put-step-line-requires : tie.Need-put-step-line-requires Inv-loop μ-loop
-put-step-line-requires c κs = (omega (arith, (c .before .before .loop) .inv .0 .put .few, (c .before .before .loop) .inv .0 .put .next), omega arith, omega arith)
+put-step-line-requires c κs = (omega (arith, (c .before .before .loop) .inv .0 .put .few, (c .before .before .loop) .inv .0 .put .next), omega arith, omega arith, c .before .before .before .before .before .pre .3 _ (c .before .loop-test .taken))
 
 add-i : tie.Need-add-i Inv-loop μ-loop
 add-i c = search needs

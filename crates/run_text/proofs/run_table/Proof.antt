@@ -1,6 +1,7 @@
 -- `run_text::run_table` prints the report of a run.
 use borrow.Author.Needs.{needs}
 use mathlib.Core.Path.{sym}
+use Rattle.text.specs.ShapeLaws.{shaped}
 use Rattle.run_text.specs.TextLaws.{reportable, report-is}
 use Rattle.run_text.proofs.run_table.Statement.{statement}
 use Rattle.run_text.proofs.run_table.Tie as tie
@@ -13,7 +14,7 @@ put-report-requires c κs =
     let r = c .before .before .before .before in
     let a = r .before .before .before .before .before in
     let x = a .args in
-    reportable (x .t) (x .schedule .now) (x .values .now) (x .most) (x .log .now) (a .pre .0) (a .pre .1) (r .run-valid .ensures .0) (r .run-valid .ensures .1)
+    reportable (x .t) (x .schedule .now) (x .values .now) (x .most) (x .log .now) (shaped (x .t) (_, a .good .0)) (a .pre .0) (a .pre .1) (r .run-valid .ensures .0) (r .run-valid .ensures .1)
 
 same-length : tie.Need-same-length
 same-length c = search needs

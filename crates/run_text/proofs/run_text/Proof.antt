@@ -19,7 +19,7 @@ used-requires : tie.Need-used-requires
 used-requires c κs = search needs
 
 run-part-requires : tie.Need-run-part-requires
-run-part-requires c κs = (sound-read ((c .before .before .before .before .before .before .before .before .before .before .before .args) .s .now) ((c .before .before .before .before .before .before .before .before .before .before .before .args) .schedule .now) ((c .before .before .before .before .before .before .before .before .before .before .before .args) .values .now) ((c .before .before .before .before .before .before .before .before .before .before .before .args) .most) ((c .before .before .before .before .before .before .before .before .before .before .before .args) .log .now) _ ((c .before .before .before .before .before .before .read) .ensures) ((c .before .before .before .before .if1) .left), least-left 524288 ((c .before .before .used) .ensures), least-right _ ((c .before .before .used) .ensures))
+run-part-requires c κs = (sound-read ((c .before .before .before .before .before .before .before .before .before .before .before .args) .s .now) ((c .before .before .before .before .before .before .before .before .before .before .before .args) .schedule .now) ((c .before .before .before .before .before .before .before .before .before .before .before .args) .values .now) ((c .before .before .before .before .before .before .before .before .before .before .before .args) .most) ((c .before .before .before .before .before .before .before .before .before .before .before .args) .log .now) _ ((c .before .before .before .before .before .before .read) .ensures) ((c .before .before .before .before .if1) .left), least-left 800000 ((c .before .before .used) .ensures), least-right _ ((c .before .before .used) .ensures))
 
 same-length-2 : tie.Need-same-length-2
 same-length-2 c = search needs

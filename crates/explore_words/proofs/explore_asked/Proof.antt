@@ -1,7 +1,7 @@
 use Rattle.explore_text.specs.TextLaws.{text-sound, text-refused, text-explored}
 use borrow.Author.Needs.{needs}
-use Rattle.explore_words.proofs.explore_said.Statement.{statement}
-use Rattle.explore_words.proofs.explore_said.Tie as tie
+use Rattle.explore_words.proofs.explore_asked.Statement.{statement}
+use Rattle.explore_words.proofs.explore_asked.Tie as tie
 
 read-requires : tie.Need-read-requires
 read-requires c κs = search needs
@@ -24,8 +24,8 @@ same-length-2 c = search needs
 returns-2 : tie.Need-returns-2
 returns-2 c = text-explored _ _ _ (c .before .before .before .before .before .before .before .read .ensures) (c .before .before .before .before .before .if1 .left) (c .before .before .explore-loudly .ensures)
 
-pub explore-said-spec : {M : Type 1} → statement M
-explore-said-spec =
+pub explore-asked-spec : {M : Type 1} → statement M
+explore-asked-spec =
     tie.close
     (tie.spec
     read-requires
