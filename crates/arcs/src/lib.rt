@@ -33,7 +33,7 @@ fn put_edge_if(
 }
 
 // One more, if yes.
-fn next(i: u8, yes: bool) -> u8
+pub fn next(i: u8, yes: bool) -> u8
     requires { ⌜ i ≤ 32 ⌝ }
     ensures { λ r. ⌜ r ≡ pick yes (i + 1) i ⌝ }
 {
@@ -61,7 +61,7 @@ fn put_edges(out: &mut [u8], at: usize, p: u8, n: u8, word: &[u8], toss: bool, t
 }
 
 // How many numbers a mask holds.
-fn count(m: u32) -> u8
+pub fn count(m: u32) -> u8
     ensures { λ r. ⌜ r ≡ length (members m) ⌝ }
 {
     let mut n: u8 = 0;

@@ -7,7 +7,7 @@ ghost use Prim.Native.Nat.{_≤_};
 ghost use lib.ListN.{length};
 ghost use Rattle.put.specs.Put.{Put, FieldAt, LineAt};
 ghost use Rattle.labels.specs.Label.{SaysAt};
-ghost use Rattle.labels.specs.Graph.{nameText, solidEnd, edgeEnd, edgeText, deadEnd};
+ghost use Rattle.labels.specs.Graph.{nameText, solidEnd, edgeEnd, edgeText, deadEnd, callEdge};
 
 // The name of node n of procedure p.
 pub fn put_name(out: &mut [u8], at: usize, p: u8, n: u8) -> usize
@@ -76,4 +76,15 @@ pub fn put_dead_end(out: &mut [u8], at: usize, p: u8, n: u8, word: &[u8]) -> usi
     let e = put_name(out, d, p, n);
     let f = put_text(out, e, b"none");
     put_solid_end(out, f, word)
+}
+
+// The dotted arc from node n, a call, to node 0 of the callee q.
+pub fn put_call_edge(out: &mut [u8], at: usize, p: u8, n: u8, q: u8) -> usize
+    requires { ⌜ LineAt at ⌝ }
+    ensures { λ r. ⌜ Put 54 (now (out .entry)) at (callEdge p n q) (now (out .exit)) r ⌝ }
+{
+    let a = put_name(out, at, p, n);
+    let b = put_text(out, a, b" -> ");
+    let c = put_name(out, b, q, 0);
+    put_text(out, c, b" [style=dotted constraint=false];\n")
 }

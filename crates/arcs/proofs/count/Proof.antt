@@ -1,4 +1,4 @@
-use Rattle.arcs.specs.EdgeLaws.{Counting, counting-start, counting-turn, counting-end}
+use Rattle.arcs.specs.ListedLaws.{Counting, counting-start, counting-turn, counting-end}
 use Prim.Native.Nat.{_-_, _≤_}
 use native.Mathlib.Omega.{arith}
 use borrow.Author.Needs.{needs}

@@ -1,6 +1,6 @@
 use Rattle.put.specs.PutLaws.{put-more}
 use borrow.Author.Tests.{eq-eqb}
-use Rattle.arcs.specs.EdgeLaws.{arc-edges}
+use Rattle.arcs.specs.ListedLaws.{arc-edges}
 use Rattle.labels.specs.Graph.{arcText}
 use mathlib.Core.Path.{sym, _∙_}
 use native.Mathlib.Omega.{arith}

@@ -1,4 +1,4 @@
-use Rattle.put.specs.PutLaws.{put-after, put-more, field-then}
+use Rattle.put.specs.PutLaws.{put-more, field-then}
 use native.Mathlib.Omega.{arith}
 use borrow.Author.Needs.{needs}
 use Rattle.clusters.proofs.put_cluster.Statement.{statement}
@@ -16,17 +16,11 @@ put-label-requires c κs = search needs
 put-tops-requires : tie.Need-put-tops-requires
 put-tops-requires c κs = search needs
 
-slice-aggregate-put-text : tie.Need-slice-aggregate-put-text
-slice-aggregate-put-text c = search needs
-
-put-text-requires : tie.Need-put-text-requires
-put-text-requires c κs = search needs
-
 same-length : tie.Need-same-length
 same-length c = search needs
 
 returns : tie.Need-returns
-returns c = put-more (omega (arith, (c .before .before .before .before .before .before .before .before .before .before .before .before .before .before .before .before .before .before .before .pre .1))) (field-then (c .before .before .before .before .before .before .before .before .before .before .before .before .before .before .before .put-count .ensures) (field-then (c .before .before .before .before .before .before .before .before .before .before .before .put-label .ensures) (put-after (c .before .before .before .before .before .before .before .put-tops .ensures) (c .before .before .put-text .ensures))))
+returns c = put-more (omega arith) (field-then (c .before .before .before .before .before .before .before .before .before .before .put-count .ensures) (field-then (c .before .before .before .before .before .before .put-label .ensures) (c .before .before .put-tops .ensures)))
 
 pub put-cluster-spec : {M : Type 1} → statement M
 put-cluster-spec =
@@ -36,7 +30,5 @@ put-cluster-spec =
     put-count-requires
     put-label-requires
     put-tops-requires
-    slice-aggregate-put-text
-    put-text-requires
     same-length
     returns)

@@ -1,5 +1,5 @@
 use borrow.Author.Tests.{eq-eqb, ne-eqb}
-use mathlib.Core.Path.{refl}
+use Rattle.put.specs.PutLaws.{put-more}
 use native.Mathlib.Omega.{arith}
 use borrow.Author.Needs.{needs}
 use Rattle.clusters.proofs.put_top.Statement.{statement}
@@ -15,10 +15,31 @@ same-length : tie.Need-same-length
 same-length c = search needs
 
 returns : tie.Need-returns
-returns c = rw (eq-eqb _ _ (c .before .before .before .before .before .if1 .taken)) (c .before .before .put-count .ensures .put)
+returns c = rw (eq-eqb _ 0 (c .before .before .before .before .before .before .if1 .taken), (c .before .before .before .before .before .if2 .taken)) (put-more (omega arith) (c .before .before .put-count .ensures .put))
+
+slice-aggregate-put-count-2 : tie.Need-slice-aggregate-put-count-2
+slice-aggregate-put-count-2 c = search needs
+
+put-count-requires-2 : tie.Need-put-count-requires-2
+put-count-requires-2 c κs = search needs
+
+same-length-2 : tie.Need-same-length-2
+same-length-2 c = search needs
 
 returns-2 : tie.Need-returns-2
-returns-2 c = rw (ne-eqb _ _ (c .if1 .left)) (record { few = omega arith; bytes = refl; same = refl; next = omega arith })
+returns-2 c = rw (eq-eqb _ 0 (c .before .before .before .before .before .before .if1 .taken), (c .before .before .before .before .before .if2 .left)) (put-more (omega arith) (c .before .before .put-count2 .ensures .put))
+
+slice-aggregate-put-count-3 : tie.Need-slice-aggregate-put-count-3
+slice-aggregate-put-count-3 c = search needs
+
+put-count-requires-3 : tie.Need-put-count-requires-3
+put-count-requires-3 c κs = search needs
+
+same-length-3 : tie.Need-same-length-3
+same-length-3 c = search needs
+
+returns-3 : tie.Need-returns-3
+returns-3 c = rw (ne-eqb _ 0 (c .before .before .before .before .before .if1 .left)) (put-more (omega arith) (c .before .before .put-count3 .ensures .put))
 
 pub put-top-spec : {M : Type 1} → statement M
 put-top-spec =
@@ -28,4 +49,11 @@ put-top-spec =
     put-count-requires
     same-length
     returns
-    returns-2)
+    slice-aggregate-put-count-2
+    put-count-requires-2
+    same-length-2
+    returns-2
+    slice-aggregate-put-count-3
+    put-count-requires-3
+    same-length-3
+    returns-3)

@@ -19,6 +19,9 @@ put-byte-requires c κs = search needs
 put-says-requires : tie.Need-put-says-requires
 put-says-requires c κs = search needs
 
+put-box-mark-requires : tie.Need-put-box-mark-requires
+put-box-mark-requires c κs = search needs
+
 put-box-end-requires : tie.Need-put-box-end-requires
 put-box-end-requires c κs = search needs
 
@@ -26,7 +29,7 @@ same-length : tie.Need-same-length
 same-length c = search needs
 
 returns : tie.Need-returns
-returns c = put-more (omega arith) (put-after (c .before .before .before .before .before .before .before .before .before .before .before .before .before .before .before .before .before .before .before .put-name .ensures) (field-then (c .before .before .before .before .before .before .before .before .before .before .before .before .before .before .put-count .ensures) (put-after (c .before .before .before .before .before .before .before .before .before .before .put-byte .ensures) (put-after (c .before .before .before .before .before .before .put-says .ensures) (c .before .before .put-box-end .ensures)))))
+returns c = put-more (omega arith) (put-after (c .before .before .before .before .before .before .before .before .before .before .before .before .before .before .before .before .before .before .before .before .before .before .before .put-name .ensures) (field-then (c .before .before .before .before .before .before .before .before .before .before .before .before .before .before .before .before .before .before .put-count .ensures) (put-after (c .before .before .before .before .before .before .before .before .before .before .before .before .before .before .put-byte .ensures) (put-after (c .before .before .before .before .before .before .before .before .before .before .put-says .ensures) (put-after (c .before .before .before .before .before .before .put-box-mark .ensures) (c .before .before .put-box-end .ensures))))))
 
 pub put-box-spec : {M : Type 1} → statement M
 put-box-spec =
@@ -37,6 +40,7 @@ put-box-spec =
     put-count-requires
     put-byte-requires
     put-says-requires
+    put-box-mark-requires
     put-box-end-requires
     same-length
     returns)

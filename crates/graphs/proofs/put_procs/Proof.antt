@@ -7,7 +7,7 @@ use Rattle.graphs.proofs.put_procs.Statement.{statement}
 use Rattle.graphs.proofs.put_procs.Tie as tie
 
 abbrev Inv-loop : tie.InvT-loop
-Inv-loop out₀ at closed tasks count n keep procs a₀ i₀ out a i = (PutRows 114553 (maskProcs closed tasks count keep procs) out₀ at out a i) × (i ≤ n)
+Inv-loop out₀ at closed tasks count n keep procs a₀ i₀ out a i = (PutRows 115177 (maskProcs closed tasks count keep procs) out₀ at out a i) × (i ≤ n)
 
 abbrev μ-loop : tie.MeasureT-loop
 μ-loop out₀ at closed tasks count n keep procs a₀ i₀ out a i = n - i

@@ -1,9 +1,10 @@
--- Laws of the numbers in a mask, taken one by one, and of the edges to them.
-use Prim.Native.Nat.{ℕ, zero, suc, _+_, _%_, _≤_, _<_}
+-- Laws of the numbers in a mask, taken one by one, and of rows of text, one for each of them.
+use Prim.Native.Nat.{ℕ, zero, suc, _+_, _*_, _%_, _≤_, _<_}
 use mathlib.Core.Path.{_≡_, refl, sym, _∙_, ap}
 use mathlib.Core.Bool.{Bool}
 use mathlib.Core.List.{List, [], _∷_, append-nil}
 use native.Mathlib.Omega.{arith}
+use native.Mathlib.Nat.{mul-le-mul-left}
 use native.Mathlib.Numerals.{add-one}
 use lib.ListN.{length, getD, drop, length-drop}
 use lib.Seq.{drop-cons}
@@ -59,7 +60,7 @@ counting-end {m} {n} {k} a h = go (a .left) (a .places) (a .sum)
     go zero p s = omega arith
     go (suc left) p s = absurd (omega arith)
 
--- ---- the edges to them
+-- ---- their rows
 
 -- what a list has at i, and behind
 at-head : (ks : List ℕ) (i x : ℕ) (xs : List ℕ) → x ∷ xs ≡ drop i ks → (i < length ks) × ((x ≡ getD ks i 0) × (xs ≡ drop (suc i) ks))
@@ -68,39 +69,39 @@ at-head ks i x xs e =
     let d = drop-cons ks i 0 h in
     (h, ((cc), (cc)))
 
--- of the numbers in m those below k, i of them, have their edges; f gives the edge to one by its place and itself
-pub record Edging (f : ℕ → ℕ → List ℕ) (m : ℕ) (l : List ℕ) (at : ℕ) (o : List ℕ) (a i k : ℕ) : Type 0 where
+-- of the numbers in m those below k, i of them, have their rows of at most w bytes; f gives the row of one by its place and itself
+pub record Listed (w : ℕ) (f : ℕ → ℕ → List ℕ) (m : ℕ) (l : List ℕ) (at : ℕ) (o : List ℕ) (a i k : ℕ) : Type 0 where
   pub left : ℕ
   pub places : k + left ≡ 32
   pub few : i ≤ k
   pub within : i ≤ length (members m)
   pub rest : membersFrom left k m ≡ drop i (members m)
-  pub rows : PutRows 54 (λ j. f j (getD (members m) j 0)) l at o a i
+  pub rows : PutRows w (λ j. f j (getD (members m) j 0)) l at o a i
 
-pub edging-start : {f : ℕ → ℕ → List ℕ} {l : List ℕ} {at : ℕ} (m : ℕ) → Edging f m l at l at 0 0
-edging-start m = record { left = 32; places = refl; few = omega arith; within = omega arith; rest = refl; rows = rows-start }
+pub listed-start : {w : ℕ} {f : ℕ → ℕ → List ℕ} {l : List ℕ} {at : ℕ} (m : ℕ) → Listed w f m l at l at 0 0
+listed-start m = record { left = 32; places = refl; few = omega arith; within = omega arith; rest = refl; rows = rows-start }
 
-rows-same : {c i p q at : ℕ} {f : ℕ → List ℕ} {l m n : List ℕ} → PutRows c f l at m p i → Put 54 m p [] n q → PutRows c f l at n q i
+rows-same : {w c i p q at : ℕ} {f : ℕ → List ℕ} {l m n : List ℕ} → PutRows c f l at m p i → Put w m p [] n q → PutRows c f l at n q i
 rows-same {i = i} {f = f} a b =
     let d = put-after (a .put) b in
     let e = append-nil (concatFrom f i 0) in
     record { put = record { few = a .put .few; bytes = rw e at (d .bytes); same = d .same; next = rw e at (d .next) } }
 
-module _ {f : ℕ → ℕ → List ℕ} {m at a i k : ℕ} {l o : List ℕ} (b : Edging f m l at o a i k) where
-  pub edging-place : at ≤ 999000000 → k ≤ 32 → a ≤ 1000000000
-  edging-place h g = omega (arith, b .few, b .rows .put .few, b .rows .put .next)
+module _ {f : ℕ → ℕ → List ℕ} {w m at a i k : ℕ} {l o : List ℕ} (b : Listed w f m l at o a i k) where
+  pub listed-place : k ≤ 32 → a ≤ at + w * 32
+  listed-place g = let h : w * i ≤ w * 32 = mul-le-mul-left w (omega (arith, b .few)) in omega (arith, b .rows .put .few, b .rows .put .next)
 
-  pub edging-few : k < 32 → i ≤ 32
-  edging-few h = omega (arith, b .few)
+  pub listed-few : k < 32 → i ≤ 32
+  listed-few h = omega (arith, b .few)
 
-  pub edging-turn : {held : Bool} {o′ : List ℕ} {a′ r : ℕ} → k < 32 → held ≡ bit (k % 32) m → Put 54 o a (pick held (f i k) []) o′ a′ → r ≡ pick held (i + 1) i → Edging f m l at o′ a′ r (k + 1)
+  pub listed-turn : {held : Bool} {o′ : List ℕ} {a′ r : ℕ} → k < 32 → held ≡ bit (k % 32) m → Put w o a (pick held (f i k) []) o′ a′ → r ≡ pick held (i + 1) i → Listed w f m l at o′ a′ r (k + 1)
   unfolding membersFrom
-  edging-turn {held} {o′} {a′} {r} h e w g = go (b .left) (b .places) (b .rest)
+  listed-turn {held} {o′} {a′} {r} h e x g = go (b .left) (b .places) (b .rest)
     where
       y : held ≡ bit k m
       y = e ∙ ap (λ (j : ℕ). bit j m) (mod-small k h)
 
-      go : (left : ℕ) → k + left ≡ 32 → membersFrom left k m ≡ drop i (members m) → Edging f m l at o′ a′ r (k + 1)
+      go : (left : ℕ) → k + left ≡ 32 → membersFrom left k m ≡ drop i (members m) → Listed w f m l at o′ a′ r (k + 1)
       go zero p s = absurd (omega arith)
       go (suc left) p s = cases held
           (λ z.
@@ -113,21 +114,21 @@ module _ {f : ℕ → ℕ → List ℕ} {m at a i k : ℕ} {l o : List ℕ} (b :
             few = omega (arith, b .few);
             within = omega (arith, t .0);
             rest = rw (add-one k, add-one i) (t .1 .1);
-            rows = rows-turn (b .rows) (rw (← t .1 .0) (rw z at w));
+            rows = rows-turn (b .rows) (rw (← t .1 .0) (rw z at x));
           }))
           (λ z.
           let u : r ≡ i = rw z at g in
           let v : membersFrom left (suc k) m ≡ drop i (members m) = rw (sym y ∙ z) at s in
-          rw u (record { left = left; places = omega arith; few = omega (arith, b .few); within = b .within; rest = rw (add-one k) v; rows = rows-same (b .rows) (rw z at w) }))
+          rw u (record { left = left; places = omega arith; few = omega (arith, b .few); within = b .within; rest = rw (add-one k) v; rows = rows-same (b .rows) (rw z at x) }))
 
-  pub edging-end : k ≤ 32 → 32 ≤ k → Put 1728 l at (concatFrom (λ j. f j (getD (members m) j 0)) (length (members m)) 0) o a
+  pub listed-end : k ≤ 32 → 32 ≤ k → Put (w * 32) l at (concatFrom (λ j. f j (getD (members m) j 0)) (length (members m)) 0) o a
   unfolding membersFrom
-  edging-end u h = go (b .left) (b .places) (b .rest)
+  listed-end u h = go (b .left) (b .places) (b .rest)
     where
-      go : (left : ℕ) → k + left ≡ 32 → membersFrom left k m ≡ drop i (members m) → Put 1728 l at (concatFrom (λ j. f j (getD (members m) j 0)) (length (members m)) 0) o a
+      go : (left : ℕ) → k + left ≡ 32 → membersFrom left k m ≡ drop i (members m) → Put (w * 32) l at (concatFrom (λ j. f j (getD (members m) j 0)) (length (members m)) 0) o a
       go zero p s =
           let n : length (members m) ≤ i = omega (arith, ap length s, length-drop i (members m)) in
-          put-more (omega (arith, b .few, b .within)) (rows-end (b .rows) (b .within) n)
+          put-more (mul-le-mul-left w (omega (arith, b .few, b .within))) (rows-end (b .rows) (b .within) n)
       go (suc left) p s = absurd (omega arith)
 
 -- an arc with targets, k of them
