@@ -1,56 +1,71 @@
+-- The text that was read and what is printed fit their places.
 use mathlib.Core.Path.{sym}
 use lib.Seq.{length-take-le}
-use native.Mathlib.Omega.{arith}
+use Rattle.console.specs.InputLaws.{read-fits}
 use borrow.Author.Needs.{needs}
 use Rattle.close.proofs.main.Statement.{statement}
 use Rattle.close.proofs.main.Tie as tie
 
--- src/main.rt:4:30
-slice-aggregate-read-full : tie.Need-slice-aggregate-read-full
-slice-aggregate-read-full c = search needs
+slice-aggregate-no-words : tie.Need-slice-aggregate-no-words
+slice-aggregate-no-words c = search needs
 
--- src/main.rt:4:9
-read-full-requires : tie.Need-read-full-requires
-read-full-requires c κs = search needs
+no-words-requires : tie.Need-no-words-requires
+no-words-requires c κs = search needs
 
--- src/main.rt:6:36
+returns : tie.Need-returns
+returns c = search needs
+
+slice-aggregate-read-input : tie.Need-slice-aggregate-read-input
+slice-aggregate-read-input c = search needs
+
+read-input-requires : tie.Need-read-input-requires
+read-input-requires c κs = search needs
+
+enum-known-n : tie.Need-enum-known-n
+enum-known-n c = search needs
+
+enum-told : tie.Need-enum-told
+enum-told c = search needs
+
+returns-2 : tie.Need-returns-2
+returns-2 c = search needs
+
 array-share-prefix-text : tie.Need-array-share-prefix-text
-array-share-prefix-text c = search needs
+array-share-prefix-text c = read-fits _ ((c .before .before .before .before .read-input) .ensures) ((c .before .n) .given .1)
 
--- src/main.rt:6:36
 slice-aggregate-close-text : tie.Need-slice-aggregate-close-text
-slice-aggregate-close-text c = search needs
+slice-aggregate-close-text c = sym (length-take-le _ _ (array-share-prefix-text (c .before)))
 
--- src/main.rt:6:48
 slice-aggregate-close-text-2 : tie.Need-slice-aggregate-close-text-2
 slice-aggregate-close-text-2 c = search needs
 
--- src/main.rt:6:9
 close-text-requires : tie.Need-close-text-requires
 close-text-requires c κs = search needs
 
--- src/main.rt:7:22
 array-share-prefix-out : tie.Need-array-share-prefix-out
 array-share-prefix-out c = search needs
 
--- src/main.rt:7:22
 slice-aggregate-print : tie.Need-slice-aggregate-print
-slice-aggregate-print c = let e = c .before .before .close-text .ensures in sym (length-take-le _ _ (omega (arith, e .few, e .next, e .same)))
+slice-aggregate-print c = sym (length-take-le _ _ (array-share-prefix-out (c .before)))
 
--- src/main.rt:7:5
 print-requires : tie.Need-print-requires
 print-requires c κs = search needs
 
--- src/main.rt:2:1
-returns : tie.Need-returns
-returns c = search needs
+returns-3 : tie.Need-returns-3
+returns-3 c = search needs
 
 pub main-spec : {M : Type 1} → statement M
 main-spec =
     tie.close
     (tie.spec
-    slice-aggregate-read-full
-    read-full-requires
+    slice-aggregate-no-words
+    no-words-requires
+    returns
+    slice-aggregate-read-input
+    read-input-requires
+    enum-known-n
+    enum-told
+    returns-2
     array-share-prefix-text
     slice-aggregate-close-text
     slice-aggregate-close-text-2
@@ -58,4 +73,4 @@ main-spec =
     array-share-prefix-out
     slice-aggregate-print
     print-requires
-    returns)
+    returns-3)
