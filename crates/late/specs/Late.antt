@@ -4,8 +4,8 @@ use lib.Dec.{eqb}
 use Rattle.table.specs.Mask.{pick}
 use Rattle.table.specs.Table.{procAt}
 use Rattle.table.specs.declared.Table.{Table}
+use Rattle.text.specs.declared.Fault.{Fault}
 use Rattle.text.specs.declared.Fault.the-variants.{Arguments, Unclosed}
-use Rattle.text.specs.Fault.{number}
 use Rattle.text.specs.Reader.{Result, good, bad}
 use Rattle.late.specs.declared.Late.{Late}
 use Rattle.late.specs.declared.Late.the-variants.{Good, Bad}
@@ -21,5 +21,10 @@ abbrev pub lateIn : Table → Late → Result
 lateIn t Good = good t
 lateIn t (Bad f l) = bad f l
 
+-- the late fault of a number, which is 6 or 7
+abbrev pub lateFault : ℕ → Fault
+lateFault n = pick (eqb n 6) Arguments Unclosed
+
+-- what is found, from the first fault's number and line
 abbrev pub lateOf : At → Late
-lateOf a = pick (eqb (a .number) 0) Good (pick (eqb (a .number) 6) (Bad Arguments (a .line)) (Bad Unclosed (a .line)))
+lateOf a = pick (eqb (a .number) 0) Good (Bad (lateFault (a .number)) (a .line))

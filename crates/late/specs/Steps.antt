@@ -10,14 +10,14 @@ use borrow.Author.Tests.{eqb-true, eqb-false, eq-eqb, ne-eqb}
 use Rattle.table.specs.Cases.{cases}
 use Rattle.table.specs.Table.{procAt}
 use Rattle.table.specs.declared.Table.{Table}
-use Rattle.text.specs.declared.Fault.the-variants.{Arguments, Unclosed}
+use Rattle.text.specs.declared.Fault.{Fault}
 use Rattle.late_nodes.specs.declared.Callee.{Callee}
 use Rattle.late_lines.specs.declared.At.{At}
 use Rattle.late.specs.declared.Late.the-variants.{Good, Bad}
 use Rattle.late_nodes.specs.declared.Terms.{Terms}
 use Rattle.late_nodes.specs.Terms.{noCallee, calleeOf, termsOf}
 use Rattle.late_nodes.specs.NodeLaws.{callee-of}
-use Rattle.late.specs.Late.{lateOf}
+use Rattle.late.specs.Late.{lateOf, lateFault}
 
 -- ---- what nodes are judged by, filled up to place n
 
@@ -46,13 +46,10 @@ filled-all t n xs e l f = ext-getD noCallee xs (map calleeOf (t .proc)) (f .long
 pub filled-terms : (t : Table) (n : ℕ) (xs : List Callee) → length (t .proc) ≡ 8 → 8 ≤ n → Filled t n xs → _≡_ {A = Terms} (record { closed = t .closed; callee = xs; queue = t .queue }) (termsOf t)
 filled-terms t n xs e l f = λ ι. record { closed = t .closed; callee = filled-all t n xs e l f ι; queue = t .queue }
 
--- ---- the answer
+-- ---- what is found
 
-pub answer-good : (a : At) → a .number ≡ 0 → Good ≡ lateOf a
-answer-good a e = rw (eq-eqb (a .number) 0 e)
+pub found-good : (a : At) → a .number ≡ 0 → Good ≡ lateOf a
+found-good a e = rw (eq-eqb (a .number) 0 e)
 
-pub answer-arguments : (a : At) → (a .number ≡ 0 → ⊥) → a .number ≡ 6 → Bad Arguments (a .line) ≡ lateOf a
-answer-arguments a z e = rw (ne-eqb (a .number) 0 z, eq-eqb (a .number) 6 e)
-
-pub answer-unclosed : (a : At) → (a .number ≡ 0 → ⊥) → (a .number ≡ 6 → ⊥) → Bad Unclosed (a .line) ≡ lateOf a
-answer-unclosed a z e = rw (ne-eqb (a .number) 0 z, ne-eqb (a .number) 6 e)
+pub found-bad : (a : At) {f : Fault} → (a .number ≡ 0 → ⊥) → f ≡ lateFault (a .number) → Bad f (a .line) ≡ lateOf a
+found-bad a z e = rw (ne-eqb (a .number) 0 z, e)

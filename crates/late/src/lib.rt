@@ -1,11 +1,10 @@
 // The faults after all lines: an argument count that differs from the callee's, and what only a closed table can have wrong.
-use late_lines::At;
 use late_nodes::Callee;
 use late_nodes::Terms;
 use table::Table;
 ghost use mathlib.Core.Path.{_≡_};
 ghost use Rattle.text.specs.Reader.{firstLate, late as lateList};
-ghost use Rattle.late.specs.Late.{Counted, lateIn, lateOf};
+ghost use Rattle.late.specs.Late.{Counted, lateIn, lateFault};
 ghost use Rattle.late_nodes.specs.Terms.{termsOf};
 
 // What is found after all lines.
@@ -37,16 +36,14 @@ fn terms_of(t: Table) -> Terms
     }
 }
 
-fn answer(a: At) -> Late
-    ensures { λ r. ⌜ r ≡ lateOf a ⌝ }
+// The late fault of a number, which is 6 or 7.
+pub fn fault(number: u8) -> text::Fault
+    ensures { λ r. ⌜ r ≡ lateFault number ⌝ }
 {
-    if a.number == 0 {
-        return Late::Good;
+    if number == text::ARGUMENTS {
+        return text::Fault::Arguments;
     }
-    if a.number == text::ARGUMENTS {
-        return Late::Bad(text::Fault::Arguments, a.line);
-    }
-    Late::Bad(text::Fault::Unclosed, a.line)
+    text::Fault::Unclosed
 }
 
 // The first fault 6 or 7 of a table, with its line.
@@ -58,7 +55,7 @@ pub fn find(t: Table) -> Late
     let task = t.task;
     let a = late_lines::tasks(task, t.tasks, c);
     if a.number != 0 {
-        return answer(a);
+        return Late::Bad(fault(a.number), a.line);
     }
     let k = t.procs as usize;
     let mut l = a.line + t.sems as usize + t.queues as usize;
@@ -67,7 +64,7 @@ pub fn find(t: Table) -> Late
         let q = t.proc[p];
         let b = late_lines::proc_at(q, c, l);
         if b.number != 0 {
-            return answer(b);
+            return Late::Bad(fault(b.number), b.line);
         }
         l = b.line;
         p += 1;

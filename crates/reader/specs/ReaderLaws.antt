@@ -1,13 +1,13 @@
 -- The lines of a text, one group behind the other.
-use Prim.Native.Nat.{ℕ, _+_, _≤_, _<_}
+use Prim.Native.Nat.{ℕ, zero, suc, _+_, _*_, _≤_, _<_}
 use mathlib.Core.Path.{_≡_, refl, sym, _∙_, ap, subst}
-use mathlib.Core.List.{List, []}
+use mathlib.Core.List.{List, [], _∷_, map}
 use mathlib.Core.Bool.{Bool, false}
 use native.Mathlib.Omega.{arith}
 use borrow.Author.Tests.{lt-ltb, le-ltb}
 use lib.ListN.{length, drop, getD, set, replicate, drop-of-length-le}
 use lib.Seq.{drop-cons}
-use Rattle.table.specs.Table.{noTable, noTask, noSem, noQueue, noProc, outside}
+use Rattle.table.specs.Table.{noTable, noTask, noSem, noQueue, noProc, outside, procAt}
 use Rattle.table.specs.declared.Proc.{Proc}
 use Rattle.table.specs.declared.Table.{Table}
 use Rattle.text.specs.declared.Fault.{Fault}
@@ -19,7 +19,7 @@ use Rattle.text.specs.LineLaws.{onto-read, line-read}
 use Rattle.text.specs.RowLaws.{Rows, Row, faultless, rows-fill}
 use Rattle.text.specs.NodeLaws.{number-fact}
 use Rattle.text.specs.Format.{headLine, countsLine, procLine}
-use Rattle.text.specs.Reader.{rows, taskRow, semRow, queueRow, nodesOf, scopeOf, procOf, procRow, atEnd, body, table, late, firstLate, bad, readLines, reading, read}
+use Rattle.text.specs.Reader.{rows, taskRow, semRow, queueRow, nodesOf, scopeOf, procOf, procRow, atEnd, body, table, procLate, late, firstLate, bad, readLines, reading, read}
 use Rattle.fields.specs.Answer.{LineAt}
 use Rattle.fields.specs.FieldLaws.{onto-onto, onto-got, onto-stop}
 use Rattle.records.specs.declared.Counts.{Counts}
@@ -39,7 +39,15 @@ use Rattle.procs.specs.Answer.{ProcRowAt}
 use Rattle.procs.specs.ProcLaws.{set-blank, Procing, procs-start, procs-turn, procs-stop, procs-end}
 use Rattle.late.specs.declared.Late.{Late}
 use Rattle.late.specs.declared.Late.the-variants.{Good, Bad}
-use Rattle.late.specs.Late.{lateIn, Counted as Few}
+use Rattle.late_nodes.specs.declared.Callee.{Callee}
+use Rattle.late_nodes.specs.declared.Terms.{Terms}
+use Rattle.late_nodes.specs.Terms.{noCallee, calleeOf, termsOf}
+use Rattle.late_lines.specs.declared.At.{At as LateAt}
+use Rattle.late_lines.specs.Places.{tasksLateBy, procLateBy, firstAt}
+use Rattle.late_lines.specs.Walks.{Walked, walked-none, walked-more, walked-found, walked-all}
+use Rattle.late.specs.Late.{lateIn, lateFault, Counted as Few}
+use Rattle.late.specs.Steps.{found-bad}
+use Rattle.late.specs.Walks.{tasksLate, procsLate, tasks-of, proc-of, tasks-late, procs-late, late-found}
 use Rattle.reader.specs.declared.Objects.{Objects}
 use Rattle.reader.specs.declared.Front.{Front}
 use Rattle.reader.specs.Answer.{headFault, countsFault, faultOf, Lists, lists, noObjects, listsOf, queueRows, semRows, objectRows, ObjectsAt, answered, bodyIn, tableOf, others, frontLists, tableWith, noFront, FrontAt}
@@ -208,10 +216,30 @@ front-lines s h m = rw (le-ltb 65536 (length s) h, read, readLines) m
 pub refused-is : (f : Fault) {l n : ℕ} {t : Table} → n ≡ number f → t ≡ noTable → _≡_ {A = Reading} (record { number = n; line = l; table = t }) (reading (bad f l))
 refused-is f {l} p q = λ ι. record { number = p ι; line = l; table = q ι }
 
--- the table as far as it is filled, with the place, the line and the procedure reached
-pub record Filled (s : List ℕ) (o : Front) (start : ℕ) (t : Table) (p l i : ℕ) : Type 0 where
+map-set : {A B : Type 0} (f : A → B) (l : List A) (i : ℕ) (x : A) → set (map f l) i (f x) ≡ map f (set l i x)
+map-set f [] i x = refl
+map-set f (y ∷ l) zero x = refl
+map-set f (y ∷ l) (suc i) x = ap (λ (k : List _). f y ∷ k) (map-set f l i x)
+
+-- the table as far as it is filled and what calls are judged by, with the place, the line and the procedure reached
+pub record Filled (s : List ℕ) (o : Front) (start : ℕ) (t : Table) (c : List Callee) (p l i : ℕ) : Type 0 where
   pub table : t ≡ tableWith o (t .proc)
+  pub callees : c ≡ map calleeOf (t .proc)
   pub procs : Procing (o .closed) (o .counts) s start (o .line) (t .proc) p l i
+
+-- the terms of a table by what stands before its procedures
+abbrev termsWith : Front → List Callee → Terms
+termsWith o c = record { closed = o .closed; callee = c; queue = o .queue }
+
+-- all lines are read, and the tasks have no late fault: nor have the first i of n procedures, whose lines go from k to l
+pub record Judging (a : Reading) (t : Table) (n : ℕ) (c : Terms) (k l i : ℕ) : Type 0 where
+  pub terms : c ≡ termsOf t
+  pub few : Few t
+  pub count : n ≡ t .procs
+  pub first : {b : LateAt} → b ≡ firstAt k (procsLate t) → b ≡ firstAt 1 (late t)
+  pub found : (z : Late) → lateIn t z ≡ firstLate t 1 (late t) → reading (lateIn t z) ≡ a
+  pub walked : Walked (procLate t) (t .procs) k l i
+  pub lines : l ≤ 23 + 33 * i
 
 module _ {s : List ℕ} {a : Reading} {o : Front} (m : FrontAt s a o) where
   pub read-front : {f : Fault} → o .end ≡ Refused f → {y : Fault} → y ≡ faultOf (o .end) → {n : ℕ} → n ≡ number y → {z : Proc} → z ≡ noProc
@@ -221,18 +249,18 @@ module _ {s : List ℕ} {a : Reading} {o : Front} (m : FrontAt s a o) where
       let b : tableWith o (replicate 8 noProc) ≡ noTable = rw q at (m .blank) in
       refused-is f (e ∙ rw (d, q)) (rw z b) ∙ g
 
-  pub filled-start : {p : ℕ} → o .end ≡ At p → {z : Proc} → z ≡ noProc → Filled s o p (tableWith o (replicate 8 z)) p (o .line) 0
-  filled-start q z = record { table = refl; procs = procs-start z (rw q at (m .within)) }
+  pub filled-start : {p : ℕ} → o .end ≡ At p → {z : Proc} → z ≡ noProc → Filled s o p (tableWith o (replicate 8 z)) (replicate 8 noCallee) p (o .line) 0
+  filled-start q z = record { table = refl; callees = rw z; procs = procs-start z (rw q at (m .within)) }
 
   module _ {p : ℕ} (q : o .end ≡ At p) where
     rest-is : answered (others (o .trap) (o .closed) (o .counts) (frontLists o) (o .line) (drop p s)) ≡ a
     rest-is = rw q at (m .same)
 
-    module _ {t : Table} {k l i : ℕ} (w : Filled s o p t k l i) where
+    module _ {t : Table} {c : List Callee} {k l i : ℕ} (w : Filled s o p t c k l i) where
       pub read-row : i < o .counts .procs → {r : ProcRow} → ProcRowAt (o .closed) (o .counts) i s k l r → {f : Fault} → r .end ≡ Refused f → {y : Fault} → y ≡ faultOf (r .end)
           → {b : Reading} → b ≡ reading (bad y (r .line)) → b ≡ a
-      read-row h c {f} u d e =
-          stopped-is (others (o .trap) (o .closed) (o .counts) (frontLists o) (o .line) (drop p s)) {f = f} (rw (rows-refused (procs-stop (w .procs) h c u) u)) (d ∙ rw u) e ∙ rest-is
+      read-row h x {f} u d e =
+          stopped-is (others (o .trap) (o .closed) (o .counts) (frontLists o) (o .line) (drop p s)) {f = f} (rw (rows-refused (procs-stop (w .procs) h x u) u)) (d ∙ rw u) e ∙ rest-is
 
       module _ (h : o .counts .procs ≤ i) where
         rows-all : rows (procRow (o .closed) (o .counts .procs) (o .counts .sems) (o .counts .queues)) (o .counts .procs) 0 (replicate 8 noProc) (o .line) (drop p s) ≡ took (t .proc) l (drop k s)
@@ -243,26 +271,64 @@ module _ {s : List ℕ} {a : Reading} {o : Front} (m : FrontAt s a o) where
             stopped-is (others (o .trap) (o .closed) (o .counts) (frontLists o) (o .line) (drop p s)) (rw (rows-all, drop-cons s k 0 v)) refl e ∙ rest-is
 
         -- the counts of a table that was read are in range
-        pub read-few : Few t
-        read-few =
-            let c = m .fit in
-            let f = rows-fill small (procRow (o .closed) (o .counts .procs) (o .counts .sems) (o .counts .queues)) (small-row (o .closed) (o .counts .procs) (o .counts .sems) (o .counts .queues)) (o .counts .procs) 0 (o .counts .procs) (replicate 8 noProc) (o .line) (drop p s) (t .proc) l (drop k s) (omega arith) (omega (arith, c .procs)) rows-all in
-            subst (λ (x : Table). Few x) (sym (w .table)) (record { tasks = omega (arith, c .tasks); procs = omega (arith, c .procs); nodes = λ i k. f .fine i (omega arith) k })
+        few : Few t
+        few =
+            let x = m .fit in
+            let f = rows-fill small (procRow (o .closed) (o .counts .procs) (o .counts .sems) (o .counts .queues)) (small-row (o .closed) (o .counts .procs) (o .counts .sems) (o .counts .queues)) (o .counts .procs) 0 (o .counts .procs) (replicate 8 noProc) (o .line) (drop p s) (t .proc) l (drop k s) (omega arith) (omega (arith, x .procs)) rows-all in
+            subst (λ (x : Table). Few x) (sym (w .table)) (record { tasks = omega (arith, x .tasks); procs = omega (arith, x .procs); nodes = λ i k. f .fine i (omega arith) k })
 
-        module _ (v : length s ≤ k) (z : Late) (g : lateIn t z ≡ firstLate t 1 (late t)) where
-          found : reading (lateIn t z) ≡ a
-          found =
-              ap reading g
-              ∙ ap (λ (x : Table). reading (firstLate x 1 (late x))) (w .table)
-              ∙ rw (rows-all, drop-of-length-le s v) at rest-is
+        -- the text ends there, and the tasks are judged first
+        module _ (v : length s ≤ k) {x : LateAt} (g : x ≡ firstAt 3 (tasksLateBy (termsWith o c) (o .task) (o .counts .tasks))) where
+          found : (z : Late) → lateIn t z ≡ firstLate t 1 (late t) → reading (lateIn t z) ≡ a
+          found z u = ap reading u ∙ ap (λ (y : Table). reading (firstLate y 1 (late y))) (w .table) ∙ rw (rows-all, drop-of-length-le s v) at rest-is
 
-          pub read-good : z ≡ Good → _≡_ {A = Reading} (record { number = 0; line = 0; table = t }) a
-          read-good u = rw u at found
+          terms : termsWith o c ≡ termsOf t
+          terms = ap (termsWith o) (w .callees) ∙ sym (ap termsOf (w .table))
 
-          pub read-late : {f : Fault} {j : ℕ} → z ≡ Bad f j → {b : Reading} → b ≡ reading (bad f j) → b ≡ a
-          read-late u e = e ∙ (rw u at found)
+          tasks : x ≡ firstAt 3 (tasksLate t)
+          tasks = tasks-of t terms (g ∙ ap (λ (y : Table). firstAt 3 (tasksLateBy (termsWith o c) (y .task) (y .tasks))) (sym (w .table)))
 
-pub filled-turn : {s : List ℕ} {o : Front} {start : ℕ} {t : Table} {p l i : ℕ} → Filled s o start t p l i → i < o .counts .procs
+          pub read-task : (x .number ≡ 0 → ⊥) → {f : Fault} → f ≡ lateFault (x .number) → {b : Reading} → b ≡ reading (bad f (x .line)) → b ≡ a
+          read-task z d e = e ∙ found (Bad _ (x .line)) (late-found t (tasks-late t tasks z) (found-bad x z d))
+
+          pub judging-start : x .line ≤ 7 → x .number ≡ 0 → Judging a t (o .counts .procs) (termsWith o c) (x .line + o .counts .sems + o .counts .queues) (x .line + o .counts .sems + o .counts .queues) 0
+          judging-start n z = record {
+            terms = terms;
+            few = few;
+            count = sym (ap (λ (y : Table). y .procs) (w .table));
+            first = λ e. procs-late t tasks z (e ∙ ap (λ (y : Table). firstAt (x .line + y .sems + y .queues) (procsLate t)) (sym (w .table)));
+            found = found;
+            walked = walked-none (procLate t) (t .procs) _;
+            lines = let f = m .fit in omega (arith, f .sems, f .queues);
+          }
+
+-- ---- the procedures are judged
+module _ {a : Reading} {t : Table} {n : ℕ} {c : Terms} {k l i : ℕ} (j : Judging a t n c k l i) where
+  pub judging-fits : i < n → (procAt t i .nodes ≤ 32) × (l ≤ 3000)
+  judging-fits h = (j .few .nodes i (omega (arith, j .count)), omega (arith, j .lines, j .few .procs, j .count))
+
+  module _ (h : i < n) {b : LateAt} (e : b ≡ firstAt l (procLateBy c (procAt t i))) where
+    judged : b ≡ firstAt l (procLate t i)
+    judged = proc-of t i l (j .terms) e
+
+    pub judging-stop : (b .number ≡ 0 → ⊥) → {f : Fault} → f ≡ lateFault (b .number) → {r : Reading} → r ≡ reading (bad f (b .line)) → r ≡ a
+    judging-stop z d u = u ∙ j .found (Bad _ (b .line)) (late-found t (j .first (walked-found _ _ _ _ _ (j .walked) (omega (arith, j .count)) judged z)) (found-bad b z d))
+
+    pub judging-next : b .line ≤ l + 33 → b .number ≡ 0 → Judging a t n c k (b .line) (i + 1)
+    judging-next u z = record {
+      terms = j .terms;
+      few = j .few;
+      count = j .count;
+      first = j .first;
+      found = j .found;
+      walked = walked-more _ _ _ _ _ (j .walked) (omega (arith, j .count)) judged z;
+      lines = omega (arith, j .lines);
+    }
+
+  pub judging-end : n ≤ i → _≡_ {A = Reading} (record { number = 0; line = 0; table = t }) a
+  judging-end h = j .found Good (late-found t (j .first (walked-all _ _ _ _ _ (j .walked) (omega (arith, j .count)))) refl)
+
+pub filled-turn : {s : List ℕ} {o : Front} {start : ℕ} {t : Table} {c : List Callee} {p l i : ℕ} → Filled s o start t c p l i → i < o .counts .procs
     → {r : ProcRow} → ProcRowAt (o .closed) (o .counts) i s p l r → {e : ℕ} → r .end ≡ At e
     → Filled s o start (record {
       trap = t .trap;
@@ -275,8 +341,8 @@ pub filled-turn : {s : List ℕ} {o : Front} {start : ℕ} {t : Table} {p l i : 
       sem = t .sem;
       queue = t .queue;
       proc = set (t .proc) i (r .proc);
-    }) e (r .line) (i + 1)
-filled-turn {t = t} {i = i} w h {r} c q = record {
+    }) (set c i (calleeOf (r .proc))) e (r .line) (i + 1)
+filled-turn {t = t} {i = i} w h {r} x q = record {
   table = ap (λ (x : Table). let y : Table = record {
     trap = x .trap;
     closed = x .closed;
@@ -289,5 +355,6 @@ filled-turn {t = t} {i = i} w h {r} c q = record {
     queue = x .queue;
     proc = set (t .proc) i (r .proc);
   } in y) (w .table);
-  procs = procs-turn (w .procs) h c q;
+  callees = ap (λ (y : List Callee). set y i (calleeOf (r .proc))) (w .callees) ∙ map-set calleeOf (t .proc) i (r .proc);
+  procs = procs-turn (w .procs) h x q;
 }

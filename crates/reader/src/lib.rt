@@ -1,5 +1,7 @@
 // A whole text, read in one pass.
 
+use late_nodes::Callee;
+use late_nodes::Terms;
 use table::Node;
 use table::Proc;
 use table::Queue;
@@ -222,8 +224,8 @@ fn refused(f: Fault, line: usize) -> Reading
     }
 }
 
-// Any bytes: the table, or the number and line of the first fault with a table all 0. The table is filled in its place, and a refusal has a local of its own, so
-// that the table is copied twice only: for `late::find`, and into the answer.
+// Any bytes: the table, or the number and line of the first fault with a table all 0. The table is filled in its place, late faults
+// are looked for procedure by procedure, and a refusal has a local of its own, so that the table is copied once only, into the answer.
 pub fn read(s: &[u8]) -> Reading
     ensures { λ r. ⌜ r ≡ read (now (s .entry)) ⌝ }
 {
@@ -253,6 +255,7 @@ pub fn read(s: &[u8]) -> Reading
             table,
         };
     };
+    let mut callee = [Callee { params: 0, drop: 0 }; 8];
     let n = counts.procs as usize;
     let mut p = start;
     let mut l = o.line;
@@ -266,6 +269,10 @@ pub fn read(s: &[u8]) -> Reading
         };
         let q = row.proc;
         table.proc[i] = q;
+        callee[i] = Callee {
+            params: q.params,
+            drop: q.drop,
+        };
         p = e;
         l = row.line;
         i += 1;
@@ -274,10 +281,27 @@ pub fn read(s: &[u8]) -> Reading
         let bad = refused(Fault::Ended, l);
         return bad;
     }
-    let found = late::find(table);
-    if let late::Late::Bad(f, line) = found {
-        let bad = refused(f, line);
+    let terms = Terms {
+        closed: o.closed,
+        callee,
+        queue,
+    };
+    let a = late_lines::tasks(task, counts.tasks, terms);
+    if a.number != 0 {
+        let bad = refused(late::fault(a.number), a.line);
         return bad;
+    }
+    l = a.line + counts.sems as usize + counts.queues as usize;
+    i = 0;
+    while i < n {
+        let q = table.proc[i];
+        let b = late_lines::proc_at(q, terms, l);
+        if b.number != 0 {
+            let bad = refused(late::fault(b.number), b.line);
+            return bad;
+        }
+        l = b.line;
+        i += 1;
     }
     Reading {
         number: 0,

@@ -2,6 +2,7 @@ use Prim.Native.Nat.{_+_, _*_, _-_, _≤_}
 use mathlib.Core.Path.{refl}
 use Rattle.text.specs.Reader.{procLate}
 use Rattle.late_lines.specs.Walks.{Walked, walked-none, walked-more, walked-found, walked-all}
+use Rattle.late.specs.Steps.{found-bad}
 use Rattle.late.specs.Walks.{tasks-of, proc-of, tasks-late, procs-late, late-found}
 use borrow.Author.Needs.{needs}
 use native.Mathlib.Omega.{arith}
@@ -20,11 +21,11 @@ terms-of-requires c κs = search needs
 tasks-requires : tie.Need-tasks-requires Inv-loop μ-loop
 tasks-requires c κs = search needs
 
-answer-requires : tie.Need-answer-requires Inv-loop μ-loop
-answer-requires c κs = search needs
+fault-requires : tie.Need-fault-requires Inv-loop μ-loop
+fault-requires c κs = search needs
 
 returns : tie.Need-returns Inv-loop μ-loop
-returns c = late-found _ (tasks-late _ (tasks-of (c .before .before .before .before .before .before .args .t1) (c .before .before .before .before .before .terms-of .ensures) (c .before .before .before .tasks .ensures .0)) (c .before .if1 .taken)) (c .answer .ensures)
+returns c = late-found _ (tasks-late _ (tasks-of (c .before .before .before .before .before .before .args .t1) (c .before .before .before .before .before .terms-of .ensures) (c .before .before .before .tasks .ensures .0)) (c .before .if1 .taken)) (found-bad _ (c .before .if1 .taken) (c .fault .ensures))
 
 cast-k : tie.Need-cast-k Inv-loop μ-loop
 cast-k c = search needs
@@ -53,11 +54,11 @@ element-copy-out-q c = search needs
 proc-at-requires : tie.Need-proc-at-requires Inv-loop μ-loop
 proc-at-requires c κs = (c .before .before .before .before .before .before .before .before .before .pre .nodes _ (c .before .loop-test .taken), omega arith)
 
-answer-requires-2 : tie.Need-answer-requires-2 Inv-loop μ-loop
-answer-requires-2 c κs = search needs
+fault-requires-2 : tie.Need-fault-requires-2 Inv-loop μ-loop
+fault-requires-2 c κs = search needs
 
 returns-2 : tie.Need-returns-2 Inv-loop μ-loop
-returns-2 c = late-found _ (procs-late _ (tasks-of (c .before .before .before .before .before .before .before .before .before .before .before .before .before .args .t1) (c .before .before .before .before .before .before .before .before .before .before .before .before .terms-of .ensures) (c .before .before .before .before .before .before .before .before .before .before .tasks .ensures .0)) (c .before .before .before .before .before .before .before .before .if1 .left) (walked-found _ _ _ _ _ (c .before .before .before .before .before .before .loop .inv .1 .1) (c .before .before .before .before .before .loop-test .taken) (proc-of (c .before .before .before .before .before .before .before .before .before .before .before .before .before .args .t1) (c .before .before .before .before .before .before .loop .p) _ (c .before .before .before .before .before .before .before .before .before .before .before .before .terms-of .ensures) (c .before .before .before .proc-at .ensures .0)) (c .before .if2 .taken))) (c .answer2 .ensures)
+returns-2 c = late-found _ (procs-late _ (tasks-of (c .before .before .before .before .before .before .before .before .before .before .before .before .before .args .t1) (c .before .before .before .before .before .before .before .before .before .before .before .before .terms-of .ensures) (c .before .before .before .before .before .before .before .before .before .before .tasks .ensures .0)) (c .before .before .before .before .before .before .before .before .if1 .left) (walked-found _ _ _ _ _ (c .before .before .before .before .before .before .loop .inv .1 .1) (c .before .before .before .before .before .loop-test .taken) (proc-of (c .before .before .before .before .before .before .before .before .before .before .before .before .before .args .t1) (c .before .before .before .before .before .before .loop .p) _ (c .before .before .before .before .before .before .before .before .before .before .before .before .terms-of .ensures) (c .before .before .before .proc-at .ensures .0)) (c .before .if2 .taken))) (found-bad _ (c .before .if2 .taken) (c .fault2 .ensures))
 
 add-p : tie.Need-add-p Inv-loop μ-loop
 add-p c = search needs
@@ -79,7 +80,7 @@ find-spec =
     μ-loop
     terms-of-requires
     tasks-requires
-    answer-requires
+    fault-requires
     returns
     cast-k
     cast-l
@@ -90,7 +91,7 @@ find-spec =
     mul-q
     element-copy-out-q
     proc-at-requires
-    answer-requires-2
+    fault-requires-2
     returns-2
     add-p
     loop-less
