@@ -138,14 +138,6 @@ pub fn once(by_proved: bool, word: &str) {
             }
         }
     }
-    if "refuse".starts_with(word) {
-        for (_, text) in REFUSED {
-            match by_proved {
-                true => _ = black_box(proved::read(text)),
-                false => _ = black_box(read_text(text)),
-            }
-        }
-    }
     if "short".starts_with(word) {
         for (_, text) in example() {
             let mut log = [0; 8];
