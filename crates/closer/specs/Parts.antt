@@ -1,7 +1,7 @@
 -- The parts of a closed table, as the code computes them from the masks of what is dirty and of where each node leads.
 use Prim.Native.Nat.{ℕ, _+_, _*_, _%_, _<_, _≤_}
 use mathlib.Core.Path.{_≡_}
-use mathlib.Core.Bool.{_&&_}
+use mathlib.Core.Bool.{not, _&&_}
 use mathlib.Core.List.{List}
 use lib.ListN.{length, getD}
 use lib.Dec.{ltb}
@@ -65,6 +65,19 @@ queueWith b i q = record { cap = q .cap; blank = bit (i % 32) b }
 -- the closed queues r of the open ones, from the blank queues b
 abbrev pub ClosedQueues : ℕ → List Queue → List Queue → Type 0
 ClosedQueues b queues r = (length r ≡ 8) × ((i : ℕ) → i < 8 → getD r i noQueue ≡ queueWith b i (getD queues i noQueue))
+
+-- a procedure of at most 32 nodes that has none at a place at or beyond their number
+pub record Counted (q : Proc) : Type 0 where
+  pub few : q .nodes ≤ 32
+  pub beyond : (n : ℕ) → q .nodes ≤ n → nodeIn q n ≡ Absent
+
+-- the first n nodes of q, kept or gone, and their targets; every further place has itself as its targets
+pub record Sorted (q : Proc) (base : ℕ) (l : List ℕ) (n kept gone : ℕ) (ends : List ℕ) : Type 0 where
+  pub kept-is : kept ≡ maskOf n (keptIn q base l)
+  pub gone-is : gone ≡ maskOf n (λ a. not (keptIn q base l a))
+  pub size : length ends ≡ 32
+  pub done : Filled (λ a. endOf (nodeIn q a) a) n ends
+  pub rest : (a : ℕ) → n ≤ a → a < 32 → getD ends a 0 ≡ twoEnds a a
 
 -- the procedure r on the way to being closed: the first k nodes of q are, the others stand as they were
 pub record Upto (q : Proc) (base kept : ℕ) (l arcs : List ℕ) (k : ℕ) (r : Proc) : Type 0 where

@@ -4,6 +4,7 @@ use native.Mathlib.Omega.{arith}
 use native.Mathlib.Nat.{mod-eq-of-lt}
 use mathlib.Core.Path.{_≡_, refl, sym, _∙_, ap}
 use mathlib.Core.Bool.{Bool, true, false}
+use mathlib.Core.Logic.{inr}
 use mathlib.Core.List.{List, List·Memᴰ·head}
 use lib.ListN.{length, getD}
 use lib.Dec.{ltb}
@@ -29,7 +30,7 @@ use Rattle.analysis.specs.Decides.{Decides}
 use Rattle.analysis.specs.Steps.{keptIn}
 use Rattle.analysis.specs.NodeLaws.{var-mod}
 use Rattle.analysis.specs.KeptLaws.{read-use, read-drop, read-blank, kept-bit}
-use Rattle.closer.specs.Parts.{nodeWith, dropIn, arcIn, slotWith, ClosedQueues, ClosedProc}
+use Rattle.closer.specs.Parts.{nodeWith, dropIn, arcIn, slotWith, ClosedQueues, Counted, ClosedProc}
 use Rattle.closer.specs.ListLaws.{mapped}
 use Rattle.closer.specs.ArcLaws.{arc-right}
 
@@ -60,9 +61,12 @@ module _ (t : Table) (d : List Fact) (p n i b vars : ℕ) (D arc arc′ : ℕ �
   node-is (Out v to) f = rw (use-is v (f .uses v (List·Memᴰ·head refl)), ha to (f .exit))
   node-is Return f = refl
 
-module _ (t : Table) (o : Ready t) (l : List ℕ) (d : Decides t l) where
-  -- ---- a procedure
+-- ---- a procedure
 
+pub counted : (t : Table) → Ready t → (p : ℕ) → Counted (procAt t p)
+counted t o p = record { few = o .nodes-few p; beyond = λ n h. o .beyond p n (inr h) }
+
+module _ (t : Table) (o : Ready t) (l : List ℕ) (d : Decides t l) where
   drop-is : (p : ℕ) → p < 8 → cell l (256 + p) ≡ maskOf (procAt t p .params) (λ i. isDirty (dirty t) (dropped p i))
   drop-is p hp = bit-ext 32 (cell l (256 + p)) (maskOf params marks) (d .masks .below (256 + p)) small bits
     where

@@ -13,7 +13,43 @@ ghost use Rattle.table.specs.Table.{removed, procAt, outside};
 ghost use Rattle.masks.specs.Cells.{cell};
 ghost use Rattle.closing.specs.Close.{closeTable};
 ghost use Rattle.analysis.specs.Ready.{Ready};
-ghost use Rattle.closer.specs.Parts.{twoEnds, endOf, argWith, argsWith, dropIn, arcIn, nodeWith, ClosedQueues, ClosedProc};
+ghost use Rattle.closer.specs.Parts.{twoEnds, endOf, argWith, argsWith, dropIn, arcIn, nodeWith, ClosedQueues, Counted, ClosedProc};
+
+// The two targets of each place if it has no node: it stays where it is.
+const SELF: [u32; 32] = [
+    0,
+    33,
+    66,
+    99,
+    132,
+    165,
+    198,
+    231,
+    264,
+    297,
+    330,
+    363,
+    396,
+    429,
+    462,
+    495,
+    528,
+    561,
+    594,
+    627,
+    660,
+    693,
+    726,
+    759,
+    792,
+    825,
+    858,
+    891,
+    924,
+    957,
+    990,
+    1023,
+];
 
 // Two targets as one number.
 fn two_ends(f: usize, s: usize) -> u32
@@ -194,28 +230,31 @@ fn closed_slot(x: Node, kept: bool, i: u32, cells: &[u32; 265], arcs: &[u32; 32]
     Node::Absent
 }
 
-// One procedure, closed. One loop finds which nodes are kept and where each leads, the other closes each node in its place.
+// One procedure, closed. One loop finds which nodes are kept, which are gone and where each leads, the other closes each node in its place.
 pub fn closed_proc(q: Proc, p: usize, cells: &[u32; 265]) -> Proc
-    requires { ⌜ p < 8 ⌝ }
+    requires { ⌜ (p < 8) × Counted q ⌝ }
     ensures { λ r. ⌜ ClosedProc q p (now (cells .entry)) r ⌝ }
 {
     let base = p * 32;
     let mut c = q;
     let mut kept: u32 = 0;
-    let mut ends = [0u32; 32];
+    let mut gone: u32 = 0;
+    let mut ends = SELF;
+    let nodes = q.nodes as usize;
     let mut n: usize = 0;
-    while n < 32 {
+    while n < nodes {
         let s = c.slots[n];
         let x = s.node;
         let i = cells[base + n];
         let yes = flow::kept_node(x, i);
         kept = masks::with(kept, n, yes);
+        gone = masks::with(gone, n, !yes);
         ends[n] = end_of(x, n);
         n += 1;
     }
-    let arcs = reach::reach(kept, &ends);
+    let arcs = reach::reach(kept, gone, &ends);
     let mut k: usize = 0;
-    while k < 32 {
+    while k < nodes {
         let s = c.slots[k];
         let x = s.node;
         let i = cells[base + k];
@@ -229,6 +268,7 @@ pub fn closed_proc(q: Proc, p: usize, cells: &[u32; 265]) -> Proc
 }
 
 fn closed_procs(t: Table, cells: &[u32; 265]) -> [Proc; 8]
+    requires { ⌜ Ready t ⌝ }
     ensures { λ r. ⌜ (length r ≡ 8) × ((p : ℕ) → p < 8 → ClosedProc (procAt t p) p (now (cells .entry)) (getD r p outside)) ⌝ }
 {
     let none = Proc {

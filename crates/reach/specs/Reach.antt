@@ -5,7 +5,7 @@ use mathlib.Core.Bool.{true, false}
 use mathlib.Core.Logic.{_⊎_, _↔_}
 use mathlib.Core.List.{List}
 use lib.ListN.{getD}
-use lib.Bits.{bitOr, bitAnd, bitXor}
+use lib.Bits.{bitOr, bitAnd}
 use lib.Count.{leadingZeros}
 use Rattle.table.specs.Mask.{bit}
 use Rattle.masks.specs.Cells.{cell, grown, Masks}
@@ -29,6 +29,11 @@ pub record Reaches (kept : ℕ) (ends r : List ℕ) : Type 0 where
   pub masks : Masks 32 32 r
   pub right : (n k : ℕ) → n < 32 → (bit k (cell r n) ≡ true) ↔ Leads kept ends n k
 
+-- no node of gone is kept, and a node outside both has only itself as its targets
+pub record Gone (kept gone : ℕ) (ends : List ℕ) : Type 0 where
+  pub unkept : (n : ℕ) → bit n gone ≡ true → bit n kept ≡ false
+  pub others : (n m : ℕ) → n < 32 → bit n kept ≡ false → bit n gone ≡ false → IsEnd ends n m → m ≡ n
+
 -- ---- as the code computes it
 
 -- 32 masks: that of a kept node has the node, the others are empty
@@ -49,10 +54,6 @@ pub record Sources (ends : List ℕ) (gone left : ℕ) (r : List ℕ) : Type 0 w
   pub masks : Masks 32 32 r
   pub only : (a m : ℕ) → bit a (cell r m) ≡ true → bit a gone ≡ true
   pub each : (a m : ℕ) → bit a gone ≡ true → bit a left ≡ false → IsEnd ends a m → bit a (cell r m) ≡ true
-
--- the nodes that are not kept
-abbrev pub droppedOf : ℕ → ℕ
-droppedOf kept = bitXor 4294967295 (bitAnd 4294967295 kept)
 
 -- the last node of a set that has one
 abbrev pub lastOf : ℕ → ℕ

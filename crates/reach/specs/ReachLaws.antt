@@ -1,23 +1,23 @@
 -- The cells say exactly where each node leads, once no node that is not kept has anything to get from its targets.
 use Prim.Native.Nat.{ℕ, _*_, _-_, _^_, _<_}
 use native.Mathlib.Omega.{arith}
-use native.Mathlib.Nat.{lt-of-le-of-lt, lt-trans, pow-suc, one-mul}
+use native.Mathlib.Nat.{lt-trans, pow-suc, one-mul}
 use mathlib.Core.Path.{_≡_, refl, sym, _∙_, ap, subst}
 use mathlib.Core.Bool.{Bool, true, false, not, _&&_, _||_, false≢true, true≢false}
 use mathlib.Core.Logic.{_⊎_, inl, inr, _≢_}
 use mathlib.Core.List.{List}
 use lib.ListN.{replicate, length-replicate, List·getD-eq-default}
 use lib.Seq.{getD-set-other}
-use lib.Bits.{bitOr, bitAnd, or-lt, xor-lt, and-le-l, or-shifted}
+use lib.Bits.{bitOr, or-lt, or-shifted}
 use lib.Count.{leading-top}
 use lib.Pow.{pow-lt}
 use lib.Dec.{ltb}
 use borrow.Author.Tests.{ltb-true, ltb-false}
 use Rattle.table.specs.Mask.{pick, bit}
-use Rattle.masks.specs.Bits.{bit-zero, bit-one, bit-one-out, bit-low, bit-or, bit-minus, bit-and-out, bit-and-in, bit-or-out, bit-or-l, bit-or-r, without, without-less, without-out}
+use Rattle.masks.specs.Bits.{bit-zero, bit-one, bit-one-out, bit-or, bit-minus, bit-and-out, bit-and-in, bit-or-out, bit-or-l, bit-or-r, without, without-less, without-out}
 use Rattle.masks.specs.Cells.{cell, sum, grown, Masks, masks-sum, Flag, grown-masks, Sound, grown-sound, grown-has, grown-adds, cell-zeros}
 use Rattle.masks.specs.Left.{left, less-left}
-use Rattle.reach.specs.Reach.{firstOf, secondOf, IsEnd, Leads, here, via, Reaches, Own, joined, noted, Sources, droppedOf, lastOf}
+use Rattle.reach.specs.Reach.{firstOf, secondOf, IsEnd, Leads, here, via, Reaches, Own, joined, noted, Sources, Gone, lastOf}
 
 -- ---- members of a mask
 
@@ -226,20 +226,6 @@ module _ (kept : ℕ) (ends : List ℕ) where
 
   -- ---- the search
 
-  dropped-small : droppedOf kept < 2 ^ 32
-  dropped-small = xor-lt 32 4294967295 (bitAnd 4294967295 kept) (omega arith) (lt-of-le-of-lt (and-le-l 4294967295 kept) (omega arith))
-
-  dropped-has : (n : ℕ) → n < 32 → bit n kept ≡ false → bit n (droppedOf kept) ≡ true
-  dropped-has n h e = rw (bit-minus, bit-low n 32 h, e) refl
-
-  dropped-out : (n : ℕ) → bit n (droppedOf kept) ≡ true → bit n kept ≡ false
-  dropped-out n h = go (bit n 4294967295) (bit n kept) refl (rw bit-minus at h)
-    where
-      go : (x y : Bool) → bit n kept ≡ y → x && not y ≡ true → bit n kept ≡ false
-      go true true e z = absurd (false≢true z)
-      go true false e z = e
-      go false y e z = absurd (false≢true z)
-
   -- todo has the nodes that may have something to get
   pub record Search (l : List ℕ) (todo : ℕ) : Type 0 where
     pub good : Good l
@@ -247,14 +233,15 @@ module _ (kept : ℕ) (ends : List ℕ) where
     pub only : (n : ℕ) → bit n todo ≡ true → bit n kept ≡ false
     pub done : (n : ℕ) → n < 32 → bit n kept ≡ false → bit n todo ≡ false → Rests l n
 
-  pub search-start : {l : List ℕ} {todo : ℕ} → Own kept l → todo ≡ droppedOf kept → Search l todo
-  search-start o e = rw e (record { good = own-good o; small = dropped-small; only = dropped-out; done = λ n h b z. absurd (true≢false (sym (dropped-has n h b) ∙ z)) })
-
   pub search-end : {l : List ℕ} {todo : ℕ} → Search l todo → todo ≡ 0 → Reaches kept ends l
   search-end {l} s e = decided l (s .good) (λ n h b. s .done n h b (rw e (bit-zero n)))
 
+module _ (kept gone : ℕ) (ends : List ℕ) where
+  search-start : {l : List ℕ} → Gone kept gone ends → Own kept l → gone < 2 ^ 32 → Search kept ends l gone
+  search-start {l} away o h = record { good = own-good kept ends o; small = h; only = away .unkept; done = λ n i b z m k x y. subst (λ (a : ℕ). bit k (cell l a) ≡ true) (away .others n m i b z x) y }
+
   -- from has the sources of each node, but for those of some nodes that are to be seen
-  module _ {l l′ from : List ℕ} {fresh : Bool} {i rest todo todo′ : ℕ} (s : Search l todo) (here-low : i < 32) (seen : bit i todo ≡ true) (sr : Sources ends (droppedOf kept) rest from) (part : (n : ℕ) → bit n rest ≡ true → bit n todo ≡ true)
+  module _ {l l′ from : List ℕ} {fresh : Bool} {i rest todo todo′ : ℕ} (away : Gone kept gone ends) (s : Search kept ends l todo) (here-low : i < 32) (seen : bit i todo ≡ true) (sr : Sources ends gone rest from) (part : (n : ℕ) → bit n rest ≡ true → bit n todo ≡ true)
       (e : l′ ≡ joined ends l i) (f : Flag l l′ fresh) (d : todo′ ≡ pick fresh (bitOr (without todo i) (cell from i)) (without todo i)) where
     less : without todo i < todo
     less = without-less todo i (s .small) here-low seen
@@ -262,19 +249,20 @@ module _ (kept : ℕ) (ends : List ℕ) where
     abbrev again : ℕ
     again = cell from i
 
-    next-good : Good l′
-    next-good = rw e (step-good l i (s .only i seen) (s .good))
+    next-good : Good kept ends l′
+    next-good = rw e (step-good kept ends l i (s .only i seen) (s .good))
 
-    own-rests : Rests l′ i
-    own-rests = rw e (joined-own l i here-low (s .good))
+    own-rests : Rests kept ends l′ i
+    own-rests = rw e (joined-own kept ends l i here-low (s .good))
 
     -- i is no target of a node that is not seen again
     apart : (n : ℕ) → n < 32 → bit n kept ≡ false → bit n todo ≡ false → bit n again ≡ false → IsEnd ends n i → ⊥
-    apart n h b t y x = go (bit n rest) refl
+    apart n h b t y x = go (bit n rest) (bit n gone) refl refl
       where
-        go : (v : Bool) → bit n rest ≡ v → ⊥
-        go true q = true≢false (sym (part n q) ∙ t)
-        go false q = true≢false (sym (sr .each n i (dropped-has n h b) q x) ∙ y)
+        go : (v u : Bool) → bit n rest ≡ v → bit n gone ≡ u → ⊥
+        go true u q g = true≢false (sym (part n q) ∙ t)
+        go false true q g = true≢false (sym (sr .each n i g q x) ∙ y)
+        go false false q g = true≢false (sym seen ∙ ap (λ (a : ℕ). bit a todo) (away .others n i h b g x) ∙ t)
 
     next-small : (b : Bool) → pick b (bitOr (without todo i) again) (without todo i) < 2 ^ 32
     next-small true = or-lt 32 _ _ (lt-trans less (s .small)) (sr .masks .below i)
@@ -285,7 +273,7 @@ module _ (kept : ℕ) (ends : List ℕ) where
       where
         go : (bit n (without todo i) ≡ true) ⊎ (bit n again ≡ true) → bit n kept ≡ false
         go (inl y) = s .only n (without-in todo i n y)
-        go (inr y) = dropped-out n (sr .only n i y)
+        go (inr y) = away .unkept n (sr .only n i y)
     next-only false n h = s .only n (without-in todo i n h)
 
     not-in : (n x y : ℕ) → bit n (bitOr x y) ≡ false → (bit n x ≡ false) × (bit n y ≡ false)
@@ -296,19 +284,19 @@ module _ (kept : ℕ) (ends : List ℕ) where
         go false true a b r = absurd (true≢false r)
         go false false a b r = (a, b)
 
-    next-done : (b : Bool) → fresh ≡ b → (n : ℕ) → n < 32 → bit n kept ≡ false → bit n (pick b (bitOr (without todo i) again) (without todo i)) ≡ false → Rests l′ n
+    next-done : (b : Bool) → fresh ≡ b → (n : ℕ) → n < 32 → bit n kept ≡ false → bit n (pick b (bitOr (without todo i) again) (without todo i)) ≡ false → Rests kept ends l′ n
     next-done true q n h u v = let w = not-in n (without todo i) again v in go (without-out todo i n (w .0))
       where
-        go : (bit n todo ≡ false) ⊎ (n ≡ i) → Rests l′ n
-        go (inl y) = rw e (joined-other l i here-low (s .good) n (apart n h u y (not-in n (without todo i) again v .1)) (s .done n h u y))
+        go : (bit n todo ≡ false) ⊎ (n ≡ i) → Rests kept ends l′ n
+        go (inl y) = rw e (joined-other kept ends l i here-low (s .good) n (apart n h u y (not-in n (without todo i) again v .1)) (s .done n h u y))
         go (inr y) = rw y own-rests
     next-done false q n h u v = go (without-out todo i n v)
       where
-        go : (bit n todo ≡ false) ⊎ (n ≡ i) → Rests l′ n
+        go : (bit n todo ≡ false) ⊎ (n ≡ i) → Rests kept ends l′ n
         go (inl y) = rw (f .same q) (s .done n h u y)
         go (inr y) = rw y own-rests
 
-    step-next : Search l′ todo′
+    step-next : Search kept ends l′ todo′
     step-next = rw d (record { good = next-good; small = next-small fresh; only = next-only fresh; done = next-done fresh refl })
 
     step-less : left 32 (2 ^ 32) l′ todo′ < left 32 (2 ^ 32) l todo
@@ -321,12 +309,13 @@ module _ (kept : ℕ) (ends : List ℕ) where
   -- ---- the first visits: the nodes of rest have not been seen
 
   pub record Visits (l from : List ℕ) (todo rest : ℕ) : Type 0 where
-    pub found : Search l todo
-    pub gathers : Gathers ends (droppedOf kept) rest from
+    pub away : Gone kept gone ends
+    pub found : Search kept ends l todo
+    pub gathers : Gathers ends gone rest from
     pub part : (n : ℕ) → bit n rest ≡ true → bit n todo ≡ true
 
-  pub visits-start : {l : List ℕ} {gone : ℕ} → Own kept l → gone ≡ droppedOf kept → Visits l (replicate 32 0) gone gone
-  visits-start o e = record { found = search-start o e; gathers = rw e (gather-start ends (droppedOf kept) dropped-small); part = λ n h. h }
+  pub visits-start : {l : List ℕ} → Gone kept gone ends → Own kept l → gone < 2 ^ 32 → Visits l (replicate 32 0) gone gone
+  visits-start w o h = record { away = w; found = search-start w o h; gathers = gather-start ends gone h; part = λ n b. b }
 
   module _ {l l′ from from′ : List ℕ} {fresh : Bool} {i todo todo′ rest rest′ : ℕ} (v : Visits l from todo rest) (z : rest ≢ 0) (at : i ≡ lastOf rest) (e : l′ ≡ joined ends l i) (f : Flag l l′ fresh)
       (d : todo′ ≡ pick fresh (bitOr (without todo i) (cell from i)) (without todo i)) (p : from′ ≡ noted ends from i) (d′ : rest′ ≡ without rest i) where
@@ -350,20 +339,21 @@ module _ (kept : ℕ) (ends : List ℕ) where
 
     pub visits-next : Visits l′ from′ todo′ rest′
     visits-next = record {
-      found = step-next (v .found) (omega arith) (v .part i new) (v .gathers .sources) (v .part) e f d;
-      gathers = gather-next ends (droppedOf kept) (v .gathers) z at p d′;
+      away = v .away;
+      found = step-next (v .away) (v .found) (omega arith) (v .part i new) (v .gathers .sources) (v .part) e f d;
+      gathers = gather-next ends gone (v .gathers) z at p d′;
       part = rw (d, d′) (next-part fresh);
     }
 
     pub visits-less : rest′ < rest
-    visits-less = gather-less ends (droppedOf kept) (v .gathers) z at p d′
+    visits-less = gather-less ends gone (v .gathers) z at p d′
 
   -- ---- all nodes have been seen
 
-  module _ {l l′ l₀ from : List ℕ} {fresh : Bool} {i todo todo′ todo₀ rest : ℕ} (s : Search l todo) (z : todo ≢ 0) (at : i ≡ lastOf todo) (v : Visits l₀ from todo₀ rest) (o : rest ≡ 0) (e : l′ ≡ joined ends l i) (f : Flag l l′ fresh)
+  module _ {l l′ l₀ from : List ℕ} {fresh : Bool} {i todo todo′ todo₀ rest : ℕ} (s : Search kept ends l todo) (z : todo ≢ 0) (at : i ≡ lastOf todo) (v : Visits l₀ from todo₀ rest) (o : rest ≡ 0) (e : l′ ≡ joined ends l i) (f : Flag l l′ fresh)
       (d : todo′ ≡ pick fresh (bitOr (without todo i) (cell from i)) (without todo i)) where
-    gathered : Sources ends (droppedOf kept) 0 from
-    gathered = gather-end ends (droppedOf kept) (v .gathers) o
+    gathered : Sources ends gone 0 from
+    gathered = gather-end ends gone (v .gathers) o
 
     none-left : (n : ℕ) → bit n 0 ≡ true → bit n todo ≡ true
     none-left n h = absurd (false≢true (sym (bit-zero n) ∙ h))
@@ -371,8 +361,8 @@ module _ (kept : ℕ) (ends : List ℕ) where
     old : bit i todo ≡ true
     old = rw at (last-bit todo (s .small) z)
 
-    pub search-next : Search l′ todo′
-    search-next = step-next s (omega arith) old gathered none-left e f d
+    pub search-next : Search kept ends l′ todo′
+    search-next = step-next (v .away) s (omega arith) old gathered none-left e f d
 
     pub search-less : left 32 (2 ^ 32) l′ todo′ < left 32 (2 ^ 32) l todo
-    search-less = step-less s (omega arith) old gathered none-left e f d
+    search-less = step-less (v .away) s (omega arith) old gathered none-left e f d

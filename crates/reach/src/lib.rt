@@ -6,7 +6,7 @@ ghost use lib.Bits.{bitOr};
 ghost use Rattle.table.specs.Mask.{pick};
 ghost use Rattle.masks.specs.Bits.{without};
 ghost use Rattle.masks.specs.Cells.{grown, Flag};
-ghost use Rattle.reach.specs.Reach.{joined, noted, Own, droppedOf, lastOf, Reaches};
+ghost use Rattle.reach.specs.Reach.{joined, noted, Own, Gone, lastOf, Reaches};
 
 // The mask m is added to the cell a; the answer says whether something was new.
 fn grow(cells: &mut [u32; 32], a: usize, m: u32) -> bool
@@ -73,13 +73,6 @@ fn note(ends: &[u32; 32], n: usize, from: &mut [u32; 32])
     grow(from, s, m);
 }
 
-// The nodes that are not kept.
-fn dropped(kept: u32) -> u32
-    ensures { λ r. ⌜ r ≡ droppedOf kept ⌝ }
-{
-    4294967295 ^ (4294967295 & kept)
-}
-
 // The last of the nodes m, if it has one.
 fn last(m: u32) -> usize
     ensures { λ r. ⌜ r ≡ lastOf m ⌝ }
@@ -97,13 +90,13 @@ fn next(todo: u32, i: usize, fresh: bool, m: u32) -> u32
 }
 
 // For each node the kept nodes that it leads to through nodes that are not kept. ends has the two targets of each node,
-// 32 times the first plus the second. Each node is seen once, and again after a target of it has got something new; the last first.
-// from has for each node those seen that have it as a target.
-pub fn reach(kept: u32, ends: &[u32; 32]) -> [u32; 32]
+// 32 times the first plus the second; gone has the nodes that are not kept, but for those that stay where they are. Each node of gone is
+// seen once, and again after a target of it has got something new; the last first. from has for each node those seen that have it as a target.
+pub fn reach(kept: u32, gone: u32, ends: &[u32; 32]) -> [u32; 32]
+    requires { ⌜ Gone kept gone (now ends) ⌝ }
     ensures { λ r. ⌜ Reaches kept (now (ends .entry)) r ⌝ }
 {
     let mut cells = own(kept);
-    let gone = dropped(kept);
     let mut from = [0u32; 32];
     let mut todo = gone;
     let mut left = gone;

@@ -2,6 +2,7 @@
 use Prim.Native.Nat.{_-_, _≤_}
 use Rattle.put.specs.RowLaws.{PutRows, rows-start}
 use Rattle.text.specs.ShapeLaws.{shaped}
+use Rattle.closer.specs.TableLaws.{counted}
 use Rattle.closed_text.specs.ClosedLaws.{closedProcs, Closable, closable, front-in, procs-few, proc-in, proc-put, closed-put}
 use borrow.Author.Needs.{needs}
 use native.Mathlib.Omega.{arith}
@@ -42,7 +43,7 @@ element-copy-out-q : tie.Need-element-copy-out-q Inv-loop μ-loop
 element-copy-out-q c = omega (arith, procs-few _ (able (c .before .before .before .before .before .before .before .before .before .before .before .before)))
 
 closed-proc-requires : tie.Need-closed-proc-requires Inv-loop μ-loop
-closed-proc-requires c κs = omega (arith, procs-few _ (able (c .before .before .before .before .before .before .before .before .before .before .before .before .before .before)))
+closed-proc-requires c κs = let a = able (c .before .before .before .before .before .before .before .before .before .before .before .before .before .before) in (omega (arith, procs-few _ a), counted _ (a .open-ready) _)
 
 put-proc-requires : tie.Need-put-proc-requires Inv-loop μ-loop
 put-proc-requires c κs = (omega (arith, c .before .before .before .before .before .loop .inv .0 .put .few, c .before .before .before .before .before .loop .inv .0 .put .next, c .before .before .before .before .before .before .before .before .put-front .ensures .few, c .before .before .before .before .before .before .before .before .put-front .ensures .next, procs-few _ (able (c .before .before .before .before .before .before .before .before .before .before .before .before .before .before .before .before))), proc-in _ (able (c .before .before .before .before .before .before .before .before .before .before .before .before .before .before .before .before)) _ (c .before .before .before .before .before .before .before .before .before .before .before .before .before .before .dirty-cells .ensures) (c .before .before .before .before .before .loop .i) (c .before .before .before .before .loop-test .taken) _ (c .before .closed-proc .ensures))

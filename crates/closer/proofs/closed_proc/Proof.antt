@@ -1,38 +1,33 @@
--- The first loop finds which nodes are kept and their targets; the second closes each node in its place.
-use Rattle.closer.specs.Parts.{endOf, Upto}
-use Rattle.closer.specs.SlotLaws.{upto-none, upto-next, made}
-use Rattle.analysis.specs.Steps.{keptIn}
-use Rattle.masks.specs.Bits.{mask-next}
-use Rattle.masks.specs.Cells.{Filled, set-more}
-use Rattle.table.specs.Mask.{maskOf}
-use Rattle.table.specs.Table.{nodeIn}
+-- The first loop finds which nodes are kept, which are gone and their targets; the second closes each node in its place.
+use Rattle.closer.specs.Parts.{Sorted, Upto}
+use Rattle.closer.specs.SlotLaws.{upto-none, upto-next, sorted-none, sorted-next, sorted-gone, made}
 use Rattle.text.specs.ShapeLaws.{proc-long}
-use lib.ListN.{length, length-set, length-replicate}
-use Prim.Native.Nat.{ℕ, _≤_, _-_}
-use mathlib.Core.Path.{_≡_, refl}
+use Prim.Native.Nat.{_≤_, _-_}
 use borrow.Author.Needs.{needs}
 use native.Mathlib.Omega.{arith}
 use Rattle.closer.proofs.closed_proc.Statement.{statement}
 use Rattle.closer.proofs.closed_proc.Tie as tie
 
 abbrev Inv-loop : tie.InvT-loop
-Inv-loop p cells base c kept₀ ends₀ n₀ kept ends n = (n ≤ 32) × ((kept ≡ maskOf n (keptIn c base cells)) × ((length ends ≡ 32) × Filled (λ a. endOf (nodeIn c a) a) n ends))
+Inv-loop p cells base c kept₀ gone₀ ends₀ nodes n₀ kept gone ends n = (n ≤ nodes) × Sorted c base cells n kept gone ends
 
 abbrev μ-loop : tie.MeasureT-loop
-μ-loop p cells base c kept₀ ends₀ n₀ kept ends n = 32 - n
+μ-loop p cells base c kept₀ gone₀ ends₀ nodes n₀ kept gone ends n = nodes - n
 
 abbrev Inv-loop2 : tie.InvT-loop2
-Inv-loop2 p cells base c₀ kept n arcs k₀ c k = (k ≤ 32) × Upto c₀ base kept cells arcs k c
+Inv-loop2 p cells base c₀ kept gone nodes n arcs k₀ c k = (k ≤ nodes) × Upto c₀ base kept cells arcs k c
 
 abbrev μ-loop2 : tie.MeasureT-loop2
-μ-loop2 p cells base c₀ kept n arcs k₀ c k = 32 - k
+μ-loop2 p cells base c₀ kept gone nodes n arcs k₀ c k = nodes - k
 
 mul-base : tie.Need-mul-base Inv-loop μ-loop Inv-loop2 μ-loop2
 mul-base c = search needs
 
+cast-nodes : tie.Need-cast-nodes Inv-loop μ-loop Inv-loop2 μ-loop2
+cast-nodes c = search needs
+
 loop-holds : tie.Need-loop-holds Inv-loop μ-loop Inv-loop2 μ-loop2
-unfolding maskOf
-loop-holds c = (search needs, (refl, (length-replicate {A = ℕ} 32 0, λ a h. absurd (omega arith))))
+loop-holds c = (search needs, sorted-none _ _ _)
 
 mul-s : tie.Need-mul-s Inv-loop μ-loop Inv-loop2 μ-loop2
 mul-s c = search needs
@@ -55,6 +50,9 @@ kept-node-requires c κs = search needs
 with-requires : tie.Need-with-requires Inv-loop μ-loop Inv-loop2 μ-loop2
 with-requires c κs = search needs
 
+with-requires-2 : tie.Need-with-requires-2 Inv-loop μ-loop Inv-loop2 μ-loop2
+with-requires-2 c κs = search needs
+
 end-of-requires : tie.Need-end-of-requires Inv-loop μ-loop Inv-loop2 μ-loop2
 end-of-requires c κs = search needs
 
@@ -71,13 +69,13 @@ loop-less : tie.Need-loop-less Inv-loop μ-loop Inv-loop2 μ-loop2
 loop-less c = search needs
 
 loop-again : tie.Need-loop-again Inv-loop μ-loop Inv-loop2 μ-loop2
-loop-again c = let h = c .before .before .before .before .before .before .loop in (omega arith, (mask-next _ (h .n) (h .kept) _ (h .inv .1 .0) (c .before .before .kept-node .ensures) (c .before .with .ensures), (simp length-set (h .inv .1 .1 .0), set-more 0 _ (h .n) _ (h .ends) (omega arith) (c .end-of .ensures) (h .inv .1 .1 .1))))
+loop-again c = let h = c .before .before .before .before .before .before .before .loop in (omega arith, sorted-next _ _ _ _ (omega arith) (h .inv .1) (c .before .before .before .kept-node .ensures) (c .before .before .with .ensures) (c .before .with2 .ensures) (c .end-of .ensures))
 
 reach-requires : tie.Need-reach-requires Inv-loop μ-loop Inv-loop2 μ-loop2
-reach-requires c κs = search needs
+reach-requires c κs = sorted-gone _ _ _ (c .before .before .loop .inv .1)
 
 loop2-holds : tie.Need-loop2-holds Inv-loop μ-loop Inv-loop2 μ-loop2
-loop2-holds c = let a = c .before .before .before .before in (search needs, upto-none _ _ _ _ _ (proc-long (a .args .q) (_, a .good .0)))
+loop2-holds c = let a = c .before .before .before .before .before in (search needs, upto-none _ _ _ _ _ (proc-long (a .args .q) (_, a .good .0)))
 
 mul-s-2 : tie.Need-mul-s-2 Inv-loop μ-loop Inv-loop2 μ-loop2
 mul-s-2 c = search needs
@@ -103,8 +101,8 @@ has-requires c κs = search needs
 closed-slot-requires : tie.Need-closed-slot-requires Inv-loop μ-loop Inv-loop2 μ-loop2
 closed-slot-requires c κs = search needs
 
-mul-t34 : tie.Need-mul-t34 Inv-loop μ-loop Inv-loop2 μ-loop2
-mul-t34 c = search needs
+mul-t36 : tie.Need-mul-t36 Inv-loop μ-loop Inv-loop2 μ-loop2
+mul-t36 c = search needs
 
 element-set-from-c : tie.Need-element-set-from-c Inv-loop μ-loop Inv-loop2 μ-loop2
 element-set-from-c c = search needs
@@ -131,7 +129,7 @@ cast-c : tie.Need-cast-c Inv-loop μ-loop Inv-loop2 μ-loop2
 cast-c c = search needs
 
 returns : tie.Need-returns Inv-loop μ-loop Inv-loop2 μ-loop2
-returns c = let h = c .before .before .before .before .before .before .loop in let z : h .n ≡ 32 = omega arith in let g = c .before .before .loop2 in let w : g .k ≡ 32 = omega arith in made _ _ _ _ _ _ _ (rw z at (h .inv .1 .0)) (rw z at (h .inv .1 .1 .1)) (c .before .before .before .reach .ensures) (rw w at (g .inv .1))
+returns c = let h = c .before .before .before .before .before .before .loop in let g = c .before .before .loop2 in made (c .before .before .before .before .before .before .before .before .pre .1) (omega arith) (omega arith) (h .inv .1) (c .before .before .before .reach .ensures) (g .inv .1)
 
 pub closed-proc-spec : {M : Type 1} → statement M
 closed-proc-spec =
@@ -142,6 +140,7 @@ closed-proc-spec =
     Inv-loop2
     μ-loop2
     mul-base
+    cast-nodes
     loop-holds
     mul-s
     element-copy-out-s
@@ -150,6 +149,7 @@ closed-proc-spec =
     element-copy-out-i
     kept-node-requires
     with-requires
+    with-requires-2
     end-of-requires
     mul-ends
     array-write-ends
@@ -166,7 +166,7 @@ closed-proc-spec =
     cast-has
     has-requires
     closed-slot-requires
-    mul-t34
+    mul-t36
     element-set-from-c
     add-k
     loop2-less

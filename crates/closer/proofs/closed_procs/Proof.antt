@@ -1,4 +1,5 @@
 use Rattle.closer.specs.Parts.{ClosedProc}
+use Rattle.closer.specs.TableLaws.{counted}
 use Rattle.masks.specs.Cells.{set-each}
 use Rattle.table.specs.Table.{procAt, outside}
 use lib.ListN.{length, length-set, getD}
@@ -25,7 +26,7 @@ element-copy-out-q : tie.Need-element-copy-out-q Inv-loop μ-loop
 element-copy-out-q c = search needs
 
 closed-proc-requires : tie.Need-closed-proc-requires Inv-loop μ-loop
-closed-proc-requires c κs = search needs
+closed-proc-requires c κs = (search needs, counted _ (c .before .before .before .pre) _)
 
 mul-r : tie.Need-mul-r Inv-loop μ-loop
 mul-r c = search needs
