@@ -95,7 +95,7 @@ fn pass_on(cells: &mut [u32; 265], todo: &mut [u32; 8], recvs: &[u32; 8], a: usi
 }
 
 // The first target of a node, and whether it is to be seen.
-#[derive(Drop)]
+#[derive(Clone, Copy)]
 struct Next {
     on: bool,
     to: usize,
@@ -268,7 +268,7 @@ fn is_recv(x: Node) -> bool
 }
 
 // The sources of a procedure.
-#[derive(Drop)]
+#[derive(Clone, Copy)]
 struct Sources {
     reads: u32,
     recvs: u32,

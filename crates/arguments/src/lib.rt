@@ -11,21 +11,21 @@ ghost use Rattle.machine.specs.Program.{said_value, said_items, most_nodes, most
 ghost use Rattle.arguments.specs.Answers.{digits_up_to, number_of, value_of, count_of, leading, length_of};
 
 // A number, or the word says none.
-#[derive(Drop)]
+#[derive(Clone, Copy)]
 pub enum Number {
     Is(usize),
     Not,
 }
 
 // A value, or the bytes say none.
-#[derive(Drop)]
+#[derive(Clone, Copy)]
 enum Value {
     Is(i32),
     Not,
 }
 
 // The length of a text that a program prints, or of what it says in its place on the standard error stream.
-#[derive(Drop)]
+#[derive(Clone, Copy)]
 pub enum Answer {
     Prints(usize),
     Says(usize),

@@ -41,7 +41,7 @@ pub fn written_and_read(t: Table, out: &mut [u8]) -> Reading
 }
 
 // The closer's number, and the runs of a table and of its closed one.
-#[derive(Drop)]
+#[derive(Clone, Copy)]
 pub struct Beside {
     pub number: u8,
     pub original: Running,
@@ -77,7 +77,7 @@ pub fn side_by_side(
 }
 
 // The closer's number, and what the explorer answers of the closed table.
-#[derive(Drop)]
+#[derive(Clone, Copy)]
 pub struct Sheet {
     pub number: u8,
     pub explored: Exploring,

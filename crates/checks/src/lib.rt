@@ -15,7 +15,7 @@ use targets::targets;
 pub const GAP: u8 = 255;
 
 // What the values of a node line are judged by.
-#[derive(Drop)]
+#[derive(Clone, Copy)]
 pub struct Limits {
     pub closed: bool,
     pub procs: u8,

@@ -1,5 +1,5 @@
 // What the closer answers: the closed table, with number and line 0; or the number of the refusal, with line 0 and a table all 0.
-#[derive(Drop)]
+#[derive(Clone, Copy)]
 pub struct Closing {
     pub number: u8,
     pub line: usize,

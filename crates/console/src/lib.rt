@@ -8,7 +8,7 @@ ghost use Rattle.console.specs.Input.{Fits};
 use libc::{STDERR_FILENO, STDIN_FILENO, STDOUT_FILENO};
 
 // How many bytes were read; or a read failed.
-#[derive(Drop)]
+#[derive(Clone, Copy)]
 pub enum Input {
     Is(usize),
     Failed,

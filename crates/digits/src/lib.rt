@@ -4,14 +4,14 @@ ghost use Rattle.text.specs.Number.{spelt, value};
 ghost use Rattle.digits.specs.Read.{digit_of, capped, digits_of, number_of, lead_of, lead_from, four_from, first_of};
 
 // The number, or 2^32 for any that is larger; or none is spelt.
-#[derive(Drop)]
+#[derive(Clone, Copy)]
 pub enum Num {
     Good(u64),
     Bad,
 }
 
 // The number that the digits at a place say, at most 2^32, and where they end.
-#[derive(Drop)]
+#[derive(Clone, Copy)]
 pub struct Lead {
     pub value: u64,
     pub end: usize,

@@ -9,7 +9,7 @@ ghost use Rattle.explore_text.specs.Text.{Prints};
 use table::Table;
 
 // Whether the answer is printed, which it is unless the bound is met, and its length.
-#[derive(Drop)]
+#[derive(Clone, Copy)]
 pub struct Printed {
     pub done: bool,
     pub len: usize,

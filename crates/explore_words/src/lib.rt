@@ -13,7 +13,7 @@ use arguments::{Answer, Number};
 use table::Table;
 
 // The words; Further is one too many.
-#[derive(Drop)]
+#[derive(Clone, Copy)]
 pub enum Word {
     Depth,
     Bound,
@@ -21,7 +21,7 @@ pub enum Word {
 }
 
 // What the words ask for: a search, with its depth and the most steps tried; or the first word that can't be read, is missing or is too many.
-#[derive(Drop)]
+#[derive(Clone, Copy)]
 pub enum Asked {
     Search(usize, usize),
     Unread(Word),

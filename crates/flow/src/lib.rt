@@ -8,7 +8,7 @@ use table::{Args, Node, Operand};
 
 // Where the dirty variables of a node go: `out` to two nodes of its procedure, `add` to one more cell. Of 265 cells the
 // first 256 are the nodes', 8 are the procedures' dropped parameters, and the last, 264, is the blank queues.
-#[derive(Drop)]
+#[derive(Clone, Copy)]
 pub struct Flow {
     pub first: usize,
     pub second: usize,
@@ -248,7 +248,7 @@ pub fn flow_of(x: Node, n: usize, i: u32, b: u32) -> Flow
 
 // What a node with one target does, and nothing more: the variable of `sets` is dirty after it if one of `uses` is dirty before it, and
 // clean if none is. `to` is the target, or 32 for every other node.
-#[derive(Drop)]
+#[derive(Clone, Copy)]
 pub struct Pass {
     pub uses: u32,
     pub sets: u32,

@@ -8,7 +8,7 @@ use late_nodes::{Callee, Terms};
 use table::Table;
 
 // What is found after all lines.
-#[derive(Drop)]
+#[derive(Clone, Copy)]
 pub enum Late {
     Good,
     // the fault and its line

@@ -11,7 +11,7 @@ use late_nodes::Terms;
 use table::{Node, Proc, Slot, Task};
 
 // A fault's number and its line; or 0 and the line behind those that were judged.
-#[derive(Drop)]
+#[derive(Clone, Copy)]
 pub struct At {
     pub number: u8,
     pub line: usize,

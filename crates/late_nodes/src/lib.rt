@@ -11,14 +11,14 @@ ghost use Rattle.late_nodes.specs.Terms.{no_callee, arc_fault, count_fault, remo
 use table::{Args, Node, Queue, REMOVED};
 
 // What a call is judged by.
-#[derive(Drop)]
+#[derive(Clone, Copy)]
 pub struct Callee {
     pub params: u8,
     pub drop: u8,
 }
 
 // What the nodes of a table are judged by.
-#[derive(Drop)]
+#[derive(Clone, Copy)]
 pub struct Terms {
     pub closed: bool,
     pub callee: [Callee; 8],

@@ -7,7 +7,7 @@ ghost use Rattle.records.specs.Answer.{head_in, CountsAt, task_in, sem_in, Queue
 ghost use Rattle.nodes.specs.Answer.{scope_in, Fits, NodeAt};
 
 // The lent text and the position reached in it.
-#[derive(Drop)]
+#[derive(Clone, Copy)]
 pub struct LineReader<'a> {
     pub text: &'a [u8],
     pub at: usize,

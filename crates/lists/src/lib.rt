@@ -9,35 +9,35 @@ ghost use Rattle.lists.specs.Short.{quick_of};
 ghost use Rattle.lists.specs.Passing.{argument_of, argument_from, pushed_of, PassedJudged, PassedSaid, PassedAt};
 
 // One item of a list of numbers: where it ends, and its bit, 0 for one that is outside.
-#[derive(Drop)]
+#[derive(Clone, Copy)]
 enum Item {
     Is(usize, u32),
     Not,
 }
 
 // A set of numbers, bit x for the number x, and the place after its list, or the fault.
-#[derive(Drop)]
+#[derive(Clone, Copy)]
 pub enum Set {
     Is(u32, usize),
     Not(text::Fault),
 }
 
 // A set and where its list ends; or the list is read another way.
-#[derive(Drop)]
+#[derive(Clone, Copy)]
 enum ShortList {
     Is(u32, usize),
     Not,
 }
 
 // One of a call's variables: where it ends, the variable, and whether it is declared.
-#[derive(Drop)]
+#[derive(Clone, Copy)]
 enum Argument {
     Is(usize, u8, bool),
     Not,
 }
 
 // A call's variables and the place after their list, or the fault.
-#[derive(Drop)]
+#[derive(Clone, Copy)]
 pub enum Passed {
     Is(table::Args, usize),
     Not(text::Fault),

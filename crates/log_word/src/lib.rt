@@ -7,7 +7,7 @@ ghost use Rattle.log_word.specs.Words.{from_log, rest_words, RestFits};
 use arguments::Number;
 
 // The length of the log buffer; or LOG is missing or can't be read, or there is a further word.
-#[derive(Drop)]
+#[derive(Clone, Copy)]
 pub enum Rest {
     Log(usize),
     NoLog,

@@ -1,7 +1,7 @@
 // The state of a run, and what the runner answers.
 
 // An open frame: its procedure, the node before which it stands (below the topmost: its call node), its variables.
-#[derive(Drop)]
+#[derive(Clone, Copy)]
 pub struct Frame {
     pub proc: u8,
     pub node: u8,
@@ -9,14 +9,14 @@ pub struct Frame {
 }
 
 // A queue's entries, the oldest first.
-#[derive(Drop)]
+#[derive(Clone, Copy)]
 pub struct Entries {
     pub len: u8,
     pub items: [i32; 8],
 }
 
 // A state. Task i has `depth[i]` frames open, from place 8 i on; unused places are 0. Of a lost task the topmost frame's node is 0.
-#[derive(Drop)]
+#[derive(Clone, Copy)]
 pub struct State {
     pub depth: [u8; 4],
     pub lost: [bool; 4],
@@ -26,7 +26,7 @@ pub struct State {
 }
 
 // Steps completed, values used, the stop number, 0 when the schedule ends, and the state.
-#[derive(Drop)]
+#[derive(Clone, Copy)]
 pub struct Running {
     pub steps: usize,
     pub used: usize,

@@ -6,7 +6,7 @@ ghost use Rattle.fields.specs.Answer.{LineAt};
 ghost use Rattle.nodes.specs.Answer.{to_fault, body_fault, last_line, last_set, to_in, scope_in, Fits, body_in, set_line, set_node, test_line, test_node, BodyAt, NodeAt};
 
 // The form of a table and the counts of declared items, by which a node line's references are judged.
-#[derive(Drop)]
+#[derive(Clone, Copy)]
 pub struct Scope {
     pub closed: bool,
     pub procs: u64,
@@ -17,21 +17,21 @@ pub struct Scope {
 }
 
 // A node, its number and the place after its line, or the fault and the line.
-#[derive(Drop)]
+#[derive(Clone, Copy)]
 pub enum Line {
     Node(table::Node, u8, usize),
     Refused(text::Fault, usize),
 }
 
 // A set of targets that ends a line and the place after the line, or the fault.
-#[derive(Drop)]
+#[derive(Clone, Copy)]
 enum To {
     Is(u32, usize),
     Not(text::Fault),
 }
 
 // A node and the place after its line, or the fault.
-#[derive(Drop)]
+#[derive(Clone, Copy)]
 enum Body {
     Is(table::Node, usize),
     Not(text::Fault),

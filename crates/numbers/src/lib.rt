@@ -6,14 +6,14 @@ ghost use Rattle.numbers.specs.Answer.{within_of, NumberIn, NumberAt};
 use scan::Found;
 
 // A number of one or two digits, and where it ends.
-#[derive(Drop)]
+#[derive(Clone, Copy)]
 pub enum Short {
     Is(u64, usize),
     Not,
 }
 
 // The number that a value spells, at most 2^32, and the value's end; or it spells none, or the text's end breaks it off.
-#[derive(Drop)]
+#[derive(Clone, Copy)]
 pub enum Numeral {
     Is(u64, usize),
     Bad,
@@ -21,7 +21,7 @@ pub enum Numeral {
 }
 
 // A number, or a variable, and the place after it, or the fault.
-#[derive(Drop)]
+#[derive(Clone, Copy)]
 pub enum Number {
     Is(u8, usize),
     Not(text::Fault),

@@ -9,7 +9,7 @@ use numbers::{Number, Numeral, Short};
 use scan::{Found, Token};
 
 // An operand and the place after it, or the fault.
-#[derive(Drop)]
+#[derive(Clone, Copy)]
 pub enum Operand {
     Is(table::Operand, usize),
     Not(text::Fault),

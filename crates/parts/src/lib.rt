@@ -3,14 +3,14 @@ ghost use Rattle.std.specs.Prelude.{◌≡◌};
 ghost use Rattle.parts.specs.Parts.{digit_of, size_of, PartOf, Next};
 
 // What the five digits before a part say; nothing where standard input ends before them.
-#[derive(Drop)]
+#[derive(Clone, Copy)]
 pub enum Said {
     Nothing,
     Bytes(usize),
 }
 
 // A part: its length as said, how many of its bytes the buffer has, and whether these are as many as were said.
-#[derive(Drop)]
+#[derive(Clone, Copy)]
 pub struct Part {
     pub said: Said,
     pub len: usize,

@@ -6,7 +6,7 @@ ghost use Rattle.records.specs.Answer.{Counted};
 ghost use Rattle.table.specs.Table.{no_slots, no_proc};
 
 // The node lines of a procedure, with the line reached; or their first fault, with its line and slots all 0.
-#[derive(Drop)]
+#[derive(Clone, Copy)]
 pub struct Slots {
     pub end: rows::End,
     pub line: usize,
@@ -14,7 +14,7 @@ pub struct Slots {
 }
 
 // A procedure, with the line reached; or its first fault, with its line and a procedure all 0.
-#[derive(Drop)]
+#[derive(Clone, Copy)]
 pub struct ProcRow {
     pub end: rows::End,
     pub line: usize,

@@ -39,7 +39,7 @@ pub fn no_table() -> Table
 }
 
 // The tasks, semaphores and queues, with the line reached; or their first fault, with its line and places all 0.
-#[derive(Drop)]
+#[derive(Clone, Copy)]
 struct Objects {
     end: rows::End,
     line: usize,
@@ -49,7 +49,7 @@ struct Objects {
 }
 
 // What stands before the procedures, with the line reached; or the first fault, with its line and places all 0.
-#[derive(Drop)]
+#[derive(Clone, Copy)]
 struct Front {
     end: rows::End,
     line: usize,

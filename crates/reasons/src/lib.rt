@@ -11,14 +11,14 @@ use put::put_bytes;
 use scan::{Ended, Found};
 
 // A number and the place after it, or none.
-#[derive(Drop)]
+#[derive(Clone, Copy)]
 enum Count {
     Is(usize, usize),
     Not,
 }
 
 // What was found wrong: a number that has words, with its line or with the steps completed.
-#[derive(Drop)]
+#[derive(Clone, Copy)]
 enum Wrong {
     Is(usize, usize),
     Nothing,

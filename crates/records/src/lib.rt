@@ -5,7 +5,7 @@ ghost use Rattle.fields.specs.Answer.{LineAt};
 ghost use Rattle.records.specs.Answer.{head_in, last_counts, counted, CountsAt, task_in, sem_in, queue_in, QueueAt, capped, Sized, DropAt, SizesAt, ProcAt};
 
 // The counts of a table's tasks, procedures, semaphores and queues.
-#[derive(Drop)]
+#[derive(Clone, Copy)]
 pub struct Counts {
     pub tasks: u8,
     pub procs: u8,
@@ -14,38 +14,38 @@ pub struct Counts {
 }
 
 // What a line holds and the place after it, or its fault.
-#[derive(Drop)]
+#[derive(Clone, Copy)]
 pub enum HeadLine {
     Is(u8, bool, usize),
     Refused(text::Fault),
 }
 
-#[derive(Drop)]
+#[derive(Clone, Copy)]
 pub enum CountsLine {
     Is(Counts, usize),
     Refused(text::Fault),
 }
 
-#[derive(Drop)]
+#[derive(Clone, Copy)]
 pub enum SemLine {
     Is(table::Sem, usize),
     Refused(text::Fault),
 }
 
-#[derive(Drop)]
+#[derive(Clone, Copy)]
 pub enum QueueLine {
     Is(table::Queue, usize),
     Refused(text::Fault),
 }
 
-#[derive(Drop)]
+#[derive(Clone, Copy)]
 pub enum TaskLine {
     Is(table::Task, usize),
     Refused(text::Fault),
 }
 
 // What a procedure line says.
-#[derive(Drop)]
+#[derive(Clone, Copy)]
 pub struct ProcHead {
     pub params: u8,
     pub vars: u8,
@@ -53,7 +53,7 @@ pub struct ProcHead {
     pub drop: u8,
 }
 
-#[derive(Drop)]
+#[derive(Clone, Copy)]
 pub enum ProcLine {
     Is(ProcHead, usize),
     Refused(text::Fault),

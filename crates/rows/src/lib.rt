@@ -5,28 +5,28 @@ ghost use Rattle.text.specs.Reader.{task_row, sem_row, queue_row};
 ghost use Rattle.rows.specs.Rows.{RowsAt, task_fault, sem_fault, queue_fault};
 
 // Where the text goes on after some lines, or the fault of the line reached.
-#[derive(Drop)]
+#[derive(Clone, Copy)]
 pub enum End {
     At(usize),
     Refused(text::Fault),
 }
 
 // What some lines hold, with the line reached; or their first fault, with its line and places that are all 0.
-#[derive(Drop)]
+#[derive(Clone, Copy)]
 pub struct Tasks {
     pub end: End,
     pub line: usize,
     pub task: [table::Task; 4],
 }
 
-#[derive(Drop)]
+#[derive(Clone, Copy)]
 pub struct Sems {
     pub end: End,
     pub line: usize,
     pub sem: [table::Sem; 8],
 }
 
-#[derive(Drop)]
+#[derive(Clone, Copy)]
 pub struct Queues {
     pub end: End,
     pub line: usize,

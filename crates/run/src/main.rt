@@ -10,7 +10,7 @@ use console::Input;
 use run_words::{Asked, Word};
 
 // What the words ask for; or a file could not be read, which was told.
-#[derive(Drop)]
+#[derive(Clone, Copy)]
 enum Heard {
     Is(Asked),
     Failed,

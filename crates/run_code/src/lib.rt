@@ -10,7 +10,7 @@ ghost use Rattle.run_code.specs.Code.{var_of, const_of, rows_of, decoded_of, byt
 use table::{Node, Op, Operand, Proc, Queue, Table};
 
 // A node's row of bytes and its row of words.
-#[derive(Drop)]
+#[derive(Clone, Copy)]
 pub struct Decoded {
     pub bytes: [u8; 8],
     pub words: [u32; 4],

@@ -74,7 +74,7 @@ fn input_row(values: &[i32], used: usize, m: u8) -> [i32; 16]
 }
 
 // How a run begins: the value list is spent, or so many values are used.
-#[derive(Drop)]
+#[derive(Clone, Copy)]
 pub struct Begun {
     pub spent: bool,
     pub used: usize,

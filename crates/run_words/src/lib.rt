@@ -11,7 +11,7 @@ use arguments::{Answer, Number};
 use log_word::Rest;
 
 // The words; Further is one too many.
-#[derive(Drop)]
+#[derive(Clone, Copy)]
 pub enum Word {
     Schedule,
     Values,
@@ -22,7 +22,7 @@ pub enum Word {
 
 // What the words ask for: a run, with how many task numbers and values the lent lists then have, the most dropped nodes per step and the log
 // buffer's length; or the first word that can't be read, is missing or is too many.
-#[derive(Drop)]
+#[derive(Clone, Copy)]
 pub enum Asked {
     Run(usize, usize, usize, usize),
     Unread(Word),

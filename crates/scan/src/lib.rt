@@ -5,7 +5,7 @@ ghost use Rattle.text.specs.Line.{stops as stopsAt};
 ghost use Rattle.scan.specs.Place.{quad_number, Bytes, QuadAt, AfterKey, RunEnd, ValueAt, TokenAt, RefusalOf, FeedAt};
 
 // Where the text goes on after a key; or something else stands there, or the text ends first.
-#[derive(Drop)]
+#[derive(Clone, Copy)]
 pub enum Found {
     At(usize),
     Differs,
@@ -13,14 +13,14 @@ pub enum Found {
 }
 
 // Where a value begins and ends, or the fault.
-#[derive(Drop)]
+#[derive(Clone, Copy)]
 pub enum Token {
     At(usize, usize),
     Not(text::Fault),
 }
 
 // The place after LF, or the fault.
-#[derive(Drop)]
+#[derive(Clone, Copy)]
 pub enum Ended {
     Is(usize),
     Not(text::Fault),

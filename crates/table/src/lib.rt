@@ -3,13 +3,13 @@
 // The number that stands for `-`, a removed variable, where a variable may be removed.
 pub const REMOVED: u8 = 255;
 
-#[derive(Drop)]
+#[derive(Clone, Copy)]
 pub enum Operand {
     Var(u8),
     Const(i32),
 }
 
-#[derive(Drop)]
+#[derive(Clone, Copy)]
 pub enum Op {
     Add,
     Sub,
@@ -22,7 +22,7 @@ pub enum Op {
 }
 
 // The variables that a call passes, the first `len` of four places. No callee has more than four parameters, so a greater `len` is a fault.
-#[derive(Drop)]
+#[derive(Clone, Copy)]
 pub struct Args {
     pub len: u8,
     pub a0: u8,
@@ -32,7 +32,7 @@ pub struct Args {
 }
 
 // A node line. An arc is a set of targets: bit j for node j. `Absent` is a number with no node line.
-#[derive(Drop)]
+#[derive(Clone, Copy)]
 pub enum Node {
     Absent,
     Start {
@@ -91,32 +91,32 @@ pub enum Node {
 }
 
 // A place for a node.
-#[derive(Drop)]
+#[derive(Clone, Copy)]
 pub struct Slot {
     pub node: Node,
 }
 
 // A task line.
-#[derive(Drop)]
+#[derive(Clone, Copy)]
 pub struct Task {
     pub top: u8,
 }
 
 // A semaphore line.
-#[derive(Drop)]
+#[derive(Clone, Copy)]
 pub struct Sem {
     pub count: u8,
 }
 
 // A queue line. `blank` is of the closed form.
-#[derive(Drop)]
+#[derive(Clone, Copy)]
 pub struct Queue {
     pub cap: u8,
     pub blank: bool,
 }
 
 // A procedure line with its node lines. `drop`, of the closed form, is a set of parameters: bit i for parameter i.
-#[derive(Drop)]
+#[derive(Clone, Copy)]
 pub struct Proc {
     pub params: u8,
     pub vars: u8,
@@ -126,7 +126,7 @@ pub struct Proc {
 }
 
 // A table. Places at or beyond a count are unused, and 0 in a table without a fault.
-#[derive(Drop)]
+#[derive(Clone, Copy)]
 pub struct Table {
     pub trap: u8,
     pub closed: bool,

@@ -1,6 +1,6 @@
 // The faults of texts and tables, and what the reader and the writer answer.
 
-#[derive(Drop)]
+#[derive(Clone, Copy)]
 pub enum Fault {
     // text over 65,536 bytes
     Long,
@@ -50,7 +50,7 @@ pub const UNUSED: u8 = 2;
 pub const SHORT: u8 = 8;
 
 // The kinds of nodes, by their words.
-#[derive(Drop)]
+#[derive(Clone, Copy)]
 pub enum NodeKind {
     Start,
     Set,
@@ -67,7 +67,7 @@ pub enum NodeKind {
 }
 
 // The table, with number and line 0; or the number and the line of the first fault, with a table all 0.
-#[derive(Drop)]
+#[derive(Clone, Copy)]
 pub struct Reading {
     pub number: u8,
     pub line: usize,
@@ -75,7 +75,7 @@ pub struct Reading {
 }
 
 // The length of the text written, with number and line 0; or the number of the refusal, with line and length 0.
-#[derive(Drop)]
+#[derive(Clone, Copy)]
 pub struct Writing {
     pub number: u8,
     pub line: usize,

@@ -4,7 +4,7 @@ ghost use Rattle.table.specs.Mask.{members};
 ghost use Rattle.tosses.specs.Tosses.{meeting, halting, tossed, arrived_of, straight_of};
 
 // An arc taken: the node met, or lost, or the stop's number; and whether the walk over dropped nodes is over.
-#[derive(Drop)]
+#[derive(Clone, Copy)]
 pub struct Chosen {
     pub over: bool,
     pub stop: u8,

@@ -5,21 +5,21 @@ ghost use Rattle.text.specs.Value.{kinds, ops};
 ghost use Rattle.words.specs.Answer.{ChoiceSaid, ChoiceAt, KindJudged, plain, Later, KindSaid, middle_kinds, late_kinds, KindIn, quick_kind, KindAt, calculates, OpJudged, OpSaid, late_ops, OpIn, OpAt};
 
 // One of two words and the place after it, or the fault.
-#[derive(Drop)]
+#[derive(Clone, Copy)]
 pub enum Choice {
     Is(bool, usize),
     Not(text::Fault),
 }
 
 // A node's kind and the place after it, or the fault.
-#[derive(Drop)]
+#[derive(Clone, Copy)]
 pub enum Kind {
     Is(text::NodeKind, usize),
     Not(text::Fault),
 }
 
 // An operation and the place after it, or the fault.
-#[derive(Drop)]
+#[derive(Clone, Copy)]
 pub enum Operation {
     Is(table::Op, usize),
     Not(text::Fault),
@@ -139,7 +139,7 @@ fn kind_value(t: &[u8], e: usize, closed: bool, j: u8) -> Kind
 }
 
 // A kind that is told by its first bytes, and where its word ends.
-#[derive(Drop)]
+#[derive(Clone, Copy)]
 enum Quick {
     Is(text::NodeKind, usize),
     Not,

@@ -101,7 +101,7 @@ fn put_queues(out: &mut [u8], at: usize, closed: bool, queues: [Queue; 8], n: u8
 }
 
 // What the lines before the procedures say.
-#[derive(Drop)]
+#[derive(Clone, Copy)]
 pub struct Front {
     pub trap: u8,
     pub closed: bool,
