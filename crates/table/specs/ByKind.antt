@@ -22,7 +22,7 @@ pub record Each {ℓ} (P : Node → Type ℓ) : Type ℓ where
   pub return : P Return
 
 pub by_kind {ℓ} : {P : Node → Type ℓ} → Each P → (x : Node) → P x
-by_kind h x = elim x [
+by_kind {P} h x = elim x as (λ k. P k) [
   | Absent ↦ h.absent
   | Start to ↦ h.start to
   | Set v o a b to ↦ h.set v o a b to

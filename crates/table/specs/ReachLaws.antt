@@ -46,14 +46,14 @@ module _ {A : Type 0} (same : A → A → Bool) (same_eq : (x y : A) → same x 
       (λ k. rw (k, grown) (grown_keeps x s es h))
 
   -- after a sweep an edge's second end is there, or the edge is left
-  grown_or_rest : (s : List A) (es : List (A × A)) (e : A × A) → Memᴰ e es → (mem same e.1 (grown same s es) ≡ true) ⊎ Memᴰ e (rest same s es)
+  grown_or_rest : (e : A × A) (s : List A) (es : List (A × A)) → Memᴰ e es → (mem same e.1 (grown same s es) ≡ true) ⊎ Memᴰ e (rest same s es)
   unfolding grown rest
-  grown_or_rest s es e (Memᴰ.head {x = d} {xs = r} k) = cases (mem same d.0 s)
+  grown_or_rest e s es (Memᴰ.head {x = d} {xs = r} k) = cases (mem same d.0 s)
       (λ h. rw (h, grown, rest) (inl (grown_keeps e.1 (add same d.1 s) r (rw k (add_has d.1 s)))))
       (λ h. rw (h, grown, rest) (inr (Memᴰ.head k)))
-  grown_or_rest s es e (Memᴰ.tail {x = d} {xs = r} m) = cases (mem same d.0 s)
-      (λ h. rw (h, grown, rest) (grown_or_rest (add same d.1 s) r e m))
-      (λ h. rw (h, grown, rest) (left (grown_or_rest s r e m)))
+  grown_or_rest e s es (Memᴰ.tail {x = d} {xs = r} m) = cases (mem same d.0 s)
+      (λ h. rw (h, grown, rest) (grown_or_rest e (add same d.1 s) r m))
+      (λ h. rw (h, grown, rest) (left (grown_or_rest e s r m)))
     where
       left : (mem same e.1 (grown same s r) ≡ true) ⊎ Memᴰ e (rest same s r) → (mem same e.1 (grown same s r) ≡ true) ⊎ Memᴰ e (d ∷ rest same s r)
       left (inl x) = inl x
@@ -84,14 +84,14 @@ module _ {A : Type 0} (same : A → A → Bool) (same_eq : (x y : A) → same x 
       (λ k. rw (k, rest) (omega (arith, rest_le (add same d.1 s) r)))
       (λ k. rw (k, rest) (omega (arith, rest_lt s r (rw (k, stuck) at h))))
 
-  stuck_all : (s : List A) (es : List (A × A)) (e : A × A) → stuck same s es ≡ true → Memᴰ e es → mem same e.0 s ≡ false
+  stuck_all : (s : List A) (e : A × A) (es : List (A × A)) → stuck same s es ≡ true → Memᴰ e es → mem same e.0 s ≡ false
   unfolding stuck
-  stuck_all s es e h (Memᴰ.head {x = d} k) = cases (mem same d.0 s)
+  stuck_all s e es h (Memᴰ.head {x = d} k) = cases (mem same d.0 s)
       (λ j. absurd (false≢true (rw (j, stuck) at h)))
       (λ j. rw k j)
-  stuck_all s es e h (Memᴰ.tail {x = d} {xs = r} m) = cases (mem same d.0 s)
+  stuck_all s e es h (Memᴰ.tail {x = d} {xs = r} m) = cases (mem same d.0 s)
       (λ j. absurd (false≢true (rw (j, stuck) at h)))
-      (λ j. stuck_all s r e (rw (j, stuck) at h) m)
+      (λ j. stuck_all s e r (rw (j, stuck) at h) m)
 
   sweeps_keeps : (d : ℕ) (s : List A) (es : List (A × A)) (x : A) → mem same x s ≡ true → mem same x (sweeps same d s es) ≡ true
   unfolding sweeps
@@ -106,8 +106,8 @@ module _ {A : Type 0} (same : A → A → Bool) (same_eq : (x y : A) → same x 
   sweeps_closed zero s [] e l m h = absurd (Memᴰ.not-nil m)
   sweeps_closed zero s (x ∷ es) e l m h = absurd (omega arith)
   sweeps_closed (suc d) s es e l m h = cases (stuck same s es)
-      (λ k. absurd (false≢true (sym (stuck_all s es e k m) ∙ (rw (k, sweeps) at h))))
-      (λ k. rw (k, sweeps) (left k (grown_or_rest s es e m)
+      (λ k. absurd (false≢true (sym (stuck_all s e es k m) ∙ (rw (k, sweeps) at h))))
+      (λ k. rw (k, sweeps) (left k (grown_or_rest e s es m)
       (λ m'. sweeps_closed d (grown same s es) (rest same s es) e (omega (arith, rest_lt s es k)) m' (rw (k, sweeps) at h))))
     where
       left : stuck same s es ≡ false → (mem same e.1 (grown same s es) ≡ true) ⊎ Memᴰ e (rest same s es) → (Memᴰ e (rest same s es) → mem same e.1 (sweeps same d (grown same s es) (rest same s es)) ≡ true) → mem same e.1 (sweeps same d (grown same s es) (rest same s es)) ≡ true
