@@ -17,7 +17,7 @@ pub record EachWord {ℓ} (P : NodeKind → Type ℓ) : Type ℓ where
   pub return : P kind.Return
 
 pub by_word {ℓ} : {P : NodeKind → Type ℓ} → EachWord P → (k : NodeKind) → P k
-by_word h k = elim k [
+by_word {P} h k = elim k as (λ j. P j) [
   | kind.Start ↦ h.start
   | kind.Set ↦ h.set
   | kind.Test ↦ h.test

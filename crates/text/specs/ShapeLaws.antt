@@ -2,14 +2,11 @@
 -- `shaped c.args.t (_, c.good.0)`, and of what a call of f gave `shaped c.f.result (_, c.f.ok)`.
 use Rattle.std.specs.Prelude.{ℕ, zero, suc, ◌^◌, ◌≤◌, ◌<◌, ◌≡◌, List, [], ◌∷◌, map, length, get_or}
 use Rattle.std.proofs.Common.{sym, ◌∙◌, arith, rules}
-use Rattle.std.proofs.lemmas.List.{length-map}
 use mir.Val.{Val}
 use denote.Laws.{Is}
 use denote.Shadow.{shadow}
-use denote.Array.{each}
-use denote.Struct.Field.{Field, array_field}
-use denote.Struct.Declared.{row, field}
-use denote.Enum.Declared as Enum
+use denote.Array.{Array, each}
+use denote.RattleType.{RattleType}
 use Rattle.table.specs.contracts.Node as node
 use Rattle.table.specs.contracts.Slot as slot
 use Rattle.table.specs.contracts.Task as task
@@ -26,32 +23,32 @@ use Rattle.table.specs.Shape.{Shaped}
 use Rattle.table.specs.ByKind.{by_kind}
 
 -- x is a value of the type: some machine values are its
-abbrev pub Of : (F : Field) → F.Value → Type 0
-Of F x = (vs : List Val) × Is F.row (F.into x) vs
+abbrev pub Of : (R : RattleType) → R.Denot → Type 0
+Of R x = (vs : List Val) × Is R x vs
 
 -- ---- arrays
 
-each_place : (F : Field) (H : F.Value → Type 0) → ((x : F.Value) → Of F x → H x) → (d : F.Value) (l : List F.Value) (us : List Val)
-    → shadow (each F.row.Denot F.row.own_val (map F.into l) us) → (i : ℕ) → (length l ≤ i → H d) → H (get_or l i d)
-each_place F H h d [] us g i e = e (omega arith)
-each_place F H h d (x ∷ l) [] g i e = absurd g
-each_place F H h d (x ∷ l) (u ∷ us) g zero e = h x (u ∷ [], g.0)
-each_place F H h d (x ∷ l) (u ∷ us) g (suc i) e = each_place F H h d l us g.1 i (λ k. e (omega arith))
+each_place : (R : RattleType) (H : R.Denot → Type 0) → ((x : R.Denot) → Of R x → H x) → (d : R.Denot) (l : List R.Denot) (us : List Val)
+    → shadow (each R.Denot R.own_val l us) → (i : ℕ) → (length l ≤ i → H d) → H (get_or l i d)
+each_place R H h d [] us g i e = e (omega arith)
+each_place R H h d (x ∷ l) [] g i e = absurd g
+each_place R H h d (x ∷ l) (u ∷ us) g zero e = h x (u ∷ [], g.0)
+each_place R H h d (x ∷ l) (u ∷ us) g (suc i) e = each_place R H h d l us g.1 i (λ k. e (omega arith))
 
-module _ (F : Field) (n : ℕ) (l : List F.Value) (g : Of (array_field F n) l) where
+module _ (R : RattleType) (n : ℕ) (l : List R.Denot) (g : Of (Array R n) l) where
   long : length l ≡ n
-  long = sym (length-map l F.into) ∙ g.1.1.0.1
+  long = g.1.1.0.1
 
   -- what holds of every value of the elements' type holds at each place; past the end it is to hold of d
-  place : (H : F.Value → Type 0) → ((x : F.Value) → Of F x → H x) → (d : F.Value) (i : ℕ) → (n ≤ i → H d) → H (get_or l i d)
-  place H h d i e = each_place F H h d l g.1.0 g.1.1.1 i (λ k. e (let m = long in omega arith))
+  place : (H : R.Denot → Type 0) → ((x : R.Denot) → Of R x → H x) → (d : R.Denot) (i : ℕ) → (n ≤ i → H d) → H (get_or l i d)
+  place H h d i e = each_place R H h d l g.1.0 g.1.1.1 i (λ k. e (let m = long in omega arith))
 
 -- ---- a node, a procedure
 
 abbrev pub SmallArcs : Node → Type 0
 SmallArcs x = (arc_to x < 2 ^ 32) × (arc_no x < 2 ^ 32)
 
-pub node_arcs : (x : Node) → Of (Enum.field node.the_type) x → SmallArcs x
+pub node_arcs : (x : Node) → Of node.the_row x → SmallArcs x
 unfolding parts
 node_arcs = by_kind (search rules)
 
@@ -59,14 +56,14 @@ pub absent_arcs : SmallArcs Absent
 unfolding parts
 absent_arcs = (search rules, search rules)
 
-slots_of : (q : Proc) → Of (field proc.the_type) q → Of (array_field (field slot.the_type) 32) q.slots
+slots_of : (q : Proc) → Of proc.the_row q → Of (Array slot.the_row 32) q.slots
 slots_of q g = (_, g.1.1.1.1.1.1.1.0)
 
-pub proc_long : (q : Proc) → Of (field proc.the_type) q → length q.slots ≡ 32
-proc_long q g = long (field slot.the_type) 32 q.slots (slots_of q g)
+pub proc_long : (q : Proc) → Of proc.the_row q → length q.slots ≡ 32
+proc_long q g = long slot.the_row 32 q.slots (slots_of q g)
 
-pub proc_arcs : (q : Proc) → Of (field proc.the_type) q → (n : ℕ) → SmallArcs (node_in q n)
-proc_arcs q g n = place (field slot.the_type) 32 q.slots (slots_of q g) (λ x. SmallArcs x.node) (λ x h. node_arcs x.node (_, h.1.1.1.0)) no_slot n (λ k. absent_arcs)
+pub proc_arcs : (q : Proc) → Of proc.the_row q → (n : ℕ) → SmallArcs (node_in q n)
+proc_arcs q g n = place slot.the_row 32 q.slots (slots_of q g) (λ x. SmallArcs x.node) (λ x h. node_arcs x.node (_, h.1.1.1.0)) no_slot n (λ k. absent_arcs)
 
 -- ---- a table
 
@@ -85,28 +82,28 @@ pub record Bounded (t : Table) : Type 0 where
   pub nodes : (p : ℕ) → (proc_at t p).nodes < 256
   pub drop : (p : ℕ) → (proc_at t p).drop < 256
 
-module _ (t : Table) (g : Of (field table.the_type) t) where
-  tasks_of : Of (array_field (field task.the_type) 4) t.task
+module _ (t : Table) (g : Of table.the_row t) where
+  tasks_of : Of (Array task.the_row 4) t.task
   tasks_of = (_, g.1.1.1.1.1.1.1.1.1.0)
 
-  sems_of : Of (array_field (field sem.the_type) 8) t.sem
+  sems_of : Of (Array sem.the_row 8) t.sem
   sems_of = (_, g.1.1.1.1.1.1.1.1.1.1.0)
 
-  queues_of : Of (array_field (field queue.the_type) 8) t.queue
+  queues_of : Of (Array queue.the_row 8) t.queue
   queues_of = (_, g.1.1.1.1.1.1.1.1.1.1.1.0)
 
-  procs_of : Of (array_field (field proc.the_type) 8) t.proc
+  procs_of : Of (Array proc.the_row 8) t.proc
   procs_of = (_, g.1.1.1.1.1.1.1.1.1.1.1.1.0)
 
-  each_proc : (H : Proc → Type 0) → ((q : Proc) → Of (field proc.the_type) q → H q) → (p : ℕ) → (8 ≤ p → H outside) → H (proc_at t p)
-  each_proc H h p = place (field proc.the_type) 8 t.proc procs_of H h outside p
+  each_proc : (H : Proc → Type 0) → ((q : Proc) → Of proc.the_row q → H q) → (p : ℕ) → (8 ≤ p → H outside) → H (proc_at t p)
+  each_proc H h p = place proc.the_row 8 t.proc procs_of H h outside p
 
   pub shaped : Shaped t
   shaped = record {
-    tasks = long (field task.the_type) 4 t.task tasks_of;
-    sems = long (field sem.the_type) 8 t.sem sems_of;
-    queues = long (field queue.the_type) 8 t.queue queues_of;
-    procs = long (field proc.the_type) 8 t.proc procs_of;
+    tasks = long task.the_row 4 t.task tasks_of;
+    sems = long sem.the_row 8 t.sem sems_of;
+    queues = long queue.the_row 8 t.queue queues_of;
+    procs = long proc.the_row 8 t.proc procs_of;
     slots = λ p h. each_proc (λ q. length q.slots ≡ 32) proc_long p (λ k. absurd (omega arith));
     drops = λ p. each_proc (λ q. q.drop < 2 ^ 32) (λ q k. search rules) p (λ k. search rules);
     arcs = λ p n. each_proc (λ q. SmallArcs (node_in q n)) (λ q k. proc_arcs q k n) p (λ k. absent_arcs);
@@ -119,9 +116,9 @@ module _ (t : Table) (g : Of (field table.the_type) t) where
     procs = search rules;
     sems = search rules;
     queues = search rules;
-    top = λ i. place (field task.the_type) 4 t.task tasks_of (λ x. x.top < 256) (λ x h. search rules) no_task i (λ k. search rules);
-    count = λ i. place (field sem.the_type) 8 t.sem sems_of (λ x. x.count < 256) (λ x h. search rules) no_sem i (λ k. search rules);
-    cap = λ i. place (field queue.the_type) 8 t.queue queues_of (λ x. x.cap < 256) (λ x h. search rules) no_queue i (λ k. search rules);
+    top = λ i. place task.the_row 4 t.task tasks_of (λ x. x.top < 256) (λ x h. search rules) no_task i (λ k. search rules);
+    count = λ i. place sem.the_row 8 t.sem sems_of (λ x. x.count < 256) (λ x h. search rules) no_sem i (λ k. search rules);
+    cap = λ i. place queue.the_row 8 t.queue queues_of (λ x. x.cap < 256) (λ x h. search rules) no_queue i (λ k. search rules);
     params = λ p. each_proc (λ q. q.params < 256) (λ q k. search rules) p (λ k. search rules);
     vars = λ p. each_proc (λ q. q.vars < 256) (λ q k. search rules) p (λ k. search rules);
     nodes = λ p. each_proc (λ q. q.nodes < 256) (λ q k. search rules) p (λ k. search rules);

@@ -124,7 +124,7 @@ spell_short (number lo n f) v e h = let u = number_fact lo n f v e in digits_sho
 spell_short (choice a b) false e h = omega arith
 spell_short (choice a b) true e h = omega arith
 spell_short (kind c j) v e h = omega arith
-spell_short (operation t) v e h = elim v [ Add ↦ omega arith | Sub ↦ omega arith | And ↦ omega arith | Or ↦ omega arith | Xor ↦ omega arith | Shr ↦ omega arith | Lt ↦ omega arith | Eq ↦ omega arith ]
+spell_short (operation t) v e h = elim v as (λ k. length (spell (operation t) k) ≤ most (operation t) k) [ Add ↦ omega arith | Sub ↦ omega arith | And ↦ omega arith | Or ↦ omega arith | Xor ↦ omega arith | Shr ↦ omega arith | Lt ↦ omega arith | Eq ↦ omega arith ]
 spell_short (operand n) v e h = operand_short n v h e
 spell_short (variable c n) none e h = omega arith
 spell_short (variable c n) (some v) e h = let u = ltb-true v n (unless_none (ltb v n) Reference e) in digits_short 2 v (omega arith)

@@ -78,7 +78,7 @@ kind_said = by_word (search)
 
 op_said : (v : Op) → named op_word ops (op_word v) ≡ some v
 unfolding named same
-op_said v = elim v [ Add ↦ refl | Sub ↦ refl | And ↦ refl | Or ↦ refl | Xor ↦ refl | Shr ↦ refl | Lt ↦ refl | Eq ↦ refl ]
+op_said v = elim v as (λ k. named op_word ops (op_word k) ≡ some k) [ Add ↦ refl | Sub ↦ refl | And ↦ refl | Or ↦ refl | Xor ↦ refl | Shr ↦ refl | Lt ↦ refl | Eq ↦ refl ]
 
 chosen_over : (a b : List ℕ) → Over 32 a → Over 32 b → (v : Bool) → Over 32 (chosen a b v)
 chosen_over a b p q false = p
@@ -88,7 +88,7 @@ kind_over : (v : NodeKind) → Over 32 (kind_word v)
 kind_over = by_word (search arith)
 
 op_over : (v : Op) → Over 32 (op_word v)
-op_over v = elim v [ Add ↦ omega arith | Sub ↦ omega arith | And ↦ omega arith | Or ↦ omega arith | Xor ↦ omega arith | Shr ↦ omega arith | Lt ↦ omega arith | Eq ↦ omega arith ]
+op_over v = elim v as (λ k. Over 32 (op_word k)) [ Add ↦ omega arith | Sub ↦ omega arith | And ↦ omega arith | Or ↦ omega arith | Xor ↦ omega arith | Shr ↦ omega arith | Lt ↦ omega arith | Eq ↦ omega arith ]
 
 -- ---- numbers and variables
 
