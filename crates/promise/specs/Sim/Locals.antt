@@ -56,7 +56,7 @@ module _ (t : Table) where
   pub marks_append : (p : ℕ) (v : ℕ) (o : Option ℕ) (ns ms : List ℕ) → last_setting t p v o (ns ++ ms) ≡ last_setting t p v (last_setting t p v o ns) ms
   unfolding last_setting
   marks_append p v o [] ms = refl
-  marks_append p v o (n ∷ ns) ms = marks_append p v _ ns ms
+  marks_append p v o (n ∷ ns) ms = marks_append p v (pick (sets_var (variable_set (node_at t p n)) v) (some n) o) ns ms
 
   pub mark_other : (p n v : ℕ) (la : Last) → variable_set (node_at t p n) ≢ some v → mark p n la v ≡ la v
   mark_other p n v la h = rw (sets_var_other (variable_set (node_at t p n)) v h)
