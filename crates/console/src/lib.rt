@@ -5,7 +5,9 @@ ghost use Rattle.text.specs.Number.{bytes};
 ghost use Rattle.text.specs.Value.{same};
 ghost use Rattle.console.specs.Input.{Fits};
 
-use libc::{STDERR_FILENO, STDIN_FILENO, STDOUT_FILENO};
+use scan::Found;
+use std::env::{Env, FillError};
+use std::io::{Error, Print, Read, Write};
 
 // How many bytes were read; or a read failed.
 #[derive(Clone, Copy)]
@@ -14,13 +16,32 @@ pub enum Input {
     Failed,
 }
 
+// Whether word i was given.
+fn is_given(rt: HostRuntime, i: usize) -> bool {
+    let mut first = [0u8; 1];
+    !matches!(rt.arg(i, &mut first), Err(FillError::NotPresent))
+}
+
 // How many words follow the program's name.
-pub fn word_count() -> usize {
-    let n = os::arg_count();
-    if n == 0 {
-        return 0;
+pub fn word_count(rt: HostRuntime) -> usize {
+    let mut n = 0;
+    while n < usize::MAX {
+        if !is_given(rt, n + 1) {
+            return n;
+        }
+        n += 1;
     }
-    n - 1
+    n
+}
+
+// Puts word i at the start of a buffer, and answers its length; 0 where it is missing or longer than the buffer.
+pub fn word(rt: HostRuntime, i: usize, buffer: &mut [u8]) -> usize
+    ensures { result ≤ length buffer.new }
+{
+    match rt.arg(i, buffer) {
+        Ok(n) => n,
+        Err(_) => 0,
+    }
 }
 
 // Whether a word asks for help.
@@ -31,48 +52,49 @@ pub fn is_help(word: &[u8]) -> bool
 }
 
 // Whether the first word asks for help, which is then shown.
-pub fn helped(help: &[u8]) -> bool {
+pub fn helped(rt: HostRuntime, help: &[u8]) -> bool {
     let mut first = [0u8; 8];
-    let n = os::arg(1, &mut first);
+    let n = word(rt, 1, &mut first);
     if is_help(&first[..n]) {
-        show(help);
+        show(rt, help);
         return true;
     }
     false
 }
 
 // Whether a program that takes no words has none; else it shows its help if that is asked for, or says that a word is too many.
-pub fn no_words(help: &[u8], surplus: &[u8]) -> bool {
-    if word_count() == 0 {
+pub fn no_words(rt: HostRuntime, help: &[u8], surplus: &[u8]) -> bool {
+    if word_count(rt) == 0 {
         return true;
     }
-    if !helped(help) {
-        say(surplus);
+    if !helped(rt, help) {
+        say(rt, surplus);
     }
     false
 }
 
 // ---- reading
 
-// One read.
-fn read_some(fd: i32, buffer: &mut [u8]) -> Input
+// One read; if it fails, that is told under a name.
+fn read_some<R: Read>(rt: HostRuntime, from: &mut R, name: &[u8], buffer: &mut [u8]) -> Input
     ensures { Fits result buffer.new }
 {
-    let got = libc::read(fd, buffer);
-    if got < 0 {
-        return Input::Failed;
+    match from.read(buffer) {
+        Ok(n) => Input::Is(n),
+        Err(error) => {
+            fail(rt, name, &error);
+            Input::Failed
+        }
     }
-    let n = io::count(got, buffer);
-    Input::Is(n)
 }
 
 // Reads into a buffer until it is full or the input ends.
-fn read_all(fd: i32, buffer: &mut [u8]) -> Input
+fn read_all<R: Read>(rt: HostRuntime, from: &mut R, name: &[u8], buffer: &mut [u8]) -> Input
     ensures { Fits result buffer.new }
 {
     let mut done = 0;
     while done < buffer.len() {
-        let Input::Is(n) = read_some(fd, &mut buffer[done..]) else {
+        let Input::Is(n) = read_some(rt, from, name, &mut buffer[done..]) else {
             return Input::Failed;
         };
         if n == 0 {
@@ -83,36 +105,64 @@ fn read_all(fd: i32, buffer: &mut [u8]) -> Input
     Input::Is(done)
 }
 
-// The same, and a read that fails is told under a name.
-pub fn read(fd: i32, name: &[u8], buffer: &mut [u8]) -> Input
+// The same, of a file or another reader.
+pub fn read<R: Read>(rt: HostRuntime, from: &mut R, name: &[u8], buffer: &mut [u8]) -> Input
     ensures { Fits result buffer.new }
 {
-    let Input::Is(n) = read_all(fd, buffer) else {
-        os::fail(name);
-        return Input::Failed;
-    };
-    Input::Is(n)
+    read_all(rt, from, name, buffer)
 }
 
 // The text on standard input.
-pub fn read_input(buffer: &mut [u8]) -> Input
+pub fn read_input(rt: HostRuntime, buffer: &mut [u8]) -> Input
     ensures { Fits result buffer.new }
 {
-    read(STDIN_FILENO, b"standard input", buffer)
+    let mut from = rt.stdin();
+    read(rt, &mut from, b"standard input", buffer)
 }
 
 // ---- writing
 
 // Writes on the standard error stream.
-pub fn say(text: &[u8]) {
-    io::write_all(STDERR_FILENO, text);
+pub fn say(rt: HostRuntime, text: &[u8]) {
+    let _ = rt.stderr().write_all(text);
 }
 
 // Writes on standard output, and answers whether all was written; if not, that is told.
-pub fn show(text: &[u8]) -> bool {
-    if io::write_all(STDOUT_FILENO, text) {
-        return true;
+pub fn show(rt: HostRuntime, text: &[u8]) -> bool {
+    match rt.stdout().write_all(text) {
+        Ok(()) => true,
+        Err(error) => {
+            fail(rt, b"standard output", &error);
+            false
+        }
     }
-    os::fail(b"standard output");
-    false
+}
+
+// Where an error's words end: at its number, which stands behind them in parentheses, or at the first byte that was not written.
+fn words_end(text: &[u8]) -> usize
+    ensures { result ≤ length text.now }
+{
+    let mut at = 0;
+    while at < text.len() {
+        if text[at] == 0 {
+            return at;
+        }
+        if let Found::At(_) = scan::after(text, at, b" (os error ") {
+            return at;
+        }
+        at += 1;
+    }
+    at
+}
+
+// Tells on the standard error stream that something failed, under its name, and the system's words for the error.
+pub fn fail(rt: HostRuntime, name: &[u8], error: &Error) {
+    let mut text = [0u8; 128];
+    let mut room = text.as_mut_slice();
+    let _ = write!(room, "{error}");
+    let n = words_end(&text);
+    say(rt, name);
+    say(rt, b": ");
+    say(rt, &text[..n]);
+    say(rt, b"\n");
 }

@@ -4,34 +4,34 @@ use console::Input;
 use explore_words::{Asked, Word};
 
 // What the words ask for.
-fn words() -> Asked {
+fn words(rt: HostRuntime) -> Asked {
     let mut first = [0u8; 32];
-    let a = os::arg(1, &mut first);
+    let a = console::word(rt, 1, &mut first);
     let mut second = [0u8; 32];
-    let b = os::arg(2, &mut second);
-    let n = console::word_count();
+    let b = console::word(rt, 2, &mut second);
+    let n = console::word_count(rt);
     explore_words::ask(n, &first[..a], &second[..b])
 }
 
 // Says which word can't be read, and what was expected.
-fn say_word(w: Word) {
+fn say_word(rt: HostRuntime, w: Word) {
     let mut line = [0u8; 256];
     let n = explore_words::word_line(w, &mut line);
-    console::say(&line[..n]);
+    console::say(rt, &line[..n]);
 }
 
 // Prints the answer to the search that was asked for, or the refusal of the text.
-fn print_search(depth: usize, bound: usize) {
+fn print_search(rt: HostRuntime, depth: usize, bound: usize) {
     let mut text = [0u8; 65537];
-    let Input::Is(n) = console::read_input(&mut text) else {
+    let Input::Is(n) = console::read_input(rt, &mut text) else {
         return;
     };
     let mut out = [0u8; 131072];
-    let len = explore_words::explore_asked(&text[..n], depth, bound, &mut out);
-    reasons::print(&out[..len]);
+    let len = explore_words::explore_asked(rt.stderr(), &text[..n], depth, bound, &mut out);
+    reasons::print(rt, &out[..len]);
 }
 
-fn main() {
+fn main(rt: HostRuntime) {
     let help = b"explore DEPTH BOUND < closed.txt\n\
         Tries every task order and every toss of the closed table on standard input, and prints the first path that comes to a standstill or fails \
         an assertion, with the state; or found=none.\n\
@@ -40,11 +40,11 @@ fn main() {
         The standard error stream says how many steps a long search has tried and why a text is refused, and last written=BYTES if all was written.\n\
         Example: paths of at most 12 steps, and at most a million steps tried.\n\
         explore 12 1000000 < closed.txt\n";
-    if console::helped(help) {
+    if console::helped(rt, help) {
         return;
     }
-    match words() {
-        Asked::Search(depth, bound) => print_search(depth, bound),
-        Asked::Unread(w) => say_word(w),
+    match words(rt) {
+        Asked::Search(depth, bound) => print_search(rt, depth, bound),
+        Asked::Unread(w) => say_word(rt, w),
     }
 }

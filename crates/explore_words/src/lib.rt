@@ -10,6 +10,7 @@ ghost use Rattle.arguments.specs.Answers.{AnswerPut};
 ghost use Rattle.explore_words.specs.Words.{word_of, asked_words};
 
 use arguments::{Answer, Number};
+use std::io::{Print, Stderr};
 use table::Table;
 
 // The words; Further is one too many.
@@ -74,11 +75,11 @@ pub fn word_line(w: Word, out: &mut [u8]) -> usize
 }
 
 // How far a long search is.
-fn say(tried: u64) {
+fn say(err: Stderr, tried: u64) {
     let mut line = [0u8; 64];
     let a = put_fields::put_size(&mut line, 0, b"tried=", tried as usize);
     let n = put::put_text(&mut line, a, b", nothing found yet\n");
-    io::write_all(2, &line[..n]);
+    let _ = err.write_all(&line[..n]);
 }
 
 // The bound of the first search.
@@ -97,7 +98,7 @@ fn next_bound(b: u64, most: u64) -> u64
 }
 
 // The exploration of a table that has no fault, by searches of growing bounds.
-fn explore_loudly(t: Table, depth: usize, most: u64, out: &mut [u8]) -> usize
+fn explore_loudly(err: Stderr, t: Table, depth: usize, most: u64, out: &mut [u8]) -> usize
     requires { fault t ≡ 0 }
     ensures { Put 131072 out.old 0 (explored_text t depth most) out.new result }
 {
@@ -110,13 +111,13 @@ fn explore_loudly(t: Table, depth: usize, most: u64, out: &mut [u8]) -> usize
         if most <= b {
             return refusals::put_refused(out, 18, 0);
         }
-        say(b);
+        say(err, b);
         b = next_bound(b, most);
     }
 }
 
 // The search that was asked for: the answer for a text's table, or the refusal of the text.
-pub fn explore_asked(s: &[u8], depth: usize, most: usize, out: &mut [u8]) -> usize
+pub fn explore_asked(err: Stderr, s: &[u8], depth: usize, most: usize, out: &mut [u8]) -> usize
     ensures { Put 131072 out.old 0 (explore_text s.now depth most) out.new result }
 {
     let r = reader::read(s);
@@ -124,15 +125,22 @@ pub fn explore_asked(s: &[u8], depth: usize, most: usize, out: &mut [u8]) -> usi
         return refusals::put_refused(out, r.number, r.line);
     }
     let t = r.table;
-    explore_loudly(t, depth, most as u64, out)
+    explore_loudly(err, t, depth, most as u64, out)
 }
 
 // What the program answers to n words, of which the first two are given, and to a text on its standard input.
-pub fn explore_words(n: usize, first: &[u8], second: &[u8], s: &[u8], out: &mut [u8]) -> Answer
+pub fn explore_words(
+    err: Stderr,
+    n: usize,
+    first: &[u8],
+    second: &[u8],
+    s: &[u8],
+    out: &mut [u8],
+) -> Answer
     ensures { AnswerPut 131072 out.old (explore_answer (given n (first.now ∷ second.now ∷ [])) s.now) out.new result }
 {
     match ask(n, first, second) {
-        Asked::Search(d, b) => Answer::Prints(explore_asked(s, d, b, out)),
+        Asked::Search(d, b) => Answer::Prints(explore_asked(err, s, d, b, out)),
         Asked::Unread(w) => Answer::Says(word_line(w, out)),
     }
 }

@@ -2,6 +2,8 @@
 ghost use Rattle.std.specs.Prelude.{◌≡◌};
 ghost use Rattle.parts.specs.Parts.{digit_of, size_of, PartOf, Next};
 
+use std::io::{Print, Read, Stdin, Stdout};
+
 // What the five digits before a part say; nothing where standard input ends before them.
 #[derive(Clone, Copy)]
 pub enum Said {
@@ -31,8 +33,33 @@ fn size(h: [u8; 5]) -> usize
     digit(h[0]) * 10000 + digit(h[1]) * 1000 + digit(h[2]) * 100 + digit(h[3]) * 10 + digit(h[4])
 }
 
+// One read: how many bytes it put at the start of the buffer, none if it failed.
+fn read_some(mut input: Stdin, buffer: &mut [u8]) -> usize
+    ensures { result ≤ length buffer.new }
+{
+    match input.read(buffer) {
+        Ok(n) => n,
+        Err(_) => 0,
+    }
+}
+
+// Reads until the buffer is full, the input ends or a read fails, and answers how many bytes it put at the start of the buffer.
+fn read_full(input: Stdin, buffer: &mut [u8]) -> usize
+    ensures { result ≤ length buffer.new }
+{
+    let mut done = 0;
+    while done < buffer.len() {
+        let n = read_some(input, &mut buffer[done..]);
+        if n == 0 {
+            break;
+        }
+        done += n;
+    }
+    done
+}
+
 // Reads n bytes into a buffer that has room for them.
-fn bytes(n: usize, buffer: &mut [u8]) -> Part
+fn bytes(input: Stdin, n: usize, buffer: &mut [u8]) -> Part
     ensures { PartOf (Said.Bytes n) buffer.old buffer.new result }
 {
     if buffer.len() < n {
@@ -42,7 +69,7 @@ fn bytes(n: usize, buffer: &mut [u8]) -> Part
             there: false,
         };
     }
-    let len = io::read_full(0, &mut buffer[..n]);
+    let len = read_full(input, &mut buffer[..n]);
     Part {
         said: Said::Bytes(n),
         len,
@@ -51,24 +78,24 @@ fn bytes(n: usize, buffer: &mut [u8]) -> Part
 }
 
 // Reads the next part.
-pub fn next(buffer: &mut [u8]) -> Part
+pub fn next(input: Stdin, buffer: &mut [u8]) -> Part
     ensures { Next buffer.old buffer.new result }
 {
     let mut h = [0u8; 5];
-    if io::read_full(0, &mut h) < 5 {
+    if read_full(input, &mut h) < 5 {
         return Part {
             said: Said::Nothing,
             len: 0,
             there: false,
         };
     }
-    bytes(size(h), buffer)
+    bytes(input, size(h), buffer)
 }
 
 // Prints the first n bytes of a buffer, if it has as many.
-pub fn print(buffer: &[u8], n: usize) {
+pub fn print(out: Stdout, buffer: &[u8], n: usize) {
     if buffer.len() < n {
         return;
     }
-    io::write_all(libc::STDOUT_FILENO, &buffer[..n]);
+    let _ = out.write_all(&buffer[..n]);
 }

@@ -276,23 +276,23 @@ fn put_written(out: &mut [u8], n: usize) -> usize
     put::put_byte(out, a, 10)
 }
 
-fn say_written(n: usize) {
+fn say_written(rt: HostRuntime, n: usize) {
     let mut line = [0u8; 32];
     let k = put_written(&mut line, n);
-    console::say(&line[..k]);
+    console::say(rt, &line[..k]);
 }
 
 // Writes a text on standard output, and on the standard error stream what is said of it, whose length is the answer; last, if all of it was
 // written, its length.
-pub fn print(text: &[u8]) -> usize
+pub fn print(rt: HostRuntime, text: &[u8]) -> usize
     ensures { result ≡ length (explained text.now) }
 {
     let mut line = [0u8; 128];
     let n = explain(text, &mut line);
-    let whole = console::show(text);
-    console::say(&line[..n]);
+    let whole = console::show(rt, text);
+    console::say(rt, &line[..n]);
     if whole {
-        say_written(text.len());
+        say_written(rt, text.len());
     }
     n
 }

@@ -8,6 +8,8 @@ ghost use Rattle.run.specs.Heard.{EndsBy, HeardFits};
 
 use console::Input;
 use run_words::{Asked, Word};
+use std::fs::File;
+use std::io::Error;
 
 // What the words ask for; or a file could not be read, which was told.
 #[derive(Clone, Copy)]
@@ -38,39 +40,54 @@ fn out_buffer() -> [u8; 5925000]
 
 // ---- the words
 
+// The errors of a name that is too long, and of one that is no text: the system's numbers for them.
+const TOO_LONG: i32 = 36;
+const NO_TEXT: i32 = 84;
+
+// A file that is open for reading. What fails is told under the file's name.
+fn open(rt: HostRuntime, name: &[u8]) -> Option<File> {
+    let Ok(path) = std::str::from_utf8(name) else {
+        console::fail(rt, name, &Error::from_raw_os_error(NO_TEXT));
+        return None;
+    };
+    match File::open(&rt, path) {
+        Ok(file) => Some(file),
+        Err(error) => {
+            console::fail(rt, name, &error);
+            None
+        }
+    }
+}
+
 // A file's bytes, fewer than the buffer has places. What fails is told under the file's name.
-fn read_file(name: &[u8], buffer: &mut [u8]) -> Input
+fn read_file(rt: HostRuntime, name: &[u8], buffer: &mut [u8]) -> Input
     ensures { Fits result buffer.new }
 {
-    let fd = os::open_read(name);
-    if fd < 0 {
-        os::fail(name);
+    let Some(mut file) = open(rt, name) else {
         return Input::Failed;
-    }
-    let got = console::read(fd, name, buffer);
-    libc::close(fd);
-    let Input::Is(n) = got else {
+    };
+    let Input::Is(n) = console::read(rt, &mut file, name, buffer) else {
         return Input::Failed;
     };
     if n == buffer.len() {
-        console::say(name);
-        console::say(b": longer than the longest list\n");
+        console::say(rt, name);
+        console::say(rt, b": longer than the longest list\n");
         return Input::Failed;
     }
     Input::Is(n)
 }
 
 // The word that the file stands for that word i names behind its first byte.
-fn file_word(i: usize, buffer: &mut [u8]) -> Input
+fn file_word(rt: HostRuntime, i: usize, buffer: &mut [u8]) -> Input
     ensures { Fits result buffer.new }
 {
-    let mut word = io::buffer();
-    let n = os::arg(i, &mut word);
+    let mut word = [0u8; 4096];
+    let n = console::word(rt, i, &mut word);
     if n == 0 {
-        os::fail(b"@FILE");
+        console::fail(rt, b"@FILE", &Error::from_raw_os_error(TOO_LONG));
         return Input::Failed;
     }
-    let Input::Is(k) = read_file(&word[1..n], buffer) else {
+    let Input::Is(k) = read_file(rt, &word[1..n], buffer) else {
         return Input::Failed;
     };
     let m = arguments::file_word(&mut buffer[..k]);
@@ -78,25 +95,25 @@ fn file_word(i: usize, buffer: &mut [u8]) -> Input
 }
 
 // Word i, or the file's for `@FILE`.
-fn list_word(i: usize, buffer: &mut [u8]) -> Input
+fn list_word(rt: HostRuntime, i: usize, buffer: &mut [u8]) -> Input
     ensures { Fits result buffer.new }
 {
-    let n = os::arg(i, buffer);
+    let n = console::word(rt, i, buffer);
     if n < 2 {
         return Input::Is(n);
     }
     if buffer[0] == b'@' {
-        return file_word(i, buffer);
+        return file_word(rt, i, buffer);
     }
     Input::Is(n)
 }
 
 // Word i, put into a part of a place.
-fn word_at(i: usize, place: &mut [u8], from: usize, to: usize) -> Input
+fn word_at(rt: HostRuntime, i: usize, place: &mut [u8], from: usize, to: usize) -> Input
     requires { (from ≤ to) × (to ≤ length place.old) }
     ensures { EndsBy from to result }
 {
-    let Input::Is(n) = list_word(i, &mut place[from..to]) else {
+    let Input::Is(n) = list_word(rt, i, &mut place[from..to]) else {
         return Input::Failed;
     };
     Input::Is(n)
@@ -104,6 +121,7 @@ fn word_at(i: usize, place: &mut [u8], from: usize, to: usize) -> Input
 
 // What the words ask for, where those of both lists stand in one place; the lists of a run are put into the lent ones.
 fn ask(
+    rt: HostRuntime,
     place: &[u8],
     a: usize,
     second: usize,
@@ -115,10 +133,10 @@ fn ask(
     ensures { AskedFits schedule.new values.new result }
 {
     let mut third = [0u8; 32];
-    let c = os::arg(3, &mut third);
+    let c = console::word(rt, 3, &mut third);
     let mut fourth = [0u8; 32];
-    let d = os::arg(4, &mut fourth);
-    let n = console::word_count();
+    let d = console::word(rt, 4, &mut fourth);
+    let n = console::word_count(rt);
     run_words::ask(
         n,
         &place[..a],
@@ -131,30 +149,31 @@ fn ask(
 }
 
 // The same, with the place lent: the longest word of each list and one byte more.
-fn words(place: &mut [u8], schedule: &mut [u8], values: &mut [i32]) -> Heard
+fn words(rt: HostRuntime, place: &mut [u8], schedule: &mut [u8], values: &mut [i32]) -> Heard
     requires { (1600002 ≤ length place.old) × (most_items ≡ length schedule.old) × (most_items ≡ length values.old) }
     ensures { HeardFits schedule.new values.new result }
 {
-    let Input::Is(a) = word_at(1, place, 0, 400001) else {
+    let Input::Is(a) = word_at(rt, 1, place, 0, 400001) else {
         return Heard::Failed;
     };
-    let Input::Is(b) = word_at(2, place, 400001, 1600002) else {
+    let Input::Is(b) = word_at(rt, 2, place, 400001, 1600002) else {
         return Heard::Failed;
     };
-    Heard::Is(ask(place, a, 400001, 400001 + b, schedule, values))
+    Heard::Is(ask(rt, place, a, 400001, 400001 + b, schedule, values))
 }
 
 // ---- the answer
 
 // Says which word can't be read, and what was expected.
-fn say_word(w: Word) {
+fn say_word(rt: HostRuntime, w: Word) {
     let mut line = [0u8; 256];
     let n = run_words::word_line(w, &mut line);
-    console::say(&line[..n]);
+    console::say(rt, &line[..n]);
 }
 
 // Prints the report of the run that was asked for, or the refusal of the text.
 fn print_run(
+    rt: HostRuntime,
     a: usize,
     b: usize,
     most: usize,
@@ -166,23 +185,23 @@ fn print_run(
     requires { (a ≤ length schedule.now) × (b ≤ length values.now) × (k ≤ most_bytes) × (5925000 ≤ length out.old) }
 {
     let mut text = [0u8; 65537];
-    let Input::Is(n) = console::read_input(&mut text) else {
+    let Input::Is(n) = console::read_input(rt, &mut text) else {
         return;
     };
     let len = run_words::run_asked(a, b, most, k, schedule, values, &text[..n], out);
-    reasons::print(&out[..len]);
+    reasons::print(rt, &out[..len]);
 }
 
-fn answer(asked: Asked, schedule: &[u8], values: &[i32], out: &mut [u8])
+fn answer(rt: HostRuntime, asked: Asked, schedule: &[u8], values: &[i32], out: &mut [u8])
     requires { (AskedFits schedule.now values.now asked) × (5925000 ≤ length out.old) }
 {
     match asked {
-        Asked::Run(a, b, most, k) => print_run(a, b, most, k, schedule, values, out),
-        Asked::Unread(w) => say_word(w),
+        Asked::Run(a, b, most, k) => print_run(rt, a, b, most, k, schedule, values, out),
+        Asked::Unread(w) => say_word(rt, w),
     }
 }
 
-fn main() {
+fn main(rt: HostRuntime) {
     let help = b"run SCHEDULE VALUES MOST LOG < table.txt\n\
         Runs the table on standard input and prints the completed steps, the values used and the stop number, each step, and the state.\n\
         SCHEDULE: the task number of each step, from 0 to 255 with commas between, at most 100000; or none.\n\
@@ -194,15 +213,15 @@ fn main() {
         The standard error stream says why a text is refused or a run stops, and last written=BYTES if all was written.\n\
         Example: three steps of task 0, whose sensor reads 120, with at most 5 dropped nodes each.\n\
         run 0,0,0 120 5 24 < table.txt\n";
-    if console::helped(help) {
+    if console::helped(rt, help) {
         return;
     }
     let mut schedule = task_buffer();
     let mut values = value_buffer();
     // the words stand where the answer is printed from, since both and the log don't fit the default stack
     let mut out = out_buffer();
-    let Heard::Is(asked) = words(&mut out, &mut schedule, &mut values) else {
+    let Heard::Is(asked) = words(rt, &mut out, &mut schedule, &mut values) else {
         return;
     };
-    answer(asked, &schedule, &values, &mut out);
+    answer(rt, asked, &schedule, &values, &mut out);
 }

@@ -1,7 +1,16 @@
 // Prints what the program `run` answers to many words and texts, so that it can be compared with what it should answer. Standard input holds
 // the cases: the words SCHEDULE, VALUES, MOST and LOG and a text, each behind its length in five digits.
 
-fn print(first: &[u8], second: &[u8], third: &[u8], fourth: &[u8], text: &[u8]) {
+use std::io::{Stdin, Stdout};
+
+fn print(
+    to: Stdout,
+    first: &[u8],
+    second: &[u8],
+    third: &[u8],
+    fourth: &[u8],
+    text: &[u8],
+) {
     let mut schedule = [0u8; 100000];
     let mut values = [0i32; 100000];
     let mut out = [0u8; 65536];
@@ -17,27 +26,30 @@ fn print(first: &[u8], second: &[u8], third: &[u8], fourth: &[u8], text: &[u8]) 
         &mut out,
     );
     let n = arguments::length(a);
-    parts::print(&out, n);
+    parts::print(to, &out, n);
 }
 
 // The next case, read into buffers; whether there was none.
 fn last(
+    input: Stdin,
+    to: Stdout,
     first: &mut [u8],
     second: &mut [u8],
     third: &mut [u8],
     fourth: &mut [u8],
     text: &mut [u8],
 ) -> bool {
-    let a = parts::next(first).len;
-    let b = parts::next(second).len;
-    let c = parts::next(third).len;
-    let d = parts::next(fourth).len;
-    let p = parts::next(text);
+    let a = parts::next(input, first).len;
+    let b = parts::next(input, second).len;
+    let c = parts::next(input, third).len;
+    let d = parts::next(input, fourth).len;
+    let p = parts::next(input, text);
     if !p.there {
         return true;
     }
     let n = p.len;
     print(
+        to,
         &first[..a],
         &second[..b],
         &third[..c],
@@ -47,7 +59,7 @@ fn last(
     false
 }
 
-fn main() {
+fn main(rt: HostRuntime) {
     let mut first = [0u8; 512];
     let mut second = [0u8; 512];
     let mut third = [0u8; 32];
@@ -55,7 +67,15 @@ fn main() {
     let mut text = [0u8; 65537];
     let mut left: usize = 100000;
     while left > 0 {
-        if last(&mut first, &mut second, &mut third, &mut fourth, &mut text) {
+        if last(
+            rt.stdin(),
+            rt.stdout(),
+            &mut first,
+            &mut second,
+            &mut third,
+            &mut fourth,
+            &mut text,
+        ) {
             return;
         }
         left -= 1;
