@@ -1,5 +1,5 @@
 // Standard input in parts, each behind its length in five digits; and what is printed of a buffer.
-ghost use Rattle.std.specs.Prelude.{◌≡◌};
+ghost use Rattle.std.specs.Prelude.{◌≡◌, ◌≤◌, length};
 ghost use Rattle.parts.specs.Parts.{digit_of, size_of, PartOf, Next};
 
 use std::io::{Print, Read, Stdin, Stdout};
