@@ -6,7 +6,11 @@ fn main(rt: HostRuntime) {
     let help = b"close < table.txt > closed.txt\n\
         Prints the closed table of the open table on standard input, or refused=N line=L if the text has a fault or is a closed table.\n\
         The standard error stream says why, and last written=BYTES if all was written.\n";
-    if !console::no_words(rt, help, b"word 1: expected no word, as in close < table.txt\n") {
+    if !console::no_words(
+        rt,
+        help,
+        b"word 1: expected no word, as in close < table.txt\n",
+    ) {
         return;
     }
     let mut text = [0u8; 65537];

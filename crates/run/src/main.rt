@@ -42,6 +42,7 @@ fn out_buffer() -> [u8; 5925000]
 
 // The errors of a name that is too long, and of one that is no text: the system's numbers for them.
 const TOO_LONG: i32 = 36;
+
 const NO_TEXT: i32 = 84;
 
 // A file that is open for reading. What fails is told under the file's name.

@@ -3,14 +3,7 @@
 
 use std::io::{Stdin, Stdout};
 
-fn print(
-    to: Stdout,
-    first: &[u8],
-    second: &[u8],
-    third: &[u8],
-    fourth: &[u8],
-    text: &[u8],
-) {
+fn print(to: Stdout, first: &[u8], second: &[u8], third: &[u8], fourth: &[u8], text: &[u8]) {
     let mut schedule = [0u8; 100000];
     let mut values = [0i32; 100000];
     let mut out = [0u8; 65536];
