@@ -11,10 +11,10 @@ fn main() {
         return;
     }
     for library in LIBRARIES {
-        let archive = format!("../target/staticlib/lib{library}.a");
+        let archive = format!("../crates/{library}/out/lib{library}.a");
         println!("cargo:rerun-if-changed={archive}");
         let Ok(found) = Path::new(&archive).canonicalize() else {
-            eprintln!("run rt staticlib {library} first");
+            eprintln!("run rt lib in crates/{library} first");
             std::process::exit(1);
         };
         let folder = found.parent().unwrap_or(&found).display();

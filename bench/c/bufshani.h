@@ -1,5 +1,6 @@
-/* The proved libraries for C: target/staticlib/libbufshani_c.a, made by `rt staticlib bufshani_c`,
-   and for `bufshani_explore` target/staticlib/libexplore_c.a, made by `rt staticlib explore_c`.
+/* The proved libraries for C: crates/bufshani_c/out/libbufshani_c.a, made by `rt lib` in
+   crates/bufshani_c, and for `bufshani_explore` crates/explore_c/out/libexplore_c.a, made by
+   `rt lib` in crates/explore_c.
    A lent slice is a pointer, which is not NULL, and a length. Every call ends; it reads and writes
    only what is lent to it. A buffer that is written overlaps no other slice of the call.
    Numbers are those of documents 01 and 02: a text is refused by 1 to 7, 19 or 20, a short buffer by
