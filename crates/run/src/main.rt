@@ -38,6 +38,13 @@ fn out_buffer() -> [u8; 5925000]
     [0; 5925000]
 }
 
+// Room for a word that names a file.
+fn word_buffer() -> [u8; 4096]
+    ensures { 4096 ≡ length result }
+{
+    [0; 4096]
+}
+
 // ---- the words
 
 // The errors of a name that is too long, and of one that is no text: the system's numbers for them.
@@ -82,7 +89,7 @@ fn read_file(rt: HostRuntime, name: &[u8], buffer: &mut [u8]) -> Input
 fn file_word(rt: HostRuntime, i: usize, buffer: &mut [u8]) -> Input
     ensures { Fits result buffer.new }
 {
-    let mut word = [0u8; 4096];
+    let mut word = word_buffer();
     let n = console::word(rt, i, &mut word);
     if n == 0 {
         console::fail(rt, b"@FILE", &Error::from_raw_os_error(TOO_LONG));
