@@ -18,7 +18,7 @@ under a b h = rw (lt-ltb a b h)
 
 -- a 32-bit number read as 64 bits is the same number
 pub back : {x : ℤ} → SFits w32 x → to_z w64 (of_z w64 (to_z w32 (of_z w32 x))) ≡ x
-back {x} f = ap (λ (z : ℤ). to_z w64 (of_z w64 z)) (to_z-of_z f) ∙ to_z-of_z (sfits_widen tt f)
+back {x} f = ap (λ (z : ℤ). to_z w64 (of_z w64 z)) (to_z-of_z f) ∙ to_z-of_z {w = w64} (sfits_widen (tt {0}) f)
 
 -- a negative number plus 2 ^ 32 is its bits
 pub lifted : (x : ℤ) → SFits w32 x → lt_z x (pos 0) ≡ true → x +ℤ pos 4294967296 ≡ pos (of_z w32 x)

@@ -1,4 +1,7 @@
 // Signed 32-bit values: what each operation of a node gives.
+
+#![tactic(auto)]
+
 ghost use Rattle.std.specs.Prelude.{◌≡◌, ◌+ℤ◌, ◌-ℤ◌, bit_and, bit_or, bit_xor, int_lt};
 ghost use Rattle.std.specs.Int.{w32};
 ghost use Rattle.std.proofs.Common.{of_z, to_z};
