@@ -1,4 +1,7 @@
 // The number of a fault, and two numbers in one, as the library for Rust and C answers them.
+
+#![tactic(auto)]
+
 ghost use Rattle.std.specs.Prelude.{◌≡◌};
 ghost use Rattle.text.specs.Fault.{number as number_of};
 ghost use Rattle.codes.specs.Code.{packed};

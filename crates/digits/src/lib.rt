@@ -1,4 +1,7 @@
 // Decimal numbers of any length, read off bytes.
+
+#![tactic(auto)]
+
 ghost use Rattle.std.specs.Prelude.{◌≡◌, ◌+◌, ◌-◌, ◌*◌, ◌≤◌, true, length, nat_lt};
 ghost use Rattle.text.specs.Number.{spelt, value};
 ghost use Rattle.digits.specs.Read.{digit_of, capped, digits_of, number_of, lead_of, lead_from, four_from, first_of};

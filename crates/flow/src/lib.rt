@@ -1,4 +1,7 @@
 // What one node does to the masks of dirty variables.
+
+#![tactic(auto)]
+
 ghost use Rattle.std.specs.Prelude.{◌≡◌, true, not, ◌||◌, ◌++◌, ◌<◌, ◌^◌, ◌%◌};
 ghost use Rattle.table.specs.Mask.{bit};
 ghost use Rattle.table.specs.Table.{operand_uses, parts};

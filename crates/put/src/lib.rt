@@ -1,6 +1,8 @@
 // Writing values into a lent buffer at a place. Each function gives the place after what it wrote. Those named put write as far as the
 // buffer reaches: on an empty buffer they measure. Those named fill ask for room, and check nothing.
 
+#![tactic(auto)]
+
 ghost use Rattle.std.specs.Prelude.{◌∷◌, [], ◌+◌, ◌*◌, ◌≤◌, ◌<◌, length};
 ghost use Rattle.text.specs.Number.{digits};
 ghost use Rattle.text.specs.Value.{spell_variable};

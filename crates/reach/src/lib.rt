@@ -1,4 +1,7 @@
 // Where the arcs of one procedure lead through the nodes that are not kept.
+
+#![tactic(auto)]
+
 ghost use Rattle.std.specs.Prelude.{◌≡◌, ◌<◌, ◌/◌, ◌%◌, length};
 ghost use Rattle.std.specs.Int.Bits.{bit_or};
 ghost use Rattle.table.specs.Mask.{pick};

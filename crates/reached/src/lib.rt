@@ -1,4 +1,7 @@
 // The nodes of a procedure that some control path from node 0 reaches.
+
+#![tactic(auto)]
+
 ghost use Rattle.std.specs.Prelude.{◌≡◌, ◌%◌};
 ghost use Rattle.std.specs.Int.Count.{count_trailing_zeros};
 ghost use Rattle.table.specs.Mask.{mask_of};

@@ -1,4 +1,7 @@
 // Keys, words and the places of values in a text.
+
+#![tactic(auto)]
+
 ghost use Rattle.std.specs.Prelude.{◌+◌, ◌-◌, ◌≤◌, ◌<◌, ◌≡◌, length, [], ◌∷◌};
 ghost use Rattle.text.specs.Value.{same};
 ghost use Rattle.text.specs.Line.{stops as stopsAt};

@@ -1,4 +1,7 @@
 // The fault of a list that is held as a mask, by its number; 0 is none.
+
+#![tactic(auto)]
+
 ghost use Rattle.std.specs.Prelude.{◌≡◌, false, not, ◌||◌, ◌≤◌};
 ghost use Rattle.table.specs.Mask.{members};
 ghost use Rattle.text.specs.Value.{check, ascending, within, is_one};
