@@ -1,4 +1,7 @@
 // What is dirty in a table, and which nodes are kept.
+
+#![tactic(auto)]
+
 ghost use Rattle.std.specs.Prelude.{◌≡◌, false, ◌<◌, ◌≤◌, ◌^◌, ◌+◌, ◌-◌, ◌*◌, length};
 ghost use Rattle.table.specs.Mask.{mask_of};
 ghost use Rattle.table.specs.Table.{node_in};

@@ -1,5 +1,7 @@
 // What the programs share with the shell: their words, the standard streams, and what is told of a read or a write that failed.
 
+#![tactic(auto)]
+
 ghost use Rattle.std.specs.Prelude.{◌≡◌, ◌≤◌, length};
 ghost use Rattle.text.specs.Number.{bytes};
 ghost use Rattle.text.specs.Value.{same};

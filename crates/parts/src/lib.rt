@@ -1,4 +1,7 @@
 // Standard input in parts, each behind its length in five digits; and what is printed of a buffer.
+
+#![tactic(auto)]
+
 ghost use Rattle.std.specs.Prelude.{◌≡◌, ◌≤◌, length};
 ghost use Rattle.parts.specs.Parts.{digit_of, size_of, PartOf, Next};
 

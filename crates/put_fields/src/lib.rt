@@ -1,6 +1,8 @@
 // Numbers of any size, constants, operations, operands, arguments, and a key with a value of each kind, written into a lent buffer at a place:
 // put and fill as in the crate put.
 
+#![tactic(auto)]
+
 ghost use Rattle.std.specs.Prelude.{◌∷◌, [], ◌++◌, ◌+◌, ◌≤◌, ◌<◌, length};
 ghost use Rattle.table.specs.declared.Operand.TheVariants.{Const};
 ghost use Rattle.text.specs.Number.{digits};

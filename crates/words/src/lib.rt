@@ -1,4 +1,7 @@
 // The words of a text, each read at a place: choices, the kinds of nodes, operations.
+
+#![tactic(auto)]
+
 ghost use Rattle.std.specs.Prelude.{◌≤◌, ◌≡◌, true, false, length};
 ghost use Rattle.text.specs.declared.NodeKind.TheVariants.{Start as start, Read as read};
 ghost use Rattle.text.specs.Value.{kinds, ops};
