@@ -1,4 +1,7 @@
 // The fault of each value and of each node line, by its number; 0 is none.
+
+#![tactic(auto)]
+
 ghost use Rattle.std.specs.Prelude.{◌≡◌, true, not, ◌&&◌, ◌||◌, ℕ, ◌≤◌, ◌<◌};
 ghost use Rattle.table.specs.Table.{is_absent};
 ghost use Rattle.text.specs.Value.{check, from, one_of, operation, operand as operand_of, variable as variable_of, arguments as argumentsOf, none_removed, all_declared};

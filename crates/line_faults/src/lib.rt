@@ -1,4 +1,7 @@
 // The fault of the lines that a hand-made table stands for, by its number; 0 is none.
+
+#![tactic(auto)]
+
 ghost use Rattle.std.specs.Prelude.{◌≡◌, suc, ◌-◌, ◌≤◌, ◌<◌};
 ghost use Rattle.text.specs.Fault.{number as number_of};
 ghost use Rattle.text.specs.Structure.{node_due, gap as gapFault};

@@ -1,4 +1,7 @@
 // The lists of a text, each read at a place.
+
+#![tactic(auto)]
+
 ghost use Rattle.std.specs.Prelude.{◌+◌, ◌≤◌, min, ◌≡◌, true, false, ◌&&◌, not, [], ◌∷◌, eqb, length};
 ghost use Rattle.table.specs.Mask.{pick};
 ghost use Rattle.text.specs.Value.{numeral, said_variable, split, each};

@@ -1,4 +1,7 @@
 // The numbers of a text, each read at a place.
+
+#![tactic(auto)]
+
 ghost use Rattle.std.specs.Prelude.{◌+◌, ◌-◌, ◌≤◌, ◌<◌, length, [], ◌∷◌, ◌≡◌};
 ghost use Rattle.numbers.specs.Numerals.{DigitsTo, NumeralAt, short_of, short_value_of};
 ghost use Rattle.numbers.specs.Answer.{within_of, NumberIn, NumberAt};

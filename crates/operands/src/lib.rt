@@ -1,4 +1,7 @@
 // The operands and variables of a text, each read at a place.
+
+#![tactic(auto)]
+
 ghost use Rattle.std.specs.Prelude.{◌+◌, ◌-◌, ◌≤◌, ◌<◌, ◌≡◌, pos, negsuc, length, [], ◌∷◌};
 ghost use Rattle.std.proofs.Math.Option.{some};
 ghost use Rattle.text.specs.Value.{as_var, as_const, as_negative};

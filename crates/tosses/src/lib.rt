@@ -1,4 +1,7 @@
 // An arc taken, by a toss where it has two or more targets.
+
+#![tactic(auto)]
+
 ghost use Rattle.std.specs.Prelude.{◌≡◌, ◌<◌, ◌≤◌, length, get_or};
 ghost use Rattle.table.specs.Mask.{members};
 ghost use Rattle.tosses.specs.Tosses.{meeting, halting, tossed, arrived_of, straight_of};

@@ -1,0 +1,12 @@
+use Rattle.std.proofs.Common.{rules}
+use Rattle.numbers.specs.ValueLaws.{number_found, number_differs, number_broken}
+use Rattle.numbers.proofs.number_field.Goals as goal
+
+pub returns-in-At : goal.returns-in-At
+returns-in-At c = search (rules, number_found)
+
+pub returns-in-Differs : goal.returns-in-Differs
+returns-in-Differs c = search (rules, number_differs)
+
+pub returns-in-Broken : goal.returns-in-Broken
+returns-in-Broken c = search (rules, number_broken)

@@ -1,0 +1,5 @@
+-- A number is put four digits shorter.
+use Rattle.put_fields.proofs.+put_number.Given as goal
+
+abbrev pub decreases-put_number : goal.decreases-put_number
+decreases-put_number l = l.n
