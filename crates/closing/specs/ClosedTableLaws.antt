@@ -1,6 +1,6 @@
 -- The closed table that is computed is the closed table by the rules, and the only one.
-use Rattle.std.specs.Prelude.{ℕ, zero, suc, ◌+◌, ◌^◌, ◌<◌, ◌≤◌, ◌≡◌, refl, Bool, true, false, ◌&&◌, ◌↔◌, ltb}
-use Rattle.std.proofs.Common.{arith, lt_of_lt_of_le, pow-suc, sym, ◌∙◌, ap₂, true≢false, pow_mono, ext_get_or, ltb-true, lt-ltb}
+use Rattle.std.specs.Prelude.{ℕ, zero, suc, ◌+◌, ◌^◌, ◌<◌, ◌≤◌, ◌≡◌, refl, Bool, true, false, ◌↔◌, ltb}
+use Rattle.std.proofs.Common.{arith, lt_of_lt_of_le, pow-suc, sym, ◌∙◌, true≢false, pow_mono, ext_get_or, ltb-true, lt-ltb}
 use Rattle.std.proofs.Math.Path.{ap}
 use Rattle.std.proofs.lemmas.Bool.{false≢true}
 use Rattle.std.proofs.Math.ListN.{length}
@@ -16,7 +16,7 @@ use Rattle.text.specs.Writer.{fault}
 use Rattle.closing.specs.declared.Closing.{Closing}
 use Rattle.closing.specs.Dirty.{dirty_before, dropped, blank, Dirty}
 use Rattle.closing.specs.ClosedTable.{NewArc, GivesWay, Marked, Becomes, ClosedTable, Answers}
-use Rattle.closing.specs.Closing.{dirty, is_dirty, kept}
+use Rattle.closing.specs.Closing.{dirty, kept}
 use Rattle.closing.specs.DirtyLaws.{dropped_low, dirty_is}
 use Rattle.closing.specs.KeptLaws.{same_test, unkept_is, kept_is}
 use Rattle.closing.specs.Close.{unkept_arcs, new_arc, gives_way, var_or, closed_node, closed_proc, closed_queue, closed_with, close_table, answer, close}

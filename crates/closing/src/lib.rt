@@ -1,3 +1,5 @@
+#![tactic(auto)]
+
 // What the closer answers: the closed table, with number and line 0; or the number of the refusal, with line 0 and a table all 0.
 #[derive(Clone, Copy)]
 pub struct Closing {

@@ -1,5 +1,8 @@
 // The late fault of a node, by its number; 0 is none: an argument count that differs from the callee's, and what only a closed table can
 // have wrong.
+
+#![tactic(auto)]
+
 ghost use Rattle.std.specs.Prelude.{◌≡◌, ◌≤◌, ◌<◌, ◌%◌, ◌^◌, get_or};
 ghost use Rattle.table.specs.Mask.{pick, mask_of};
 ghost use Rattle.table.specs.Table.{no_queue, arg_at};

@@ -1,4 +1,5 @@
 // The state of a run, and what the runner answers.
+#![tactic(auto)]
 
 // An open frame: its procedure, the node before which it stands (below the topmost: its call node), its variables.
 #[derive(Clone, Copy)]

@@ -1,6 +1,6 @@
 -- Demand 3, stated: every completed run of an open table has a completed run of its closed table beside it.
 -- Its proof is Proof3; this file is read by itself, with document 01's "Demand 3 is one claim about a whole run".
-use Rattle.std.specs.Prelude.{ℕ, suc, ◌+◌, ◌*◌, ◌<◌, ◌≤◌, ◌≡◌, false, length, get_or, take, ℤ, pos}
+use Rattle.std.specs.Prelude.{ℕ, ◌+◌, ◌*◌, ◌<◌, ◌≤◌, ◌≡◌, false, length, get_or, take, ℤ, pos}
 use mathlib.Core.List.{List, [], Memᴰ}
 use Rattle.std.proofs.Math.Option.{Option, none, some}
 use Rattle.table.specs.Table.{proc_at, removed, asserted}

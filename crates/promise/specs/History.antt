@@ -1,6 +1,6 @@
 -- The nodes that a run executes in each open frame, kept or dropped: what the last setting of a variable is read from.
 use Rattle.std.specs.Prelude.{ℕ, ◌-◌, Bool, ◌&&◌, List, [], ◌∷◌, ◌++◌, eqb, ℤ}
-use Rattle.std.proofs.Math.Option.{Option, none, some}
+use Rattle.std.proofs.Math.Option.{Option, some}
 use Rattle.table.specs.Mask.{pick}
 use Rattle.table.specs.Table.{node_at, Act, alone, waits, signals, sends, receives, calls, returns, variable_set, act}
 use Rattle.table.specs.declared.Table.{Table}

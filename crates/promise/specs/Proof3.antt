@@ -8,7 +8,7 @@ use Rattle.std.proofs.Math.Option.{Option, none, some}
 use mathlib.Core.List.Memᴰ
 use Rattle.table.specs.Cases.{cases}
 use Rattle.table.specs.Values.{eq_z}
-use Rattle.table.specs.Table.{node_at, proc_at, removed, uses, asserted, parts, map_node}
+use Rattle.table.specs.Table.{node_at, proc_at, removed, asserted, parts, map_node}
 use Rattle.table.specs.ByKind.{by_kind}
 use Rattle.table.specs.declared.Node.{Node}
 use Rattle.table.specs.declared.Node.TheVariants.{Assert}

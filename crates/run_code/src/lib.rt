@@ -1,5 +1,8 @@
 // A table decoded into numbers, for a run: node n of procedure p is row 32 p + n of two arrays.
 // Kinds: 0 none, 1 start, 2 set, 3 test, 4 read, 5 call, 6 wait, 7 signal, 8 send, 9 receive, 10 assert, 11 out, 12 return. `bytes_of` and `words_of` (specs/Code.antt) say what stands where.
+
+#![tactic(auto)]
+
 ghost use Rattle.std.specs.Prelude.{◌≡◌, ℕ, ◌<◌, ◌≤◌, get_or};
 ghost use Rattle.table.specs.Mask.{pick};
 ghost use Rattle.table.specs.Table.{node_in};

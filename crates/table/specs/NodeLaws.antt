@@ -1,5 +1,5 @@
 -- The parts of a node with other arcs and variables, and that it is the same line but for these.
-use Rattle.std.specs.Prelude.{ℕ, ◌≡◌, refl}
+use Rattle.std.specs.Prelude.{ℕ, ◌≡◌}
 use Rattle.table.specs.declared.Node.{Node}
 use Rattle.table.specs.ByKind.{by_kind}
 use Rattle.table.specs.Table.{Exit, ends, by, either, Act, alone, waits, signals, sends, receives, calls, returns, parts, keeping, act, map_args, map_node}

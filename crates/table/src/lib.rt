@@ -1,4 +1,5 @@
 // A task table as a plain value. A caller may make one by hand, faulty or not.
+#![tactic(auto)]
 
 // The number that stands for `-`, a removed variable, where a variable may be removed.
 pub const REMOVED: u8 = 255;

@@ -19,7 +19,7 @@ use Rattle.text.specs.RowLaws.{Faultless, or_left, or_right}
 use Rattle.text.specs.MadeLaws.{line_none}
 use Rattle.text.specs.Value.{NodeKind, start, set_kind, test, read as read_kind, call, wait, signal, send, recv, assert, out, return, ValueKind, Of, spell, check}
 use Rattle.text.specs.ValueLaws.{no, Apart, run_spell}
-use Rattle.text.specs.Line.{Line, end, field, Vals, write, Outcome, took, refused, Parser, onto, ◌>>=◌, give, after, at, broken, stops, run, field_of, line, line_fault}
+use Rattle.text.specs.Line.{Line, end, field, Vals, write, Outcome, took, refused, Parser, onto, ◌>>=◌, give, after, broken, stops, run, field_of, line, line_fault}
 use Rattle.text.specs.LineLaws.{Sound, after_key_lem, field_write, begins, line_write, head_sound, counts_sound, task_sound, sem_sound, queue_sound, proc_sound, node_sound}
 use Rattle.text.specs.Format.{head_line, counts_line, task_line, sem_line, queue_line, proc_line, Scope, fields, node_line, described, describe, task_vals, sem_vals}
 use Rattle.text.specs.Reader.{rows, node_row, slot_of, open_nodes, standing, stands, further_nodes, closed_nodes, nodes_of, proc_row, at_end, body, table, concat_from, late, good, bad, result_of, read_lines, reading, read}

@@ -19,7 +19,7 @@ use Rattle.text.specs.Number.{bytes}
 use Rattle.text.specs.declared.Fault.{Fault}
 use Rattle.text.specs.declared.Fault.TheVariants.{Index}
 use Rattle.text.specs.Value.{NodeKind, ValueKind, spell, check, or_else}
-use Rattle.text.specs.Line.{Line, Vals, write, Outcome, took, refused, Parser, onto, ◌>>=◌, give, at, differs, after, field_of, line, line_fault}
+use Rattle.text.specs.Line.{Line, Vals, write, Outcome, took, refused, Parser, onto, ◌>>=◌, give, differs, after, field_of, line, line_fault}
 use Rattle.text.specs.LineLaws.{Sound, judgement, line_write, head_sound, counts_sound, task_sound, sem_sound, queue_sound, proc_sound, node_sound}
 use Rattle.text.specs.Format.{head_line, counts_line, task_line, sem_line, queue_line, proc_line, Scope, node_line, fields, set_of, node_of, Described, no_line, described, describe, task_of, task_vals, sem_of, sem_vals}
 use Rattle.text.specs.Reader.{rows, queue_of, Numbered, node_row, slot_of, open_nodes, stands, further_nodes, closed_nodes, nodes_of, proc_of, scope_of, proc_row, body, table, concat_from}

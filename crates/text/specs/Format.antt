@@ -1,5 +1,5 @@
 -- Document 01, "The table text": each line, with its keys in the order shown and the kinds of their values.
-use Rattle.std.specs.Prelude.{ℕ, ◌+◌, ◌-◌, min, List, [], ◌∷◌, ◌++◌, map, Bool, true, false, not, eqb, length, get_or, take, replicate}
+use Rattle.std.specs.Prelude.{ℕ, ◌-◌, min, List, [], ◌∷◌, ◌++◌, map, Bool, true, false, not, eqb, length, get_or, take, replicate}
 use Rattle.std.proofs.Math.Option.{Option, none, some}
 use Rattle.table.specs.Mask.{pick, members, mask_of}
 use Rattle.table.specs.Table.{removed, arg_places}

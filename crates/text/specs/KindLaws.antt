@@ -1,6 +1,6 @@
 -- What `if let` tells of a node: in its `else` the kind is another.
-use Rattle.std.specs.Prelude.{ℕ, zero, suc, ◌≡◌, refl, List, [], ◌∷◌, Bool, true, false, eqb}
-use Rattle.std.proofs.Common.{sym, ◌∙◌, ap, inl, inr, eq-eqb, eqb-true, ne_eqb}
+use Rattle.std.specs.Prelude.{ℕ, zero, suc, ◌≡◌, refl, List, [], ◌∷◌, true, false, eqb}
+use Rattle.std.proofs.Common.{sym, ◌∙◌, ap, inl, inr, eq-eqb, ne_eqb}
 use types.Run.{OneOf}
 use denote.Enum.Declared.{tag_of}
 use Rattle.std.proofs.lemmas.Bool.{eqb-false}

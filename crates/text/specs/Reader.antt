@@ -1,5 +1,5 @@
 -- What the reader answers to any list of bytes.
-use Rattle.std.specs.Prelude.{ℕ, zero, suc, ◌+◌, ◌-◌, List, [], ◌∷◌, ◌++◌, Bool, true, false, ◌&&◌, ◌||◌, not, ltb, eqb, length, set, replicate}
+use Rattle.std.specs.Prelude.{ℕ, zero, suc, List, [], ◌∷◌, ◌++◌, Bool, true, false, ◌&&◌, ◌||◌, not, ltb, eqb, length, set, replicate}
 use Rattle.std.proofs.Math.Option.{Option, none, some}
 use Rattle.table.specs.Mask.{pick, bit}
 use Rattle.table.specs.Table.{no_task, no_sem, no_queue, no_proc, no_slots, no_table, task_at, queue_at, proc_at, node_in, node_at, removed, arg_at, Act, alone, waits, signals, sends, receives, calls, returns, act, arcs, is_absent}

@@ -1,6 +1,6 @@
 -- A value, and a line, has no fault if and only if it is right.
 use Rattle.std.specs.Prelude.{ℕ, zero, suc, ◌≤◌, ◌<◌, ◌≡◌, refl, ◌↔◌, List, [], ◌∷◌, Bool, true, false, ◌&&◌, ◌||◌, not, ltb, leb, pos, negsuc, length, get_or}
-use Rattle.std.proofs.Common.{sym, arith, ltb-true, lt-ltb, leb-true, le-leb}
+use Rattle.std.proofs.Common.{arith, ltb-true, lt-ltb, leb-true, le-leb}
 use Rattle.std.proofs.Math.Option.{Option, none, some}
 use Rattle.std.proofs.lemmas.Bool.{false≢true, not-true}
 use Rattle.table.specs.declared.Operand.{Operand}

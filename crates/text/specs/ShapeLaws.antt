@@ -1,7 +1,7 @@
 -- A function that is handed a table knows its shape and its bounds, since the value is of its type. A proof says of its first parameter
 -- `shaped c.args.t (_, c.good.0)`, and of what a call of f gave `shaped c.f.result (_, c.f.ok)`.
-use Rattle.std.specs.Prelude.{ℕ, zero, suc, ◌^◌, ◌≤◌, ◌<◌, ◌≡◌, List, [], ◌∷◌, map, length, get_or}
-use Rattle.std.proofs.Common.{sym, ◌∙◌, arith, rules}
+use Rattle.std.specs.Prelude.{ℕ, zero, suc, ◌^◌, ◌≤◌, ◌<◌, ◌≡◌, List, [], ◌∷◌, length, get_or}
+use Rattle.std.proofs.Common.{arith, rules}
 use mir.Val.{Val}
 use denote.Laws.{Is}
 use denote.Shadow.{shadow}

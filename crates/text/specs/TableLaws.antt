@@ -9,7 +9,6 @@ use Rattle.table.specs.Cases.{cases}
 use Rattle.table.specs.Table.{no_slot, no_task, no_sem, no_queue, no_proc, no_slots, outside, task_at, sem_at, queue_at, proc_at, node_in, node_at, arc_to, arc_no, is_absent, parts}
 use Rattle.table.specs.Shape.{Shaped}
 use Rattle.table.specs.declared.Node.{Node}
-use Rattle.table.specs.declared.Node.TheVariants.{Absent}
 use Rattle.table.specs.declared.Slot.{Slot}
 use Rattle.table.specs.declared.Task.{Task}
 use Rattle.table.specs.declared.Sem.{Sem}

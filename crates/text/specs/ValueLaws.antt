@@ -13,7 +13,7 @@ use Rattle.table.specs.declared.Op.TheVariants.{Add, Sub, And, Or, Xor, Shr, Lt,
 use Rattle.text.specs.Number.{bytes, digits, spelt, value, all_digits}
 use Rattle.text.specs.NumberLaws.{and_left, and_right, all_head, all_tail, spelt_digits, digits_all, digits_first, value_digits, digits_value}
 use Rattle.text.specs.ByWord.{by_word}
-use Rattle.text.specs.Value.{NodeKind, start, set_kind, test, read, call, wait, signal, send, recv, assert, out, return, ValueKind, number, choice, kind, operation, operand, variable, ascending, arguments, Of, kind_word, kinds, op_word, ops, same, named, chosen, numeral, spell_variable, as_variable, said_variable, spell_operand, as_var, as_const, as_negative, said_operand, commas, spell_list, split, followed, each, said_list, spell, said}
+use Rattle.text.specs.Value.{NodeKind, ValueKind, number, choice, kind, operation, operand, variable, ascending, arguments, Of, kind_word, kinds, op_word, ops, same, named, chosen, numeral, spell_variable, as_variable, said_variable, spell_operand, as_var, as_const, as_negative, said_operand, commas, spell_list, split, followed, each, said_list, spell, said}
 use Rattle.text.specs.Line.{stops, run}
 
 -- from an equation between different constructors anything follows: `no (cc)`

@@ -1,5 +1,5 @@
 -- The lines that a table stands for, the fault of a hand-made table, and what the writer writes.
-use Rattle.std.specs.Prelude.{ℕ, zero, suc, List, [], ◌∷◌, ◌++◌, Bool, true, false, ◌&&◌, ◌||◌, not, ltb, eqb, length, drop}
+use Rattle.std.specs.Prelude.{ℕ, zero, suc, List, [], ◌++◌, Bool, true, false, ◌&&◌, ◌||◌, not, ltb, eqb, length, drop}
 use Rattle.table.specs.Mask.{members}
 use Rattle.table.specs.Table.{task_at, sem_at, queue_at, proc_at, node_in, arg_places, Act, alone, waits, signals, sends, receives, calls, returns, act, is_absent}
 use Rattle.table.specs.declared.Node.{Node}

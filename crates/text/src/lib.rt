@@ -1,4 +1,5 @@
 // The faults of texts and tables, and what the reader and the writer answer.
+#![tactic(auto)]
 
 #[derive(Clone, Copy)]
 pub enum Fault {

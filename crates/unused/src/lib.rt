@@ -1,4 +1,7 @@
 // The places of a hand-made table that are not used.
+
+#![tactic(auto)]
+
 ghost use Rattle.std.specs.Prelude.{◌≡◌, true, ◌≤◌, drop};
 ghost use Rattle.table.specs.Table.{arg_places};
 ghost use Rattle.text.specs.Writer.{every, is_zero, args_empty, tidy};

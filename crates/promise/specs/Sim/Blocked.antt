@@ -1,5 +1,5 @@
 -- What follows from the states' agreement alone: each task stands before the same node, closed, and is blocked in the one run exactly if in the other.
-use Rattle.std.specs.Prelude.{ℕ, ◌-◌, ◌<◌, ◌≤◌, ◌≡◌, true, get_or, pos}
+use Rattle.std.specs.Prelude.{ℕ, ◌-◌, ◌<◌, ◌≤◌, ◌≡◌, true}
 use Rattle.std.proofs.Common.{arith, sym, ◌∙◌}
 use Rattle.std.proofs.Math.Path.{refl, ap, ap₂}
 use Rattle.std.proofs.Math.Dec.{eqb, leb}
@@ -9,7 +9,6 @@ use Rattle.table.specs.declared.Table.{Table}
 use Rattle.closing.specs.Closing.{dirty}
 use Rattle.closing.specs.Close.{var_or, closed_node, close_table}
 use Rattle.closing.specs.CloseLaws.{close_cap, kept_node}
-use Rattle.machine.specs.declared.Entries.{Entries}
 use Rattle.machine.specs.declared.State.{State}
 use Rattle.machine.specs.State.{open_frames, frame_at, topmost, sem_count, stands_before, blocked_at, blocked}
 use Rattle.promise.specs.History.{History, last_setting}

@@ -1,5 +1,5 @@
 -- What a step notes in the histories, and what a call passes to the frame that it opens.
-use Rattle.std.specs.Prelude.{ℕ, zero, suc, ◌<◌, ◌≡◌, refl, ◌≢◌, true, false, List, [], ◌++◌, eqb, ltb, ℤ, pos}
+use Rattle.std.specs.Prelude.{ℕ, zero, ◌<◌, ◌≡◌, refl, ◌≢◌, true, false, List, [], ◌++◌, eqb, ltb, ℤ, pos}
 use Rattle.std.proofs.Common.{arith, ◌∙◌, ap}
 use Rattle.std.proofs.Math.Nat.{zero-add}
 use Rattle.std.proofs.Math.Path.{sym}
@@ -7,7 +7,7 @@ use Rattle.std.proofs.Math.Option.{some}
 use Rattle.std.proofs.Math.ListN.{get_elem?}
 use borrow.Author.Tests.{eqb-true, eq-eqb, ne_eqb, ltb-true, lt-ltb}
 use Rattle.table.specs.Cases.{cases}
-use Rattle.table.specs.Table.{node_at, arg_places, arg_at, arg_list, calls, parts, uses, act, arc_to, map_args, map_node}
+use Rattle.table.specs.Table.{node_at, arg_places, arg_at, arg_list, calls, parts, act, arc_to, map_args, map_node}
 use Rattle.table.specs.declared.Args.{Args}
 use Rattle.table.specs.declared.Node.{Node}
 use Rattle.table.specs.declared.Node.TheVariants.{Call}

@@ -1,7 +1,7 @@
 -- The logs of the two runs: entries that agree, written at the same place, leave logs that agree.
-use Rattle.std.specs.Prelude.{ℕ, suc, ◌+◌, ◌*◌, ◌<◌, ◌≤◌, ◌≡◌, refl, true, List, ◌∷◌, length, get_or, eqb, ℤ}
+use Rattle.std.specs.Prelude.{ℕ, suc, ◌+◌, ◌*◌, ◌<◌, ◌≤◌, ◌≡◌, true, List, ◌∷◌, length, get_or, eqb, ℤ}
 use Rattle.std.proofs.Common.{arith, add-zero, add_assoc, sym, ◌∙◌, ap, inl, inr, true≢false, eqb-true}
-use Rattle.std.proofs.Math.Option.{Option, none, some}
+use Rattle.std.proofs.Math.Option.{Option, none}
 use Rattle.std.proofs.lemmas.List.Edits.{sets}
 use Rattle.std.proofs.lemmas.Bool.{eqb-false}
 use Rattle.table.specs.Cases.{cases}
