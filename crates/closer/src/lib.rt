@@ -1,4 +1,7 @@
 // The closed table of an open one.
+
+#![tactic(auto)]
+
 ghost use Rattle.std.specs.Prelude.{◌≡◌, ℕ, ◌<◌, ◌%◌, length, get_or};
 ghost use Rattle.table.specs.Mask.{pick, bit};
 ghost use Rattle.table.specs.Table.{removed, proc_at, outside};

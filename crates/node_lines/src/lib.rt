@@ -1,5 +1,7 @@
 // Writing a node's line into a lent buffer at a place, with room for it. Each function gives the place after what it wrote.
 
+#![tactic(auto)]
+
 ghost use Rattle.std.specs.Prelude.{[], ◌+◌, ◌≤◌, length};
 ghost use Rattle.put.specs.Put.{Put};
 ghost use Rattle.node_lines.specs.NodeLines.{node, to_text, operands_text, arcs_text, number_text, variable_text, pass_text, start_text, call_text, set_text, test_text, return_text, node_bytes, FewArgs};

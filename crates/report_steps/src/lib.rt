@@ -1,6 +1,8 @@
 // The lines of a run's steps, written from its log into a lent buffer. Each function writes at a place, as far as the buffer reaches, and
 // gives the place after what it wrote.
 
+#![tactic(auto)]
+
 ghost use Rattle.std.specs.Prelude.{◌≡◌, ◌∷◌, [], ◌++◌, ℕ, ◌+◌, ◌*◌, ◌≤◌, ◌<◌, length};
 ghost use Rattle.text.specs.Number.{bytes};
 ghost use Rattle.text.specs.Reader.{concat_from};

@@ -1,6 +1,8 @@
 // Lists of values in the report of a run, written into a lent buffer. Each function writes at a place, as far as the buffer reaches, and
 // gives the place after what it wrote.
 
+#![tactic(auto)]
+
 ghost use Rattle.std.specs.Prelude.{◌≡◌, ◌∷◌, [], ◌++◌, ◌≤◌, length};
 ghost use Rattle.put.specs.Put.{Put};
 ghost use Rattle.machine.specs.State.{var_at};

@@ -5,12 +5,20 @@ use mathlib.Core.Path.{◌≡◌, refl, sym, ◌∙◌, ap}
 use mathlib.Core.List.{List, [], ◌∷◌}
 use lib.ListN.{length, get_or, set, replicate, length-set, length-replicate, get_or-replicate}
 use lib.Seq.{get_or-set_same, get_or-set_other}
-use Rattle.table.specs.Table.{parts, no_queue}
+use Rattle.table.specs.Table.{parts, no_queue, node_at}
+use Rattle.table.specs.declared.Table.{Table}
 use Rattle.table.specs.declared.Node.{Node}
 use Rattle.table.specs.declared.Node.TheVariants.{Absent}
 use Rattle.table.specs.declared.Queue.{Queue}
 use Rattle.text.specs.NumberLaws.{by_order}
 use Rattle.run_code.specs.Code.{eight, bytes_of, consts_of, words_of, queue_caps, Laid}
+
+-- the rows of node n of procedure p
+abbrev pub bytes_at : Table → List ℕ → List ℕ → ℕ → ℕ → List ℕ
+bytes_at t caps keep p n = bytes_of caps (get_or keep p 0) (node_at t p n)
+
+abbrev pub words_at : Table → ℕ → ℕ → List ℕ
+words_at t p n = words_of (node_at t p n)
 
 -- eight queues' capacities
 pub caps_are : (l : List Queue) → length l ≡ 8

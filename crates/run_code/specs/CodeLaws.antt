@@ -28,7 +28,7 @@ operand_of_lem (Const (negsuc x)) h = ap Const (to_z-of_z {w = w32} (record { sf
 
 number_low : (o : Op) → op_number o < 8
 unfolding op_number
-number_low o = elim o [ Add ↦ omega arith | Sub ↦ omega arith | And ↦ omega arith | Or ↦ omega arith | Xor ↦ omega arith | Shr ↦ omega arith | Lt ↦ omega arith | Eq ↦ omega arith ]
+number_low o = elim o as (λ k. op_number k < 8) [ Add ↦ omega arith | Sub ↦ omega arith | And ↦ omega arith | Or ↦ omega arith | Xor ↦ omega arith | Shr ↦ omega arith | Lt ↦ omega arith | Eq ↦ omega arith ]
 
 kept_near : (k : ℕ) (l : List ℕ) → (one_kept k l ≡ 0 → ⊥) → (l ≡ one_kept k l ∷ []) × (bit (one_kept k l) k ≡ true)
 kept_near k [] h = absurd (h refl)

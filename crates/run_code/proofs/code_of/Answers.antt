@@ -23,13 +23,12 @@ returns-in-Set c = rw c.in-Set.is (cc)
 
 pub returns-in-Test : goal.returns-in-Test
 unfolding bytes_of consts_of parts
-returns-in-Test c = let x = c.x-in-Test-1.given in
-    let number = c.op_number-in-Test.ensures in
+returns-in-Test c = let number = c.op_number-in-Test.ensures in
     let first = c.var-in-Test.ensures in
     let second = c.var-in-Test-2.ensures in
     let no = c.straight-in-Test.ensures in
     let yes = c.straight-in-Test-2.ensures in
-    rw x.1 (c.computing-in-Test.ensures ∙ (λ i. rows_of (eight 3 (number i) (first i) (second i) 0 0 (no i) (yes i)) (const_of x.0.1.0) (const_of x.0.1.1.0) x.0.1.1.1.0 x.0.1.1.1.1.0))
+    rw c.in-Test.is (c.computing-in-Test.ensures ∙ (λ i. rows_of (eight 3 (number i) (first i) (second i) 0 0 (no i) (yes i)) (const_of c.in-Test.a) (const_of c.in-Test.b) c.in-Test.yes c.in-Test.no))
 
 pub returns-in-Read : goal.returns-in-Read
 unfolding bytes_of consts_of parts

@@ -6,14 +6,8 @@ use Rattle.table.specs.declared.Table.{Table}
 use Rattle.masks.specs.Cells.{set_more}
 use Rattle.run_code.specs.Ready.{Ready}
 use Rattle.run_code.specs.Code.{bytes_of, words_of, takes_of}
-use Rattle.run_code.proofs.Rows.{bytes_none, words_none, rowed_none, rowed_more, rowed_all}
+use Rattle.run_code.proofs.Rows.{bytes_at, words_at, bytes_none, words_none, rowed_none, rowed_more, rowed_all}
 use Rattle.run_code.proofs.decode.Goals as goal
-
-abbrev bytes_at : Table → List ℕ → List ℕ → ℕ → ℕ → List ℕ
-bytes_at t caps keep p n = bytes_of caps (get_or keep p 0) (node_at t p n)
-
-abbrev words_at : Table → ℕ → ℕ → List ℕ
-words_at t p n = words_of (node_at t p n)
 
 zeros : (n k : ℕ) → get_or {A = ℕ} (replicate n 0) k 0 ≡ 0
 zeros zero k = refl

@@ -2,14 +2,8 @@ use Rattle.std.proofs.Common.{◌≡◌, List, ℕ, ◌-◌, ◌≤◌, ◌<◌,
 use Rattle.table.specs.Table.{node_at}
 use Rattle.table.specs.declared.Table.{Table}
 use Rattle.run_code.specs.Code.{bytes_of, words_of, takes_of}
-use Rattle.run_code.proofs.Rows.{Rowed}
+use Rattle.run_code.proofs.Rows.{bytes_at, words_at, Rowed}
 use Rattle.run_code.proofs.decode.Given as goal
-
-abbrev bytes_at : Table → List ℕ → List ℕ → ℕ → ℕ → List ℕ
-bytes_at t caps keep p n = bytes_of caps (get_or keep p 0) (node_at t p n)
-
-abbrev words_at : Table → ℕ → ℕ → List ℕ
-words_at t p n = words_of (node_at t p n)
 
 abbrev pub invariant-loop-p : goal.invariant-loop-p
 invariant-loop-p l = (l.p ≤ l.procs) × Rowed (bytes_at l.t l.caps l.keep) (replicate 8 0) l.p l.code × Rowed (words_at l.t) (replicate 4 0) l.p l.words × (length l.r ≡ 8) × ((k : ℕ) → k < l.p → get_or l.r k 0 ≡ takes_of l.t k) × ((k : ℕ) → l.p ≤ k → get_or l.r k 0 ≡ 0)

@@ -1,0 +1,7 @@
+use Rattle.std.proofs.Common.{arith}
+use Rattle.put.specs.PutLaws.{put_more, put_after}
+use Rattle.node_lines.specs.NodeLineLaws.{index_then}
+use Rattle.node_lines.proofs.fill_pass.Goals as goal
+
+pub returns : goal.returns
+returns c = put_more (omega arith) (index_then _ c.fill_index-a.ensures (put_after c.fill_text-b.ensures (put_after c.fill_small-c.ensures (put_after c.fill_text-d.ensures (put_after c.fill_variable-e.ensures c.fill_arc.ensures)))))
