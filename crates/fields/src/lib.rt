@@ -1,4 +1,7 @@
 // The refusals of fields that were not read.
+
+#![tactic(auto)]
+
 ghost use Rattle.std.specs.Prelude.{◌≡◌};
 ghost use Rattle.fields.specs.Answer.{number_fault, choice_fault, end_fault, kind_fault, op_fault, operand_fault, set_fault, args_fault};
 

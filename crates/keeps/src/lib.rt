@@ -1,5 +1,7 @@
 // The nodes that count as kept: by the closer's analysis in an open table, all in a closed one.
 
+#![tactic(auto)]
+
 ghost use Rattle.std.specs.Prelude.{◌≡◌};
 ghost use Rattle.text.specs.Writer.{fault};
 ghost use Rattle.keeps.specs.Keeps.{Keeps};

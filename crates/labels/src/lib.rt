@@ -1,6 +1,8 @@
 // Writing what a node says into a lent buffer. Each function writes at a place, as far as the buffer reaches, and gives the place after what
 // it wrote.
 
+#![tactic(auto)]
+
 ghost use Rattle.std.specs.Prelude.{◌≡◌, ◌++◌, ◌*◌, ◌≤◌, ◌<◌, length};
 ghost use Rattle.table.specs.Table.{arg_at};
 ghost use Rattle.text.specs.Number.{bytes, digits};

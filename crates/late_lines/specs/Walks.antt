@@ -29,7 +29,7 @@ onward (suc n) a b = a
 
 number_some : (f : Fault) (a b : At) → onward (number f) a b ≡ a
 unfolding number
-number_some f a b = elim f [ Long ↦ refl | Form ↦ refl | Misspelt ↦ refl | Ended ↦ refl | Range ↦ refl | Index ↦ refl | Reference ↦ refl | Arguments ↦ refl | Unclosed ↦ refl | Unused ↦ refl | Short ↦ refl ]
+number_some f a b = elim f as (λ k. onward (number k) a b ≡ a) [ Long ↦ refl | Form ↦ refl | Misspelt ↦ refl | Ended ↦ refl | Range ↦ refl | Index ↦ refl | Reference ↦ refl | Arguments ↦ refl | Unclosed ↦ refl | Unused ↦ refl | Short ↦ refl ]
 
 at_append : (l : ℕ) (xs ys : List (Option Fault)) → first_at l (xs ++ ys) ≡ onward (first_at l xs).number (first_at l xs) (first_at (first_at l xs).line ys)
 unfolding first_at
@@ -62,7 +62,7 @@ pub step_is : (l : ℕ) (b : Bool) (o : Option Fault) → first_at l (pick b [] 
 unfolding first_at number
 step_is l true o = let e : l ≡ l + 0 = omega arith in rw (← e)
 step_is l false none = let e : suc l ≡ l + 1 = omega arith in rw e
-step_is l false (some f) = elim f [ Long ↦ refl | Form ↦ refl | Misspelt ↦ refl | Ended ↦ refl | Range ↦ refl | Index ↦ refl | Reference ↦ refl | Arguments ↦ refl | Unclosed ↦ refl | Unused ↦ refl | Short ↦ refl ]
+step_is l false (some f) = elim f as (λ k. first_at l (some k ∷ []) ≡ step_at (numbered (some k)) 1 l) [ Long ↦ refl | Form ↦ refl | Misspelt ↦ refl | Ended ↦ refl | Range ↦ refl | Index ↦ refl | Reference ↦ refl | Arguments ↦ refl | Unclosed ↦ refl | Unused ↦ refl | Short ↦ refl ]
 
 pub step_good : (r k l : ℕ) → r ≡ 0 → ◌≡◌ {A = At} (record { number = 0; line = l + k }) (step_at r k l)
 step_good r k l e = rw e

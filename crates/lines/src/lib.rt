@@ -1,6 +1,8 @@
 // Writing each line of a table's text into a lent buffer at a place, as far as the buffer reaches: on an empty buffer it measures. Each
 // function gives the place after what it wrote.
 
+#![tactic(auto)]
+
 ghost use Rattle.std.specs.Prelude.{◌≤◌, length};
 ghost use Rattle.put.specs.Put.{Put, FieldAt, LineAt};
 ghost use Rattle.lines.specs.Lines.{pair_text, counts_text, head_text, blank_text, queue_text, drop_text, proc_line_text};

@@ -1,5 +1,7 @@
 // What the programs say on the standard error stream of a text that they printed: the reason of a refusal, or of a run's stop.
 
+#![tactic(auto)]
+
 ghost use Rattle.std.specs.Prelude.{◌≡◌, ◌++◌, ◌∷◌, [], ◌≤◌, ◌<◌, length};
 ghost use Rattle.closing.specs.Reasons.{reason, place, reason_line, stop_line, stopped_line, of_stop, explained, written_line};
 ghost use Rattle.text.specs.Line.{line};

@@ -1,5 +1,7 @@
 // The line that the programs print of a refusal.
 
+#![tactic(auto)]
+
 ghost use Rattle.closing.specs.Program.{refused_line};
 ghost use Rattle.put.specs.Put.{Put};
 

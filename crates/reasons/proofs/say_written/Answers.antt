@@ -1,0 +1,6 @@
+-- The words fit their place.
+use Rattle.std.proofs.Common.{sym, length-take-le, arith}
+use Rattle.reasons.proofs.say_written.Goals as goal
+
+pub slice_bounds-say-end : goal.slice_bounds-say-end
+slice_bounds-say-end c = sym (length-take-le _ _ (omega arith))
