@@ -1,6 +1,8 @@
 // The caption of a table's graphs, written into a lent buffer. Each function writes at a place, as far as the buffer reaches, and gives the
 // place after what it wrote.
 
+#![tactic(auto)]
+
 ghost use Rattle.std.specs.Prelude.{◌*◌, ◌≤◌, get_or};
 ghost use Rattle.table.specs.Table.{no_sem, no_queue};
 ghost use Rattle.text.specs.Reader.{concat_from};

@@ -1,6 +1,8 @@
 // Writing an edge of a control-flow graph in the language DOT into a lent buffer. Each function writes at a place, as far as the buffer
 // reaches, and gives the place after what it wrote.
 
+#![tactic(auto)]
+
 ghost use Rattle.std.specs.Prelude.{◌≤◌, length};
 ghost use Rattle.put.specs.Put.{Put, FieldAt, LineAt};
 ghost use Rattle.labels.specs.Label.{SaysAt};

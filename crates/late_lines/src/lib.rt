@@ -1,4 +1,7 @@
 // The first late fault of some lines, with its line.
+
+#![tactic(auto)]
+
 ghost use Rattle.std.specs.Prelude.{◌≡◌, not, [], ◌∷◌, ◌+◌, ◌≤◌, ◌<◌, ◌^◌};
 ghost use Rattle.table.specs.Mask.{pick, bit};
 ghost use Rattle.table.specs.Table.{is_absent};

@@ -1,4 +1,7 @@
 // The lines of a text before its node lines, each read at a place.
+
+#![tactic(auto)]
+
 ghost use Rattle.std.specs.Prelude.{◌≤◌, ◌<◌, length, true, false};
 ghost use Rattle.text.specs.Format.{head_line, counts_line, task_line, sem_line, blank_field, task_of, sem_of};
 ghost use Rattle.fields.specs.Answer.{LineAt};

@@ -1,6 +1,8 @@
 // The report of a run, written into a lent buffer. Each function writes at a place, as far as the buffer reaches, and gives the place after
 // what it wrote: on an empty buffer it measures.
 
+#![tactic(auto)]
+
 ghost use Rattle.std.specs.Prelude.{◌*◌, ◌≤◌};
 ghost use Rattle.text.specs.Reader.{concat_from};
 ghost use Rattle.put.specs.Put.{Put, LinesAt};

@@ -1,6 +1,8 @@
 // The lines of a state's tasks and their frames, written into a lent buffer. Each function writes at a place, as far as the buffer reaches,
 // and gives the place after what it wrote.
 
+#![tactic(auto)]
+
 ghost use Rattle.std.specs.Prelude.{◌≡◌, ◌++◌, ◌*◌, ◌≤◌, ◌<◌, get_or};
 ghost use Rattle.text.specs.Reader.{concat_from};
 ghost use Rattle.put.specs.Put.{Put, LinesAt};

@@ -1,6 +1,8 @@
 // Writing a table's text into a lent buffer. Each function writes at a place, as far as the buffer reaches, and gives the place after
 // what it wrote: on an empty buffer it measures.
 
+#![tactic(auto)]
+
 ghost use Rattle.std.specs.Prelude.{◌*◌, ◌≤◌, get_or};
 ghost use Rattle.table.specs.Table.{no_task, no_sem, no_queue};
 ghost use Rattle.text.specs.Reader.{concat_from};

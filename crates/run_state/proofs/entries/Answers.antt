@@ -1,5 +1,5 @@
 -- `run_state::entries` answers the first eight cells of a row.
-use Rattle.std.proofs.Common.{arith, ◌∙◌, ap, List, ◌∷◌, ℤ, pos, w32, to_z-of_z, ℕ}
+use Rattle.std.proofs.Common.{[], arith, ◌∙◌, ap, List, ◌∷◌, ℤ, pos, w32, to_z-of_z, ℕ}
 use Rattle.machine.specs.declared.Entries.{Entries}
 use Rattle.run_state.specs.BeginLaws.{tab_take}
 use Rattle.run_state.proofs.entries.Goals as goal

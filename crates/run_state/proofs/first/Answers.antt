@@ -26,4 +26,4 @@ returns c = let a = c.args in
     let m = c.loop-i-2 in
     let i : l.i ≡ a.tasks = omega (arith, l.invariant.0, l.invariant.1.0, c.loop-i-test.false) in
     let j : m.i ≡ 8 = omega (arith, m.invariant.0, c.loop-i-2-test.false) in
-    m.invariant.1 a.t2 l.i l.invariant.1.1 ∙ (λ ι. marks_of (with_sems (started a.t2 (i ι)) (counted a.t3 (j ι))))
+    m.invariant.1 a.task l.i l.invariant.1.1 ∙ (λ ι. marks_of (with_sems (started a.task (i ι)) (counted a.sem (j ι))))

@@ -1,5 +1,5 @@
 -- `run_state::frames` answers the frames that the arrays hold, one at each place.
-use Rattle.std.proofs.Common.{arith, refl}
+use Rattle.std.proofs.Common.{[], arith, refl}
 use Rattle.run_state.specs.Begins.{frame_of}
 use Rattle.table.specs.Places.{fill}
 use Rattle.run_state.proofs.frames.Goals as goal

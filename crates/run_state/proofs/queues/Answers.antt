@@ -1,5 +1,5 @@
 -- `run_state::queues` answers the queues' entries that the arrays hold, one at each place.
-use Rattle.std.proofs.Common.{arith, refl, ◌+◌}
+use Rattle.std.proofs.Common.{[], arith, refl, ◌+◌}
 use Rattle.run_state.specs.Begins.{queue_of}
 use Rattle.table.specs.Places.{fill}
 use Rattle.run_state.proofs.queues.Goals as goal

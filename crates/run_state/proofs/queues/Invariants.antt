@@ -1,4 +1,4 @@
-use Rattle.std.proofs.Common.{◌-◌, ◌≤◌}
+use Rattle.std.proofs.Common.{[], ◌-◌, ◌≤◌}
 use Rattle.run_state.specs.Begins.{queue_of}
 use Rattle.table.specs.Places.{Filled}
 use Rattle.run_state.proofs.queues.Given as goal

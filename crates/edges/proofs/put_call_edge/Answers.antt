@@ -1,0 +1,6 @@
+use Rattle.std.proofs.Common.{arith}
+use Rattle.put.specs.PutLaws.{put_after, put_more}
+use Rattle.edges.proofs.put_call_edge.Goals as goal
+
+pub returns : goal.returns
+returns c = put_more (omega arith) (put_after c.put_name-a.ensures (put_after c.put_text-b.ensures (put_after c.put_name-c.ensures c.put_text.ensures)))

@@ -1,0 +1,23 @@
+use Rattle.std.proofs.Common.{rules}
+use Rattle.text.specs.Format.{node_of}
+use Rattle.fields.specs.FieldLaws.{variable_next, variable_stop, variable_within}
+use Rattle.nodes.specs.NodeLaws.{last_got, last_stop, out_to}
+use Rattle.nodes.proofs.out_node.Goals as goal
+
+pub variable_field-name-requires : goal.variable_field-name-requires
+variable_field-name-requires c = search (rules, variable_within)
+
+pub returns-in_default : goal.returns-in_default
+unfolding node_of
+returns-in_default c = search (rules, variable_next, variable_stop)
+
+pub targets_end-last-requires : goal.targets_end-last-requires
+targets_end-last-requires c = search (rules, variable_within)
+
+pub returns-in_default-last : goal.returns-in_default-last
+unfolding node_of
+returns-in_default-last c = search (rules, variable_next, variable_stop, last_stop)
+
+pub returns : goal.returns
+unfolding node_of
+returns c = search (rules, variable_next, last_got, out_to)

@@ -1,0 +1,30 @@
+use Rattle.std.proofs.Common.{rules}
+use Rattle.text.specs.Format.{node_of}
+use Rattle.fields.specs.FieldLaws.{number_next, number_stop, number_within, variable_next, variable_stop, variable_within}
+use Rattle.nodes.specs.NodeLaws.{last_got, last_stop, send_to}
+use Rattle.nodes.proofs.send_node.Goals as goal
+
+pub number_field-queue_field-requires : goal.number_field-queue_field-requires
+number_field-queue_field-requires c = search (rules, number_within, variable_within)
+
+pub returns-in_default : goal.returns-in_default
+unfolding node_of
+returns-in_default c = search (rules, number_next, number_stop)
+
+pub variable_field-name-requires : goal.variable_field-name-requires
+variable_field-name-requires c = search (rules, number_within, variable_within)
+
+pub returns-in_default-name : goal.returns-in_default-name
+unfolding node_of
+returns-in_default-name c = search (rules, number_next, number_stop, variable_next, variable_stop)
+
+pub targets_end-last-requires : goal.targets_end-last-requires
+targets_end-last-requires c = search (rules, number_within, variable_within)
+
+pub returns-in_default-last : goal.returns-in_default-last
+unfolding node_of
+returns-in_default-last c = search (rules, number_next, number_stop, variable_next, variable_stop, last_stop)
+
+pub returns : goal.returns
+unfolding node_of
+returns c = search (rules, number_next, variable_next, last_got, send_to)

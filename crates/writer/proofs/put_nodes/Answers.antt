@@ -1,0 +1,15 @@
+use Rattle.std.proofs.Common.{arith}
+use Rattle.put.specs.RowLaws.{rows_start, rows_turn, rows_end}
+use Rattle.writer.proofs.put_nodes.Goals as goal
+
+pub loop-j-init : goal.loop-j-init
+loop-j-init c = (rows_start, omega arith)
+
+pub put_node-p-requires : goal.put_node-p-requires
+put_node-p-requires c = (omega (arith, c.loop-j.invariant.0.put.few, c.loop-j.invariant.0.put.next), c.requires.1.few c.loop-j.j c.loop-j-test.true)
+
+pub loop-j-preserved : goal.loop-j-preserved
+loop-j-preserved c = (rows_turn c.loop-j.invariant.0 c.put_node-p.ensures, omega arith)
+
+pub returns : goal.returns
+returns c = rows_end c.loop-j.invariant.0 c.loop-j.invariant.1 c.loop-j-test.false
