@@ -1,5 +1,8 @@
-// The reader moves over a lent text one line after another. The proof of a function over a struct that holds a reference is a walk by hand,
-// so each is thin: it takes the reader apart and calls a function of `records` or `nodes` on the slice and the number.
+// The reader moves over a lent text one line after another. Each function is thin: it takes the reader apart and calls a function of `records` or
+// `nodes` on the slice and the number.
+
+#![tactic(auto)]
+
 ghost use Rattle.std.specs.Prelude.{◌≤◌, ◌<◌, ◌≡◌, length};
 ghost use Rattle.text.specs.Format.{head_line, counts_line, task_line, sem_line, task_of, sem_of};
 ghost use Rattle.fields.specs.Answer.{LineAt};
