@@ -1,6 +1,8 @@
 // Writing an arc of a node, with the edges to its targets, in the language DOT into a lent buffer. Each function writes at a place, as far
 // as the buffer reaches, and gives the place after what it wrote.
 
+#![tactic(auto)]
+
 ghost use Rattle.std.specs.Prelude.{◌≡◌, ◌+◌, ◌≤◌, length};
 ghost use Rattle.table.specs.Mask.{pick, members};
 ghost use Rattle.put.specs.Put.{Put, LineAt};

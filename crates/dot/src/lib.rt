@@ -1,6 +1,8 @@
 // Writing a node of a control-flow graph, with its arcs, and a call's arc to its callee, in the language DOT into a lent buffer. Each function writes at a place, as far as
 // the buffer reaches, and gives the place after what it wrote.
 
+#![tactic(auto)]
+
 ghost use Rattle.std.specs.Prelude.{[], ◌++◌, ◌≤◌};
 ghost use Rattle.table.specs.Table.{act};
 ghost use Rattle.text.specs.Number.{bytes};

@@ -1,4 +1,7 @@
 // The fault of a hand-made table, by its number; 0 is none.
+
+#![tactic(auto)]
+
 ghost use Rattle.std.specs.Prelude.{◌≡◌};
 ghost use Rattle.text.specs.Reader.{good};
 ghost use Rattle.text.specs.Writer.{fault_in, fault as table_fault};

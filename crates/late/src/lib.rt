@@ -1,4 +1,7 @@
 // The faults after all lines: an argument count that differs from the callee's, and what only a closed table can have wrong.
+
+#![tactic(auto)]
+
 ghost use Rattle.std.specs.Prelude.{◌≡◌};
 ghost use Rattle.text.specs.Reader.{first_late, late as lateList};
 ghost use Rattle.late.specs.Late.{Counted, late_in, late_fault};

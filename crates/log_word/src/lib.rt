@@ -1,5 +1,7 @@
 // The last words of the program `run`: LOG, and none behind it.
 
+#![tactic(auto)]
+
 ghost use Rattle.std.specs.Prelude.{◌≡◌, List, [], ◌∷◌, ℕ, ℤ};
 ghost use Rattle.machine.specs.Words.{given};
 ghost use Rattle.log_word.specs.Words.{from_log, rest_words, RestFits};

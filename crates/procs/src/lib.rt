@@ -1,4 +1,7 @@
 // The procedures of a text, each with its node lines.
+
+#![tactic(auto)]
+
 ghost use Rattle.std.specs.Prelude.{◌<◌, ◌≤◌, ◌≡◌, true, false, length};
 ghost use Rattle.nodes.specs.Answer.{scope_in, Fits};
 ghost use Rattle.procs.specs.Answer.{stopped_of, node_stands, is_further, line_due, number_below, SlotsAt, head_kept, row_of, proc_fault, ProcRowAt};

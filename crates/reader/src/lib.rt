@@ -1,5 +1,7 @@
 // A whole text, read in one pass.
 
+#![tactic(auto)]
+
 ghost use Rattle.std.specs.Prelude.{◌≤◌, ◌≡◌, length};
 ghost use Rattle.table.specs.Table.{no_table};
 ghost use Rattle.text.specs.Reader.{table, bad, reading, read};

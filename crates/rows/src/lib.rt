@@ -1,4 +1,7 @@
 // The lines of a text, group by group.
+
+#![tactic(auto)]
+
 ghost use Rattle.std.specs.Prelude.{◌+◌, ◌≤◌, ◌≡◌, length, replicate};
 ghost use Rattle.table.specs.Table.{no_task, no_sem, no_queue};
 ghost use Rattle.text.specs.Reader.{task_row, sem_row, queue_row};

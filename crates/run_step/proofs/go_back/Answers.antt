@@ -40,4 +40,4 @@ returns c = let g = c.goes-far in
     let back = goes_to removed (pos 0) a.used (arc_in a.words.now a.marks.now a.g) 0 in
     let f = back_effect a.keep.now a.code.now a.words.now a.marks.now a.cells.now a.values.now a.g a.used a.most r.result r.ensures o.result o.ensures g.result g.ensures in
     let e = c.go_far-e in
-    λ t s going. far_goes a.keep.now a.code.now a.words.now a.marks.now a.cells.now a.values.now a.g back a.most t s going g.result f e.result e.new.1.1.1.0 e.new.1.1.1.1.0 (e.ensures t s (far_going a.keep.now a.code.now a.words.now a.marks.now a.cells.now a.values.now a.g back a.most t s going g.result f))
+    λ t s going. far_goes a.keep.now a.code.now a.words.now a.marks.now a.cells.now a.values.now a.g back a.most t s going g.result f e.result e.new.marks e.new.cells (e.ensures t s (far_going a.keep.now a.code.now a.words.now a.marks.now a.cells.now a.values.now a.g back a.most t s going g.result f))

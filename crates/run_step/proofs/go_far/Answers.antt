@@ -33,8 +33,8 @@ pub returns-then-y : goal.returns-then-y
 returns-then-y c = let a = c.args in
     let y = c.arrive-y in
     let v = c.set_var in
-    let j = v.ensures ∙ ap (λ (z : ℤ). set (get_or a.cells.now a.g []) a.o.var z) (again a.o.value (record { sfits = c.struct_told-1.is.1.0.1 })) in
-    λ t s going. over_lands a.keep.now a.code.now a.words.now a.marks.now a.cells.now a.values.now a.g a.o a.most y.result y.ensures v.new.0 j t s going c.if-y.true c.if-y-ne0.false c.number.result c.number.ensures
+    let j = v.ensures ∙ ap (λ (z : ℤ). set (get_or a.cells.now a.g []) a.o.var z) (again a.o.value (record { sfits = c.struct_told-1.given.1.1.0.1 })) in
+    λ t s going. over_lands a.keep.now a.code.now a.words.now a.marks.now a.cells.now a.values.now a.g a.o a.most y.result y.ensures v.new.vars j t s going c.if-y.true c.if-y-ne0.false c.number.result c.number.ensures
 
 pub set_var-requires-2 : goal.set_var-requires-2
 set_var-requires-2 c = let a = c.args in
@@ -50,21 +50,21 @@ pub walk-z-requires : goal.walk-z-requires
 walk-z-requires c = let a = c.args in
     let y = c.arrive-y in
     let v = c.set_var-2 in
-    let j = v.ensures ∙ ap (λ (z : ℤ). set (get_or a.cells.now a.g []) a.o.var z) (again a.o.value (record { sfits = c.struct_told-2-1.is.1.0.1 })) in
-    walks a.keep.now a.code.now a.words.now a.marks.now a.cells.now a.values.now a.g a.o a.most y.result y.ensures v.new.0 j c.requires.t c.requires.s c.requires.going c.if-y.false
+    let j = v.ensures ∙ ap (λ (z : ℤ). set (get_or a.cells.now a.g []) a.o.var z) (again a.o.value (record { sfits = c.struct_told-2-1.given.1.1.0.1 })) in
+    walks a.keep.now a.code.now a.words.now a.marks.now a.cells.now a.values.now a.g a.o a.most y.result y.ensures v.new.vars j c.requires.t c.requires.s c.requires.going c.if-y.false
 
 pub returns-then-z-ne0 : goal.returns-then-z-ne0
 returns-then-z-ne0 c = let a = c.args in
     let y = c.arrive-y in
     let v = c.set_var-2 in
-    let j = v.ensures ∙ ap (λ (z : ℤ). set (get_or a.cells.now a.g []) a.o.var z) (again a.o.value (record { sfits = c.struct_told-2-1.is.1.0.1 })) in
+    let j = v.ensures ∙ ap (λ (z : ℤ). set (get_or a.cells.now a.g []) a.o.var z) (again a.o.value (record { sfits = c.struct_told-2-1.given.1.1.0.1 })) in
     let z = c.walk-z in
-    λ t s going. walk_stays a.keep.now a.code.now a.words.now a.marks.now a.cells.now a.values.now a.g a.o a.most y.result y.ensures v.new.0 j t s going c.if-y.false z.result z.new.1.1.1.1.1.0 z.ensures c.if-z-ne0.true
+    λ t s going. walk_stays a.keep.now a.code.now a.words.now a.marks.now a.cells.now a.values.now a.g a.o a.most y.result y.ensures v.new.vars j t s going c.if-y.false z.result z.new.w z.ensures c.if-z-ne0.true
 
 pub returns : goal.returns
 returns c = let a = c.args in
     let y = c.arrive-y in
     let v = c.set_var-2 in
-    let j = v.ensures ∙ ap (λ (z : ℤ). set (get_or a.cells.now a.g []) a.o.var z) (again a.o.value (record { sfits = c.struct_told-2-1.is.1.0.1 })) in
+    let j = v.ensures ∙ ap (λ (z : ℤ). set (get_or a.cells.now a.g []) a.o.var z) (again a.o.value (record { sfits = c.struct_told-2-1.given.1.1.0.1 })) in
     let z = c.walk-z in
-    λ t s going. walk_lands a.keep.now a.code.now a.words.now a.marks.now a.cells.now a.values.now a.g a.o a.most y.result y.ensures v.new.0 j t s going c.if-y.false z.result z.new.1.1.1.1.1.0 z.ensures c.if-z-ne0.false c.number-2.result c.number-2.ensures
+    λ t s going. walk_lands a.keep.now a.code.now a.words.now a.marks.now a.cells.now a.values.now a.g a.o a.most y.result y.ensures v.new.vars j t s going c.if-y.false z.result z.new.w z.ensures c.if-z-ne0.false c.number-2.result c.number-2.ensures

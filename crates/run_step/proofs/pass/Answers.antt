@@ -1,5 +1,5 @@
 -- A dropped node is executed as its rows say.
-use Rattle.std.proofs.Common.{ap, ◌∙◌, ⊎_elim, inl, inr, ℕ, ℤ, pos}
+use Rattle.std.proofs.Common.{ap, ◌∙◌, inl, inr, ℕ, ℤ, pos}
 use Rattle.table.specs.Table.{removed}
 use Rattle.run_code.specs.Code.{byte}
 use Rattle.values.proofs.Again.{again}
@@ -7,6 +7,7 @@ use Rattle.run_step.specs.Effects.{goes_to}
 use Rattle.run_step.specs.EffectLaws.{result_of, pass_set, pass_test, pass_read, pass_other}
 use Rattle.run_step.proofs.Leaves.{branch_is}
 use Rattle.run_step.proofs.pass.Goals as goal
+use Rattle.run_step.proofs.pass.Goals.{then-x-eq0, else-x-eq0}
 
 pub returns-in-2 : goal.returns-in-2
 returns-in-2 c = let a = c.args in
@@ -19,9 +20,9 @@ pub returns-after-x-eq0 : goal.returns-after-x-eq0
 returns-after-x-eq0 c = let a = c.args in
     let x = c.computed-x-in-3 in
     let z = result_of a.code.now a.words.now a.vars.now in
-    let arc = branch_is x.result z (byte a.words.now 2) (byte a.words.now 3) c.if-x-eq0.arc (record { sfits = x.type_inv }) x.ensures (⊎_elim (λ w. inl (w.0.taken, w.2)) (λ w. inr (w.0.left, w.2)) c.if-x-eq0.branch) in
+    let arc = branch_is x.result z (byte a.words.now 2) (byte a.words.now 3) c.if-x-eq0.arc (record { sfits = x.type_inv }) x.ensures (elim c.if-x-eq0.branch [ then-x-eq0 w ↦ inl (w.if-x-eq0.true, w.arc-is) | else-x-eq0 w ↦ inr (w.if-x-eq0.false, w.arc-is) ]) in
     c.goes-in-3.ensures
-    ∙ ap (λ ((goal.at.returns-after-x-eq0 c).After-computed-arg-in-3-1 : ℕ). goes_to removed (pos 0) a.used (goal.at.returns-after-x-eq0 c).After-computed-arg-in-3-1 0) arc
+    ∙ ap (λ (m : ℕ). goes_to removed (pos 0) a.used m 0) arc
     ∙ pass_test a.code.now a.words.now a.vars.now a.values.now a.used c.in-3.is
 
 pub returns-in-4 : goal.returns-in-4

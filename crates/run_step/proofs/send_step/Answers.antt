@@ -1,5 +1,5 @@
 -- A send, not blocked: it goes on, and its variable is appended to the queue.
-use Rattle.std.proofs.Common.{[], arith, ◌∙◌, ap, List, get_or, ℤ, pos, to_z-of_z}
+use Rattle.std.proofs.Common.{w32, [], arith, ◌∙◌, ap, List, get_or, ℤ, pos, to_z-of_z}
 use Rattle.table.specs.Table.{removed}
 use Rattle.machine.specs.State.{var_at}
 use Rattle.run_code.specs.Code.{byte}
@@ -60,7 +60,7 @@ pub returns-then-e-eq0 : goal.returns-then-e-eq0
 returns-then-e-eq0 c = λ t s z.
     let g = goes_to_lem z c.args.most c.go_on-e.ensures removed (pos 0) c.args.used z.within c.by_arc-o.ensures in
     let x = c.shown_at-x.ensures ∙ ap (λ (l : List ℤ). var_at l (byte (get_or c.args.code.now c.args.a []) 2)) (vars_here z) in
-    rw (c.ended.ensures, c.push.ensures) (send_did z c.args.most c.requires.1 g c.if-e-eq0.true _ (to_z-of_z (record { sfits = c.shown_at-x.type_inv }) ∙ x))
+    rw (c.ended.ensures, c.push.ensures) (send_did z c.args.most c.requires.1 g c.if-e-eq0.true _ (to_z-of_z {w = w32} (record { sfits = c.shown_at-x.type_inv }) ∙ x))
 
 pub returns : goal.returns
 returns c = λ t s z.

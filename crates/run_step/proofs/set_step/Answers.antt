@@ -1,5 +1,5 @@
 -- A set: it goes on with what it rows-here.
-use Rattle.std.proofs.Common.{[], arith, ◌∙◌, ap, get_or, ℤ, to_z-of_z}
+use Rattle.std.proofs.Common.{w32, [], arith, ◌∙◌, ap, get_or, ℤ, to_z-of_z}
 use Rattle.run_code.specs.Code.{byte}
 use Rattle.run_step.specs.Standing.{rows_here, row_low, goings_to, goes_to_lem}
 use Rattle.run_step.specs.Arms.{result_is, set_did}
@@ -25,7 +25,7 @@ pub returns : goal.returns
 returns c = λ t s z.
     let row = get_or c.args.code.now c.args.a [] in
     let arc = byte (get_or c.args.words.now c.args.a []) 2 in
-    let x = to_z-of_z (record { sfits = c.computed_at-x.type_inv }) ∙ (result_is z c.args.most c.computed_at-x.result c.computed_at-x.ensures) in
+    let x = to_z-of_z {w = w32} (record { sfits = c.computed_at-x.type_inv }) ∙ (result_is z c.args.most c.computed_at-x.result c.computed_at-x.ensures) in
     rw c.ended.ensures (set_did z c.args.most c.requires.1
     (goes_to_lem z c.args.most c.go_on.ensures (byte row 4) _ c.args.used z.within
     (c.by_arc-o.ensures ∙ ap (λ (y : ℤ). goes_to (byte row 4) y c.args.used arc (byte row 7)) x)))

@@ -1,5 +1,5 @@
 -- An assertion or an output: it goes on, and the log shows its variable.
-use Rattle.std.proofs.Common.{[], arith, ◌∙◌, ap, List, get_or, ℤ, pos, to_z-of_z}
+use Rattle.std.proofs.Common.{w32, [], arith, ◌∙◌, ap, List, get_or, ℤ, pos, to_z-of_z}
 use Rattle.table.specs.Table.{removed}
 use Rattle.machine.specs.State.{var_at}
 use Rattle.run_code.specs.Code.{byte}
@@ -36,4 +36,4 @@ pub returns : goal.returns
 returns c = λ t s z.
     let g = goes_to_lem z c.args.most c.go_on-e.ensures removed (pos 0) c.args.used z.within c.by_arc-o.ensures in
     let x = c.shown_at-x.ensures ∙ ap (λ (l : List ℤ). var_at l (byte (get_or c.args.code.now c.args.a []) 2)) (vars_here z) in
-    rw c.bits_of.ensures (shown_did z c.args.most c.requires.1 g c.if-e-ne0.false _ (to_z-of_z (record { sfits = c.shown_at-x.type_inv }) ∙ x) c.if-v.false)
+    rw c.bits_of.ensures (shown_did z c.args.most c.requires.1 g c.if-e-ne0.false _ (to_z-of_z {w = w32} (record { sfits = c.shown_at-x.type_inv }) ∙ x) c.if-v.false)

@@ -53,8 +53,8 @@ loop-m-preserved c = let l = c.loop-m in
     let p = c.pass-o in
     let y = c.arrive-y in
     let s = c.set_var in
-    let j = s.ensures ∙ ap (λ (z : ℤ). set l.w p.result.var z) (again p.result.value (record { sfits = c.struct_told-1.is.1.0.1 })) in
-    goes_on a.code.now a.words.now a.base a.keep a.first a.w.now a.values.now a.before a.most l.w l.n l.used l.m l.invariant c.if-m-eq0.false p.result p.ensures c.if-o-ne0.false y.result y.ensures s.new.0 j c.if-y.false
+    let j = s.ensures ∙ ap (λ (z : ℤ). set l.w p.result.var z) (again p.result.value (record { sfits = c.struct_told-1.given.1.1.0.1 })) in
+    goes_on a.code.now a.words.now a.base a.keep a.first a.w.now a.values.now a.before a.most l.w l.n l.used l.m l.invariant c.if-m-eq0.false p.result p.ensures c.if-o-ne0.false y.result y.ensures s.new.vars j c.if-y.false
 
 pub returns-then-m-eq0 : goal.returns-then-m-eq0
 returns-then-m-eq0 c = let l = c.loop-m in
@@ -73,5 +73,5 @@ returns-then-y c = let l = c.loop-m in
     let p = c.pass-o in
     let y = c.arrive-y in
     let s = c.set_var in
-    let j = s.ensures ∙ ap (λ (z : ℤ). set l.w p.result.var z) (again p.result.value (record { sfits = c.struct_told-1.is.1.0.1 })) in
-    ends_there a.code.now a.words.now a.base a.keep a.first a.w.now a.values.now a.before a.most l.w l.n l.used l.m l.invariant c.if-m-eq0.false p.result p.ensures c.if-o-ne0.false y.result y.ensures s.new.0 j c.if-y.true
+    let j = s.ensures ∙ ap (λ (z : ℤ). set l.w p.result.var z) (again p.result.value (record { sfits = c.struct_told-1.given.1.1.0.1 })) in
+    ends_there a.code.now a.words.now a.base a.keep a.first a.w.now a.values.now a.before a.most l.w l.n l.used l.m l.invariant c.if-m-eq0.false p.result p.ensures c.if-o-ne0.false y.result y.ensures s.new.vars j c.if-y.true
