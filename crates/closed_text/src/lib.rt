@@ -1,4 +1,7 @@
 // Writing the closed table of an open one, and closing from text to text.
+
+#![tactic(auto)]
+
 ghost use Rattle.std.specs.Prelude.{◌≡◌, false};
 ghost use Rattle.text.specs.Writer.{text, fault};
 ghost use Rattle.closing.specs.Close.{close_table};

@@ -1,6 +1,8 @@
 // A procedure's control-flow graph in the language DOT, written into a lent buffer. Each function writes at a place, as far as the buffer
 // reaches, and gives the place after what it wrote.
 
+#![tactic(auto)]
+
 ghost use Rattle.std.specs.Prelude.{◌≡◌, ◌*◌, ◌≤◌, eqb, get_or};
 ghost use Rattle.table.specs.Mask.{members, mask_of};
 ghost use Rattle.table.specs.Table.{no_task};

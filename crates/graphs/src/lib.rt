@@ -1,6 +1,8 @@
 // A table's control-flow graphs in the language DOT, written into a lent buffer, and what the graph program prints. A function that
 // writes at a place does so as far as the buffer reaches, and gives the place after what it wrote.
 
+#![tactic(auto)]
+
 ghost use Rattle.std.specs.Prelude.{◌≡◌, ◌*◌, ◌≤◌, length};
 ghost use Rattle.std.proofs.lemmas.List.Edits.{sets};
 ghost use Rattle.text.specs.Reader.{concat_from};
