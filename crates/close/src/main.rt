@@ -1,5 +1,7 @@
 // Closes the table whose text is on standard input: prints its closed text, or `refused=N line=L`.
 
+#![tactic(auto)]
+
 use console::Input;
 
 fn main(rt: HostRuntime) {

@@ -1,6 +1,8 @@
 // Prints the control-flow graphs of the table on standard input, in the language DOT: `graph < table.txt | dot -Tsvg > table.svg`. A text that
 // is refused gives `refused=N line=L`.
 
+#![tactic(auto)]
+
 use console::Input;
 
 // Room for the longest graphs.
