@@ -1,4 +1,7 @@
 // The library for Rust and C: texts and numbers in, numbers and lent bytes out. A refusal is its number times 2^32 plus its line (`packed`).
+
+#![tactic(auto)]
+
 ghost use Rattle.std.specs.Prelude.{◌≡◌};
 ghost use Rattle.text.specs.Reader.{read};
 ghost use Rattle.closing.specs.Program.{printed};

@@ -1,5 +1,7 @@
 // run SCHEDULE VALUES MOST LOG < table.txt
 
+#![tactic(auto)]
+
 ghost use Rattle.std.specs.Prelude.{◌≡◌, ◌≤◌, length, replicate};
 ghost use Rattle.machine.specs.Program.{most_items, most_bytes};
 ghost use Rattle.console.specs.Input.{Fits};

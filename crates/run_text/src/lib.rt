@@ -1,5 +1,7 @@
 // A text's run over a schedule of task numbers, with a value list, the most dropped nodes per step and a log buffer.
 
+#![tactic(auto)]
+
 ghost use Rattle.std.specs.Prelude.{◌≡◌, ◌≤◌, min, length};
 ghost use Rattle.text.specs.Writer.{fault};
 ghost use Rattle.machine.specs.Run.{run};

@@ -1,5 +1,7 @@
 // What the program `run` answers to its words and a text, in two steps: what the words ask for, and the run or the word's line.
 
+#![tactic(auto)]
+
 ghost use Rattle.std.specs.Prelude.{◌≡◌, List, ◌∷◌, [], ℕ, ◌≤◌, ℤ, length, take, replicate};
 ghost use Rattle.machine.specs.Words.{given};
 ghost use Rattle.machine.specs.Program.{most_items, most_bytes, said, word_line, run_text, run_answer};

@@ -1,6 +1,8 @@
 // Prints what the program `run` answers to many words and texts, so that it can be compared with what it should answer. Standard input holds
 // the cases: the words SCHEDULE, VALUES, MOST and LOG and a text, each behind its length in five digits.
 
+#![tactic(auto)]
+
 use std::io::{Stdin, Stdout};
 
 fn print(to: Stdout, first: &[u8], second: &[u8], third: &[u8], fourth: &[u8], text: &[u8]) {
