@@ -22,7 +22,7 @@ use Rattle.table.specs.declared.Slot.{Slot}
 use Rattle.table.specs.declared.Proc.{Proc}
 use Rattle.table.specs.declared.Table.{Table}
 use Rattle.closing.specs.Dirty.{Fact, setting_at, entry_at, dirty_before, dropped, blank, Clear, here, on, Dirty, by_read, by_set, by_recv, by_entry, from_node, from_entry, top, passed, sent}
-use Rattle.closing.specs.DirtyLaws.{use_on, dropped_low}
+use Rattle.closing.proofs.DirtyLaws.{use_on, dropped_low}
 use Rattle.masks.specs.Bits.{bit_zero, bit_low, bit_low_out}
 use Rattle.masks.specs.Cells.{cell, grown, Masks, grown_grows, grown_masks, Sound, grown_sound, grown_has, grown_adds, cell_zeros}
 use Rattle.flow.specs.declared.Flow.{Flow}

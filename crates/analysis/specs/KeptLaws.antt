@@ -12,8 +12,8 @@ use Rattle.table.specs.declared.Table.{Table}
 use Rattle.closing.specs.Dirty.{Fact, dirty_before, dropped, blank}
 use Rattle.closing.specs.Closing.{dirty, is_dirty, any_dirty, kept}
 use Rattle.closing.specs.Closing as K
-use Rattle.closing.specs.DirtyLaws.{dirty_is}
-use Rattle.closing.specs.KeptLaws.{same_test}
+use Rattle.closing.proofs.DirtyLaws.{dirty_is}
+use Rattle.closing.proofs.KeptLaws.{same_test}
 use Rattle.masks.specs.Cells.{cell}
 use Rattle.flow.specs.Flow.{any_of, kept_by, kept_with}
 use Rattle.analysis.specs.Ready.{FitsNode, Ready}

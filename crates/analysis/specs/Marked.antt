@@ -7,7 +7,7 @@ use Rattle.table.specs.MaskLaws.{mask_of_lt, bit_mask_of, bit_mask_of_above}
 use Rattle.table.specs.Table.{proc_at, node_at}
 use Rattle.table.specs.declared.Node.TheVariants.{Absent}
 use Rattle.table.specs.declared.Table.{Table}
-use Rattle.text.specs.NumberLaws.{by_order}
+use Rattle.text.proofs.NumberLaws.{by_order}
 use Rattle.masks.specs.Bits.{bit_zero}
 use Rattle.masks.specs.Cells.{cell, Masks, Filled, set_more, cell_zeros}
 use Rattle.analysis.specs.Ready.{Ready}

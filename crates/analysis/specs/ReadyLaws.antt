@@ -4,13 +4,13 @@ use Rattle.std.proofs.Common.{arith, eqb-true}
 use Rattle.table.specs.Mask.{members}
 use Rattle.table.specs.Table.{task_at, proc_at, node_at, arg_at, Exit, ends, by, either, Act, alone, waits, signals, sends, receives, calls, returns, act, parts}
 use Rattle.table.specs.declared.Table.{Table}
-use Rattle.text.specs.NumberLaws.{by_order}
+use Rattle.text.proofs.NumberLaws.{by_order}
 use Rattle.text.specs.Reader.{count_by}
 use Rattle.text.specs.Writer.{scope, fault}
 use Rattle.table.specs.Shape.{Shaped}
 use Rattle.text.specs.Valid.{Valid, Named, ActValid, ExitValid}
-use Rattle.text.specs.PartsLaws.{parts_of, count_of}
-use Rattle.text.specs.ValidLaws.{valid_of, far_empty, outside_absent, named_open}
+use Rattle.text.proofs.PartsLaws.{parts_of, count_of}
+use Rattle.text.proofs.ValidLaws.{valid_of, far_empty, outside_absent, named_open}
 use Rattle.analysis.specs.Ready.{One, FitsExit, FitsAct, FitsNode, Ready}
 
 one : {m : ℕ} → (k : ℕ) × (members m ≡ k ∷ []) → One m

@@ -8,7 +8,7 @@ use Rattle.exploring.specs.declared.Found.TheVariants.{Nothing}
 use Rattle.exploring.specs.declared.Exploring.{Exploring}
 use Rattle.exploring.specs.Explore.{explore}
 use Rattle.promise.specs.Explored.{Clear}
-use Rattle.promise.specs.Calls.{explored_calls}
+use Rattle.promise.proofs.Calls.{explored_calls}
 use Rattle.callers.specs.declared.Sheet.{Sheet}
 
 abbrev pub sheet : ℕ → Exploring → Sheet

@@ -4,7 +4,7 @@ use Rattle.table.specs.declared.Table.{Table}
 use Rattle.closing.specs.Close.{close}
 use Rattle.machine.specs.Run.{run}
 use Rattle.promise.specs.Demand3.{OpenRun, Tosses}
-use Rattle.promise.specs.Calls.{AgreeAfter, CallsAgree}
+use Rattle.promise.proofs.Calls.{AgreeAfter, CallsAgree}
 use Rattle.callers.specs.declared.Beside.{Beside}
 
 -- schedule, inputs, tosses, most dropped nodes per step and log buffer of either run; where the closer refuses, its table is all 0

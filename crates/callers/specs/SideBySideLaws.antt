@@ -7,7 +7,7 @@ use Rattle.closing.specs.declared.Closing.{Closing}
 use Rattle.closing.specs.Close.{close}
 use Rattle.machine.specs.declared.Running.{Running}
 use Rattle.machine.specs.Run.{run}
-use Rattle.promise.specs.Calls.{RunCall, CallsAgree, closed_calls}
+use Rattle.promise.proofs.Calls.{RunCall, CallsAgree, closed_calls}
 use Rattle.callers.specs.declared.Beside.{Beside}
 use Rattle.callers.specs.SideBySide.{beside_of, original_of, Partners, Agrees}
 

@@ -8,7 +8,7 @@ use Rattle.text.specs.declared.Reading.{Reading}
 use Rattle.text.specs.declared.Writing.{Writing}
 use Rattle.text.specs.Line.{after, field_of, line}
 use Rattle.text.specs.Reader.{read, read_lines, table}
-use Rattle.promise.specs.RoundTripCalls.{WriteCall, write_then_read}
+use Rattle.promise.proofs.RoundTripCalls.{WriteCall, write_then_read}
 use Rattle.callers.specs.WrittenAndRead.{read_back, written_and_read}
 
 -- an empty text is refused, so its table is all 0

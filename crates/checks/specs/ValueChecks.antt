@@ -7,7 +7,7 @@ use Rattle.std.specs.Int.{w32}
 use Rattle.table.specs.Table.{removed}
 use Rattle.table.specs.declared.Operand.TheVariants.{Var, Const}
 use Rattle.text.specs.Fault.{number}
-use Rattle.text.specs.NumberLaws.{by_order}
+use Rattle.text.proofs.NumberLaws.{by_order}
 use Rattle.text.specs.Value.{check, from, one_of, operand, variable, arguments, none_removed, all_declared}
 use Rattle.text.specs.Format.{name_of}
 use Rattle.text.specs.Structure.{numbered}

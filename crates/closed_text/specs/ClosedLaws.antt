@@ -9,8 +9,8 @@ use Rattle.table.specs.declared.Table.{Table}
 use Rattle.text.specs.Writer.{text, fault}
 use Rattle.table.specs.Shape.{Shaped}
 use Rattle.closing.specs.Close.{closed_with, close_table}
-use Rattle.closing.specs.CloseLaws.{close_proc}
-use Rattle.closing.specs.ClosedValid.{closed_fault}
+use Rattle.closing.proofs.CloseLaws.{close_proc}
+use Rattle.closing.proofs.ClosedValid.{closed_fault}
 use Rattle.masks.specs.Cells.{cell}
 use Rattle.analysis.specs.Ready.{Ready}
 use Rattle.analysis.specs.ReadyLaws.{ready}

@@ -4,7 +4,7 @@ use Rattle.std.proofs.Common.{sym, ◌∙◌, ap}
 use Rattle.text.specs.declared.Reading.{Reading}
 use Rattle.text.specs.Reader.{read}
 use Rattle.text.specs.Writer.{text, fault}
-use Rattle.text.specs.RoundTrip.{read_good, read_fault}
+use Rattle.text.proofs.RoundTrip.{read_good, read_fault}
 use Rattle.closing.specs.declared.Closing.{Closing}
 use Rattle.closing.specs.Close.{close_table, close}
 use Rattle.closing.specs.Program.{refused_line, after_closing, after_reading, printed}

@@ -14,9 +14,9 @@ use Rattle.closing.specs.Dirty.{Unkept, no_node, Leads, target, through}
 use Rattle.closing.specs.ClosedTable.{NewArc}
 use Rattle.closing.specs.Closing.{dirty}
 use Rattle.closing.specs.Close.{unkept_arcs, new_arc}
-use Rattle.closing.specs.KeptLaws.{unkept_is, kept_is}
-use Rattle.closing.specs.ArcLaws.{arc_is}
-use Rattle.closing.specs.ClosedTableLaws.{arc_only}
+use Rattle.closing.proofs.KeptLaws.{unkept_is, kept_is}
+use Rattle.closing.proofs.ArcLaws.{arc_is}
+use Rattle.closing.proofs.ClosedTableLaws.{arc_only}
 use Rattle.masks.specs.Cells.{Filled}
 use Rattle.flow.specs.Flow.{low, first_to, second_to, flow_of}
 use Rattle.analysis.specs.Ready.{One, Ready}

@@ -17,7 +17,7 @@ use Rattle.table.specs.declared.Proc.{Proc}
 use Rattle.table.specs.declared.Table.{Table}
 use Rattle.closing.specs.Dirty.{Fact, dirty_before, dropped, blank}
 use Rattle.closing.specs.Closing.{dirty, is_dirty, kept}
-use Rattle.closing.specs.DirtyLaws.{dropped_low}
+use Rattle.closing.proofs.DirtyLaws.{dropped_low}
 use Rattle.closing.specs.Close.{map_from, unkept_arcs, new_arc, closed_node, closed_slot, closed_proc, closed_queue, closed_with, close_table}
 use Rattle.masks.specs.Cells.{cell}
 use Rattle.analysis.specs.Ready.{One, FitsNode, Ready}

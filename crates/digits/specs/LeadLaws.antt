@@ -5,7 +5,7 @@ use Rattle.std.proofs.Common.{◌∙◌, arith, drop_of_length-le, length-drop, 
 use Rattle.std.proofs.Math.Logic.{inl, inr}
 use Rattle.std.proofs.lemmas.Bool.{lt-leb}
 use Rattle.text.specs.Number.{all_digits, is_digit, value, value_from}
-use Rattle.text.specs.NumberLaws.{by_order, and_left, and_right, all_head, all_tail}
+use Rattle.text.proofs.NumberLaws.{by_order, and_left, and_right, all_head, all_tail}
 use Rattle.digits.specs.declared.Num.TheVariants.{Good}
 use Rattle.digits.specs.declared.Lead.{Lead}
 use Rattle.digits.specs.Read.{digit_of, capped, digits_of, leading_digits, lead_from, lead_of, four_from, first_of}

@@ -4,7 +4,7 @@ use Rattle.std.proofs.Math.Path.{sym}
 use Rattle.std.proofs.Common.{◌∙◌, arith, add-one, drop_of_length-le, length-drop, drop-cons, lt-ltb, le-ltb}
 use Rattle.std.proofs.lemmas.Bool.{false≢true, eqb-false, not-true}
 use Rattle.text.specs.Number.{spelt, value, value_from, all_digits, is_digit}
-use Rattle.text.specs.NumberLaws.{and_left, and_right, digit_fact, by_order}
+use Rattle.text.proofs.NumberLaws.{and_left, and_right, digit_fact, by_order}
 
 -- a lead at one digit is kept over as many digits more
 lead : (v w : ℕ) (xs ys : List ℕ) → length xs ≡ length ys → all_digits xs ≡ true → all_digits ys ≡ true → v < w → value_from v xs < value_from w ys

@@ -5,17 +5,17 @@ use Rattle.std.proofs.lemmas.List.Edits.{sets}
 use Rattle.table.specs.Shape.{Shaped}
 use Rattle.table.specs.declared.Table.{Table}
 use Rattle.text.specs.Writer.{fault}
-use Rattle.text.specs.ValidLaws.{valid_of}
+use Rattle.text.proofs.ValidLaws.{valid_of}
 use Rattle.machine.specs.declared.State.{State}
 use Rattle.machine.specs.declared.Running.{Running}
 use Rattle.machine.specs.State.{first_state}
-use Rattle.machine.specs.KeptLaws.{masks_closed}
+use Rattle.machine.proofs.KeptLaws.{masks_closed}
 use Rattle.exploring.specs.Paths.{Move, Spot, Path, stays, goes}
 use Rattle.exploring.specs.Answers.{found_answer, Leads}
 use Rattle.exploring.specs.Search.{Outcome, found, nothing, out}
 use Rattle.exploring.specs.Explore.{sought, answered, explore}
-use Rattle.exploring.specs.RefusalLaws.{refused_none, explore_sought}
-use Rattle.exploring.specs.ProgramLaws.{found_leads}
+use Rattle.exploring.proofs.RefusalLaws.{refused_none, explore_sought}
+use Rattle.exploring.proofs.ProgramLaws.{found_leads}
 use Rattle.run_code.specs.Ready.{Ready}
 use Rattle.run_code.specs.ReadyLaws.{ready}
 use Rattle.run_state.specs.Good.{Shape, Good}

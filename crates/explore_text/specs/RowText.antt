@@ -12,12 +12,12 @@ use Rattle.text.specs.Writer.{fault}
 use Rattle.closing.specs.Closing.{for_each}
 use Rattle.machine.specs.Run.{entry_bytes}
 use Rattle.machine.specs.Report.{state_lines}
-use Rattle.machine.specs.ClosedRun.{bytes_length}
+use Rattle.machine.proofs.ClosedRun.{bytes_length}
 use Rattle.exploring.specs.Paths.{Move, Spot, start, Path}
 use Rattle.exploring.specs.Answers.{no_step, path_of, what_of, found_answer}
 use Rattle.exploring.specs.Program.{path_line, path_text, got_line, found_text}
-use Rattle.exploring.specs.PathRuns.{bytes_of}
-use Rattle.exploring.specs.ProgramLaws.{path_text_lem}
+use Rattle.exploring.proofs.PathRuns.{bytes_of}
+use Rattle.exploring.proofs.ProgramLaws.{path_text_lem}
 use Rattle.run_state.specs.ArrayLaws.{at_behind, at_front}
 use Rattle.explore_step.specs.Tries.{row_of}
 use Rattle.explore_answer.specs.Rows.{step_of, no_rows, map_at, path_steps}

@@ -5,7 +5,7 @@ use Rattle.table.specs.declared.Table.{Table}
 use Rattle.text.specs.declared.Reading.{Reading}
 use Rattle.text.specs.Reader.{read}
 use Rattle.text.specs.Writer.{fault}
-use Rattle.text.specs.RoundTrip.{read_good, read_fault}
+use Rattle.text.proofs.RoundTrip.{read_good, read_fault}
 use Rattle.closing.specs.Program.{refused_line}
 use Rattle.machine.specs.declared.State.{State}
 use Rattle.machine.specs.State.{first_state}
@@ -13,7 +13,7 @@ use Rattle.exploring.specs.declared.Found.TheVariants.{Nothing}
 use Rattle.exploring.specs.declared.Exploring.{Exploring}
 use Rattle.exploring.specs.Answers.{refusal, found_answer}
 use Rattle.exploring.specs.Explore.{sought, explore}
-use Rattle.exploring.specs.RefusalLaws.{refused_open, refused_deep, explore_refused}
+use Rattle.exploring.proofs.RefusalLaws.{refused_open, refused_deep, explore_refused}
 use Rattle.exploring.specs.Program.{none_line, answer_text, explored_text, after_reading, explore_text}
 use Rattle.put.specs.Put.{Put}
 use Rattle.put.specs.PutLaws.{put_more}

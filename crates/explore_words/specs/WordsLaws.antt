@@ -7,9 +7,9 @@ use Rattle.table.specs.declared.Table.{Table}
 use Rattle.closing.specs.Program.{refused_line}
 use Rattle.machine.specs.Words.{Words, asks, unread, next, last, given, said_up_to}
 use Rattle.machine.specs.Words.{Answer as Answered}
-use Rattle.machine.specs.WordLaws.{next_missing, next_unread, next_said, last_asks, last_further}
+use Rattle.machine.proofs.WordLaws.{next_missing, next_unread, next_said, last_asks, last_further}
 use Rattle.exploring.specs.declared.Exploring.{Exploring}
-use Rattle.exploring.specs.AnswerLaws.{explore_more}
+use Rattle.exploring.proofs.AnswerLaws.{explore_more}
 use Rattle.exploring.specs.Program.{Word, Request, depth, bound, further, most_steps, said, word_line, answer_text, explored_text, explore_text, answer_for, explore_answer}
 use Rattle.put.specs.Put.{Put}
 use Rattle.put.specs.PutLaws.{put_more}

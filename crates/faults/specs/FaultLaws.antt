@@ -10,10 +10,10 @@ use Rattle.text.specs.Fault.{number}
 use Rattle.text.specs.Value.{or_else, unless}
 use Rattle.text.specs.Reader.{late, first_late, good}
 use Rattle.text.specs.Writer.{tidy, fault_in, fault}
-use Rattle.text.specs.ValidLaws.{numbered_none}
+use Rattle.text.proofs.ValidLaws.{numbered_none}
 use Rattle.text.specs.Structure.{first_in, lines_fault, table_fault, numbered}
-use Rattle.text.specs.LinedLaws.{lined_of}
-use Rattle.text.specs.StructureLaws.{fault_is, late_fault}
+use Rattle.text.proofs.LinedLaws.{lined_of}
+use Rattle.text.proofs.StructureLaws.{fault_is, late_fault}
 use Rattle.checks.specs.Numbers.{first_some, numbered_else}
 use Rattle.late.specs.declared.Late.{Late}
 use Rattle.late.specs.declared.Late.TheVariants.{Good, Bad}

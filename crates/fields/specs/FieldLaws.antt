@@ -9,7 +9,7 @@ use Rattle.text.specs.declared.Fault.{Fault}
 use Rattle.text.specs.Number.{bytes}
 use Rattle.text.specs.declared.NodeKind.{NodeKind}
 use Rattle.text.specs.Value.{ValueKind, Of, number, choice, kind, operation, operand, variable, ascending, arguments}
-use Rattle.text.specs.ValueLaws.{no}
+use Rattle.text.proofs.ValueLaws.{no}
 use Rattle.text.specs.Line.{Line, end, field, Vals, Outcome, took, refused, onto, field_of, line}
 use Rattle.text.specs.Format.{variable_of, set_of, args_of}
 use Rattle.numbers.specs.declared.Number.{Number}

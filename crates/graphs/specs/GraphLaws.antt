@@ -10,7 +10,7 @@ use Rattle.text.specs.declared.Reading.{Reading}
 use Rattle.text.specs.Number.{bytes}
 use Rattle.text.specs.Reader.{concat_from, read}
 use Rattle.text.specs.Writer.{fault}
-use Rattle.text.specs.RoundTrip.{read_good, read_fault}
+use Rattle.text.proofs.RoundTrip.{read_good, read_fault}
 use Rattle.closing.specs.Program.{refused_line}
 use Rattle.machine.specs.Step.{kept_in}
 use Rattle.put.specs.Put.{Put}

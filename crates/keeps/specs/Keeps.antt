@@ -4,7 +4,7 @@ use Rattle.std.proofs.Common.{sym, ◌∙◌, ap}
 use Rattle.table.specs.Mask.{bit}
 use Rattle.table.specs.declared.Table.{Table}
 use Rattle.machine.specs.Step.{kept_of, kept_in}
-use Rattle.machine.specs.KeptLaws.{masks_closed}
+use Rattle.machine.proofs.KeptLaws.{masks_closed}
 use Rattle.analysis.specs.Decides.{KeptMasks}
 
 -- bit n of mask p says whether node n of procedure p counts as kept

@@ -3,7 +3,7 @@ use Rattle.std.specs.Prelude.{ℕ, zero, suc, ◌≡◌, refl, List, []}
 use Rattle.std.proofs.Common.{arith}
 use Rattle.text.specs.Reader.{read}
 use Rattle.closing.specs.Reasons.{reason_line, explained}
-use Rattle.closing.specs.ReasonLaws.{other_explained, reader_said}
+use Rattle.closing.proofs.ReasonLaws.{other_explained, reader_said}
 use Rattle.labels.specs.Graph.{graph, after_reading, graph_printed}
 
 pub graph_refused : (s : List ℕ) → ((read s).number ≡ 0 → ⊥) → explained (graph_printed s) ≡ reason_line (read s).number (read s).line

@@ -13,7 +13,7 @@ use Rattle.text.specs.declared.Fault.TheVariants.{Long, Form, Misspelt, Ended, R
 use Rattle.text.specs.Fault.{number}
 use Rattle.text.specs.Reader.{concat_from}
 use Rattle.text.specs.Structure.{numbered}
-use Rattle.text.specs.ValidLaws.{absent_is}
+use Rattle.text.proofs.ValidLaws.{absent_is}
 use Rattle.late_lines.specs.declared.At.{At}
 use Rattle.late_lines.specs.Places.{drop_fault, task_fault_by, node_late_by, nodes_late_by, proc_late_by, first_at, step_at}
 use Rattle.late_nodes.specs.declared.Callee.{Callee}

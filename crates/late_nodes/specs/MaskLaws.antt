@@ -11,11 +11,11 @@ use Rattle.table.specs.Table.{arg_at, node_in, is_absent}
 use Rattle.table.specs.declared.Args.{Args}
 use Rattle.table.specs.declared.Proc.{Proc}
 use Rattle.text.specs.Number.{every}
-use Rattle.text.specs.NumberLaws.{by_order, every_all, all_every}
-use Rattle.text.specs.ValueLaws.{no}
-use Rattle.text.specs.MaskLists.{mask_bits, mask_same}
+use Rattle.text.proofs.NumberLaws.{by_order, every_all, all_every}
+use Rattle.text.proofs.ValueLaws.{no}
+use Rattle.text.proofs.MaskLists.{mask_bits, mask_same}
 use Rattle.text.specs.Reader.{all_below, all_present, is_removed, iff}
-use Rattle.text.specs.ValidLaws.{below_all}
+use Rattle.text.proofs.ValidLaws.{below_all}
 use Rattle.masks.specs.Bits.{bit_and_lem, bit_and_out}
 use Rattle.targets.specs.MaskTests.{same_truth}
 use Rattle.checks.specs.ArgumentChecks.{removed_at}

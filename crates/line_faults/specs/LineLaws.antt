@@ -9,7 +9,7 @@ use Rattle.table.specs.declared.Proc.{Proc}
 use Rattle.table.specs.declared.Table.{Table}
 use Rattle.text.specs.declared.Fault.{Fault}
 use Rattle.text.specs.Fault.{number}
-use Rattle.text.specs.FaultLaws.{number_range}
+use Rattle.text.proofs.FaultLaws.{number_range}
 use Rattle.text.specs.Value.{check, choice, due, unless}
 use Rattle.text.specs.Line.{line_fault}
 use Rattle.text.specs.Format.{Scope, queue_line, proc_line, node_line, Described, no_line, described, describe}

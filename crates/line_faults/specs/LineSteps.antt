@@ -8,7 +8,7 @@ use Rattle.table.specs.declared.Table.{Table}
 use Rattle.text.specs.declared.Fault.{Fault}
 use Rattle.text.specs.declared.Fault.TheVariants.{Index}
 use Rattle.text.specs.Fault.{number}
-use Rattle.text.specs.FaultLaws.{number_range}
+use Rattle.text.proofs.FaultLaws.{number_range}
 use Rattle.text.specs.Format.{Scope}
 use Rattle.text.specs.Structure.{node_due, gap, last_proc}
 use Rattle.checks.specs.Numbers.{first_number, first_some}

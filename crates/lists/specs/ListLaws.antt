@@ -9,7 +9,7 @@ use Rattle.std.proofs.Math.Seq.{take-length}
 use Rattle.text.specs.declared.Fault.{Fault}
 use Rattle.text.specs.declared.Fault.TheVariants.{Form, Misspelt, Ended, Reference}
 use Rattle.text.specs.Number.{bytes, all_digits, spelt, value, every}
-use Rattle.text.specs.NumberLaws.{all_head, all_tail, spelt_all}
+use Rattle.text.proofs.NumberLaws.{all_head, all_tail, spelt_all}
 use Rattle.text.specs.Value.{ascending, same, numeral, split, followed, each, said_list, ascends, within, said, unsaid, check}
 use Rattle.text.specs.Line.{refused, judged, field_of}
 use Rattle.text.specs.Format.{elem, set_of}

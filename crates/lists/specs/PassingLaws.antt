@@ -15,7 +15,7 @@ use Rattle.table.specs.declared.Args.{Args}
 use Rattle.text.specs.declared.Fault.{Fault}
 use Rattle.text.specs.declared.Fault.TheVariants.{Misspelt, Reference}
 use Rattle.text.specs.Number.{bytes, value, every}
-use Rattle.text.specs.NumberLaws.{by_order}
+use Rattle.text.proofs.NumberLaws.{by_order}
 use Rattle.text.specs.Value.{arguments, same, said_variable, split, followed, each, none_removed, all_declared, said, unsaid, check}
 use Rattle.text.specs.Line.{judged}
 use Rattle.text.specs.Format.{variable_of, arg_of, args_of}

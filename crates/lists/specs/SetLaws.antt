@@ -11,7 +11,7 @@ use Rattle.table.specs.Cases.{cases}
 use Rattle.table.specs.Mask.{pick}
 use Rattle.text.specs.declared.Fault.TheVariants.{Misspelt, Reference}
 use Rattle.text.specs.Number.{spelt, value, every}
-use Rattle.text.specs.NumberLaws.{and_left, and_right}
+use Rattle.text.proofs.NumberLaws.{and_left, and_right}
 use Rattle.text.specs.Value.{ascending, numeral, split, followed, each, ascends, within, unsaid, check}
 use Rattle.text.specs.Line.{judged}
 use Rattle.text.specs.Format.{set_of}

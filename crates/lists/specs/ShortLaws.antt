@@ -10,7 +10,7 @@ use borrow.Author.Tests.{lt-ltb, ltb-true, le-leb, lt-leb, leb-false, eq-eqb, ne
 use Rattle.table.specs.Cases.{cases}
 use Rattle.table.specs.Mask.{pick}
 use Rattle.text.specs.Number.{bytes, value, all_digits}
-use Rattle.text.specs.NumberLaws.{by_order, and_right, all_head, all_tail, spelt_all}
+use Rattle.text.proofs.NumberLaws.{by_order, and_right, all_head, all_tail, spelt_all}
 use Rattle.text.specs.Value.{same}
 use Rattle.text.specs.Line.{run, stops}
 use Rattle.scan.specs.PlaceLaws.{count_more, count_none, Running, running_start, running_digits, run_turn, value_ends}

@@ -5,7 +5,7 @@ use Rattle.std.proofs.lemmas.Bool.{eqb-false}
 use Rattle.table.specs.Cases.{cases}
 use Rattle.table.specs.Mask.{pick, mask_of}
 use Rattle.text.specs.Number.{every}
-use Rattle.text.specs.NumberLaws.{and_left, and_right}
+use Rattle.text.proofs.NumberLaws.{and_left, and_right}
 use Rattle.text.specs.Value.{ascends, within}
 use Rattle.text.specs.Format.{elem, set_of}
 

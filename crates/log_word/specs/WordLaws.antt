@@ -3,7 +3,7 @@ use Rattle.std.specs.Prelude.{ℕ, ◌≡◌, List, [], ◌∷◌, ℤ}
 use Rattle.std.proofs.Common.{◌∙◌}
 use Rattle.std.proofs.Math.Option.{none, some}
 use Rattle.machine.specs.Words.{Words, last, given, said_up_to}
-use Rattle.machine.specs.WordLaws.{next_missing, next_unread, next_said, last_asks, last_further}
+use Rattle.machine.proofs.WordLaws.{next_missing, next_unread, next_said, last_asks, last_further}
 use Rattle.machine.specs.Program.{Word, Request, log, further, most_bytes}
 use Rattle.log_word.specs.Words.{from_log, rest_words}
 use Rattle.log_word.specs.declared.Rest.TheVariants.{Log, NoLog, Further}

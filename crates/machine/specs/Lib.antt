@@ -4,14 +4,3 @@ pub mod Run
 pub mod Report
 pub mod Words
 pub mod Program
-pub mod Computing
-pub mod StepLaws
-pub mod ExecLaws
-pub mod RunLaws
-pub mod KeptLaws
-pub mod StopLaws
-pub mod ClosedStep
-pub mod ClosedRun
-pub mod LogLaws
-pub mod WordLaws
-pub mod ReasonLaws

@@ -87,6 +87,11 @@ run t ks vs most log = run_checked t ks vs most log (fault t)
 abbrev pub completed : Ran → Ran
 completed r = record { answer = record { steps = r.answer.steps; used = r.answer.used; stop = 0; state = r.answer.state }; log = r.log }
 
+module _ (t : Table) (keep : Kept) (most : ℕ) (values : List ℤ) where
+  -- n steps being completed, from state s with the values left and the log so
+  unfoldable pub run_from : List ℕ → ℕ → State → List ℤ → List ℕ → Ran
+  run_from ks n s rest log = let c = course_from t keep most (length log) ks n s rest in ran_from c.stop values n s rest log c.steps
+
 -- ---- two logs
 
 -- "Kept nodes executed are read off the logs, task, procedure and node, entry by entry; a log carries a value where its flag is 1":

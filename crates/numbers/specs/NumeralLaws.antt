@@ -7,7 +7,7 @@ use native.Mathlib.Omega.{arith}
 use Rattle.std.proofs.Math.ListN.{get_or}
 use Rattle.std.specs.Int.{w64}
 use borrow.Author.Tests.{le-leb, lt-leb, leb-true, eq-eqb, ne_eqb, eqb-true}
-use Rattle.text.specs.NumberLaws.{digit_fact, spelt_all}
+use Rattle.text.proofs.NumberLaws.{digit_fact, spelt_all}
 use Rattle.text.specs.Number.{is_digit, all_digits, spelt, value, value_from}
 use Rattle.text.specs.Line.{stops}
 use Rattle.digits.specs.declared.Num.{Num}

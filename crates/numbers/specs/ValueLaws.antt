@@ -5,7 +5,7 @@ use borrow.Author.Tests.{lt-ltb, le-ltb, le-leb, lt-leb}
 use Rattle.text.specs.declared.Fault.{Fault}
 use Rattle.text.specs.declared.Fault.TheVariants.{Form, Misspelt, Ended}
 use Rattle.text.specs.Number.{value}
-use Rattle.text.specs.NumberLaws.{by_order}
+use Rattle.text.proofs.NumberLaws.{by_order}
 use Rattle.text.specs.Value.{number, said, unsaid, check}
 use Rattle.text.specs.Line.{Outcome, took, refused, field_of}
 use Rattle.digits.specs.declared.Num.{Num}

@@ -13,7 +13,7 @@ use Rattle.table.specs.declared.Operand.TheVariants.{Var, Const}
 use Rattle.text.specs.declared.Fault.{Fault}
 use Rattle.text.specs.declared.Fault.TheVariants.{Form, Misspelt, Ended, Range, Reference}
 use Rattle.text.specs.Number.{bytes, spelt, value}
-use Rattle.text.specs.NumberLaws.{by_order}
+use Rattle.text.proofs.NumberLaws.{by_order}
 use Rattle.text.specs.Line.{run, stops, judged, value_of, field_of}
 use Rattle.text.specs.Value.{operand, variable, numeral, as_var, as_const, as_negative, said_operand, same, said, unsaid, check}
 use Rattle.text.specs.Format.{variable_of}

@@ -15,11 +15,11 @@ use Rattle.text.specs.declared.Fault.{Fault}
 use Rattle.text.specs.declared.Fault.TheVariants.{Form, Index}
 use Rattle.text.specs.Number.{bytes}
 use Rattle.text.specs.Value.{check, number}
-use Rattle.text.specs.ValueLaws.{no}
+use Rattle.text.proofs.ValueLaws.{no}
 use Rattle.text.specs.Line.{took, refused, Parser, ◌>>=◌, give, broken, line, line_fault}
-use Rattle.text.specs.LineLaws.{line_read}
-use Rattle.text.specs.RowLaws.{or_left}
-use Rattle.text.specs.NodeLaws.{number_fact}
+use Rattle.text.proofs.LineLaws.{line_read}
+use Rattle.text.proofs.RowLaws.{or_left}
+use Rattle.text.proofs.NodeLaws.{number_fact}
 use Rattle.text.specs.Format.{Scope as Judged, node_line}
 use Rattle.text.specs.Reader.{rows, Numbered, node_row, slot_of, standing, further_nodes, nodes_of}
 use Rattle.scan.specs.declared.Found.{Found}

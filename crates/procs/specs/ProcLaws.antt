@@ -10,9 +10,9 @@ use Rattle.text.specs.declared.Fault.{Fault}
 use Rattle.text.specs.declared.Fault.TheVariants.{Index, Range}
 use Rattle.text.specs.Value.{check, number, or_else}
 use Rattle.text.specs.Line.{Vals, Outcome, took, onto, line, line_fault}
-use Rattle.text.specs.LineLaws.{line_read}
-use Rattle.text.specs.RowLaws.{or_left, or_right}
-use Rattle.text.specs.NodeLaws.{number_fact}
+use Rattle.text.proofs.LineLaws.{line_read}
+use Rattle.text.proofs.RowLaws.{or_left, or_right}
+use Rattle.text.proofs.NodeLaws.{number_fact}
 use Rattle.text.specs.Format.{Scope as Judged, proc_line, drop_field}
 use Rattle.text.specs.Reader.{proc_of as proc_from}
 use Rattle.fields.specs.FieldLaws.{onto_got, onto_stop}

@@ -1,10 +1,3 @@
 pub mod History
 pub mod Demand3
 pub mod Explored
-pub mod Sim
-pub mod Proof3
-pub mod Theorems
-pub mod ExploredHold
-pub mod Instance
-pub mod Calls
-pub mod RoundTripCalls

@@ -12,7 +12,7 @@ use Rattle.std.specs.Int.Count.{count_trailing_zeros, under}
 use Rattle.table.specs.Mask.{also, members}
 use Rattle.masks.specs.Lowest.{above, members_above, above_none, above_held, above_left, above_lowest}
 use Rattle.text.specs.Number.{bytes, digits}
-use Rattle.text.specs.NumberLaws.{digits_small, digits_large, by_order}
+use Rattle.text.proofs.NumberLaws.{digits_small, digits_large, by_order}
 use Rattle.text.specs.Value.{spell_variable, commas}
 use Rattle.text.specs.Format.{name_of}
 use Rattle.put.specs.Put.{Put}

@@ -5,7 +5,7 @@ use Rattle.std.proofs.lemmas.List.Edits.{sets, sets-eq}
 use Rattle.std.proofs.Math.Seq.{length-sets, set_out}
 use Rattle.table.specs.Places.{sets_append, sets_out}
 use Rattle.text.specs.Number.{digits}
-use Rattle.text.specs.NumberLaws.{digits_small, digits_large}
+use Rattle.text.proofs.NumberLaws.{digits_small, digits_large}
 use Rattle.put.specs.Put.{Put, PutField}
 
 -- one piece after another

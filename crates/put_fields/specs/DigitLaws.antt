@@ -2,7 +2,7 @@
 use Rattle.std.specs.Prelude.{ℕ, zero, suc, ◌+◌, ◌/◌, ◌%◌, ◌^◌, ◌≤◌, ◌<◌, ◌≡◌, List, [], ◌∷◌, ◌++◌, length}
 use Rattle.std.proofs.Common.{◌∙◌, ap, append_assoc, arith, pow-suc, length-append}
 use Rattle.text.specs.Number.{digits}
-use Rattle.text.specs.NumberLaws.{digits_small, digits_large, by_order}
+use Rattle.text.proofs.NumberLaws.{digits_small, digits_large, by_order}
 use Rattle.put.specs.Put.{Put}
 use Rattle.put.specs.PutLaws.{put_after, put_more, put_tight}
 

@@ -11,9 +11,9 @@ use Rattle.text.specs.declared.Fault.TheVariants.{Long, Ended}
 use Rattle.text.specs.declared.Reading.{Reading}
 use Rattle.text.specs.Fault.{number}
 use Rattle.text.specs.Line.{Outcome, took, refused, Parser, onto, ◌>>=◌, give, line}
-use Rattle.text.specs.LineLaws.{onto_read, line_read}
-use Rattle.text.specs.RowLaws.{Rows, Row, faultless, rows_fill}
-use Rattle.text.specs.NodeLaws.{number_fact}
+use Rattle.text.proofs.LineLaws.{onto_read, line_read}
+use Rattle.text.proofs.RowLaws.{Rows, Row, faultless, rows_fill}
+use Rattle.text.proofs.NodeLaws.{number_fact}
 use Rattle.text.specs.Format.{head_line, counts_line, proc_line}
 use Rattle.text.specs.Reader.{rows, task_row, sem_row, queue_row, nodes_of, scope_of, proc_of, proc_row, at_end, body, table, proc_late, late, first_late, bad, read_lines, reading, read}
 use Rattle.fields.specs.Answer.{LineAt}

@@ -5,7 +5,7 @@ use Rattle.text.specs.declared.Fault.{Fault}
 use Rattle.text.specs.declared.Fault.TheVariants.{Form, Misspelt, Ended, Range}
 use Rattle.text.specs.Number.{bytes, digits}
 use Rattle.text.specs.Value.{from}
-use Rattle.text.specs.ValueLaws.{no}
+use Rattle.text.proofs.ValueLaws.{no}
 use Rattle.text.specs.Line.{Line, end, field, Vals, line}
 use Rattle.closing.specs.Reasons.{reasons, reason, place, reason_line, stop_line, refusal_line, stopped_line, of_stop, explained}
 use Rattle.scan.specs.declared.Found.{Found}

@@ -9,10 +9,10 @@ use Rattle.text.specs.declared.Fault.{Fault}
 use Rattle.text.specs.declared.Fault.TheVariants.{Index, Range}
 use Rattle.text.specs.Number.{bytes, every}
 use Rattle.text.specs.Value.{ValueKind, Of, said, check, ascending, within}
-use Rattle.text.specs.ValueLaws.{no}
+use Rattle.text.proofs.ValueLaws.{no}
 use Rattle.text.specs.Line.{took, After, at as stands, differs, broken, after, run, verdict, judged, value_of, after_key, field_of}
 use Rattle.text.specs.Format.{elem, set_of}
-use Rattle.text.specs.NodeLaws.{list_fact}
+use Rattle.text.proofs.NodeLaws.{list_fact}
 use Rattle.numbers.specs.declared.Number.{Number}
 use Rattle.numbers.specs.declared.Number.TheVariants.{Is as IsNumber}
 use Rattle.numbers.specs.Answer.{NumberAt}

@@ -4,7 +4,7 @@ use Rattle.std.proofs.Common.{sym, ◌∙◌, ap, arith, length-set, get_or-set_
 use Rattle.std.proofs.Math.ListN.{get_or-eq_default}
 use Rattle.table.specs.Table.{outside}
 use Rattle.table.specs.declared.Proc.{Proc}
-use Rattle.text.specs.NumberLaws.{by_order}
+use Rattle.text.proofs.NumberLaws.{by_order}
 use Rattle.report_tasks.specs.Rows.{VariableCounts}
 
 -- the counts of the procedures below i are there

@@ -10,7 +10,7 @@ use Rattle.table.specs.declared.Table.{Table}
 use Rattle.table.specs.declared.Node.{Node}
 use Rattle.table.specs.declared.Node.TheVariants.{Absent}
 use Rattle.table.specs.declared.Queue.{Queue}
-use Rattle.text.specs.NumberLaws.{by_order}
+use Rattle.text.proofs.NumberLaws.{by_order}
 use Rattle.run_code.specs.Code.{eight, bytes_of, consts_of, words_of, queue_caps, Laid}
 
 -- the rows of node n of procedure p

@@ -11,13 +11,13 @@ use Rattle.table.specs.declared.Operand.TheVariants.{Var, Const}
 use Rattle.table.specs.declared.Node.{Node}
 use Rattle.table.specs.declared.Node.TheVariants.{Absent, Start, Set, Test, Read, Call, Wait, Signal, Send, Recv, Assert, Out, Return}
 use Rattle.table.specs.declared.Table.{Table}
-use Rattle.text.specs.NumberLaws.{by_order, and_left}
+use Rattle.text.proofs.NumberLaws.{by_order, and_left}
 use Rattle.text.specs.Reader.{count_right}
 use Rattle.text.specs.Right.{OperandIn}
 use Rattle.text.specs.Writer.{scope, fault, queue_empty, is_zero}
 use Rattle.text.specs.Valid.{NodeValid, Valid}
-use Rattle.text.specs.ValidLaws.{valid_of, far_empty, absent_is, inside_of, tidy_parts, all_behind}
-use Rattle.text.specs.PartsLaws.{count_of}
+use Rattle.text.proofs.ValidLaws.{valid_of, far_empty, absent_is, inside_of, tidy_parts, all_behind}
+use Rattle.text.proofs.PartsLaws.{count_of}
 use Rattle.machine.specs.Step.{kept_in}
 use Rattle.run_code.specs.Ready.{Placed, Ready}
 

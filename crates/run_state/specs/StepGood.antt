@@ -24,9 +24,9 @@ use Rattle.machine.specs.declared.Entries.{Entries}
 use Rattle.machine.specs.declared.State.{State}
 use Rattle.machine.specs.State.{no_frame, with_depth, with_lost, with_sems, with_queues, open_frames, is_lost, place, frame_at, topmost, entries_at, stands_before, blocked_at, blocked}
 use Rattle.machine.specs.Step.{no_such_task, log_full, task_lost, task_blocked, too_many, Memory, assign, with_sem, with_entries, appended, shortened, entering, Does, opens, closes, goes, stops, read_of, exec, Choice, nowhere, node, bad, tossed, toss, choose_from, choose, Kept, kept_in, Walk, halts, arrives, along, onward, noting, walk, Entry, Step, stopped, stepped, landed, settled, called, returned, memory, entry_of, step_as, step_of, before, unless, step}
-use Rattle.machine.specs.Run.{entry_bytes, turn}
-use Rattle.machine.specs.RunLaws.{run_from, after_step, run_end, run_next}
-use Rattle.machine.specs.ExecLaws.{Executes, calling, returning, going, stopping, exec_view}
+use Rattle.machine.specs.Run.{entry_bytes, turn, run_from}
+use Rattle.machine.proofs.RunLaws.{after_step, run_end, run_next}
+use Rattle.machine.proofs.ExecLaws.{Executes, calling, returning, going, stopping, exec_view}
 use Rattle.run_code.specs.Ready.{Placed, Ready}
 use Rattle.run_state.specs.Good.{frame_in, Good}
 use Rattle.run_state.specs.ArrayLaws.{after_set, shape_depth, shape_lost}

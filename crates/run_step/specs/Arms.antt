@@ -22,7 +22,7 @@ use Rattle.machine.specs.declared.Entries.{Entries}
 use Rattle.machine.specs.declared.State.{State}
 use Rattle.machine.specs.State.{sem_count, entries_at, var_at}
 use Rattle.machine.specs.Step.{values_spent, stop_number, Memory, assign, with_sem, with_entries, appended, oldest, shortened, value_of, goes, stops, read_of, exec, kept_in, stopped, memory, step_of}
-use Rattle.machine.specs.RunLaws.{stop_number_lem}
+use Rattle.machine.proofs.RunLaws.{stop_number_lem}
 use Rattle.run_code.specs.Code.{byte, node_of}
 use Rattle.run_code.specs.CodeLaws.{is_start, is_set, is_test, is_read, is_wait, is_signal, is_send, is_recv, is_assert, is_out, is_absent}
 use Rattle.run_state.specs.Good.{frame_in, Shape}

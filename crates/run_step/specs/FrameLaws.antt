@@ -16,7 +16,7 @@ use Rattle.machine.specs.declared.Frame.{Frame}
 use Rattle.machine.specs.declared.State.{State}
 use Rattle.machine.specs.State.{no_vars, no_frame, with_depth, with_frames, open_frames, place, stands_before}
 use Rattle.machine.specs.Step.{entering, Does, opens, closes, exec, choose, kept_in, Walk, halts, arrives, along, walk, Entry, Step, stepped, settled, called, returned, memory, entry_of, step_of}
-use Rattle.machine.specs.RunLaws.{stop_number_lem}
+use Rattle.machine.proofs.RunLaws.{stop_number_lem}
 use Rattle.run_code.specs.Code.{byte, node_of}
 use Rattle.run_code.specs.CodeLaws.{is_call, is_return}
 use Rattle.run_state.specs.Good.{frame_in, Shape}

@@ -11,7 +11,7 @@ use Rattle.machine.specs.declared.State.{State}
 use Rattle.machine.specs.State.{with_lost, with_frames, with_sems, with_queues, place, stands_before}
 use Rattle.machine.specs.Step.{Memory, Does, goes, exec, choose, kept_in, Walk, halts, arrives, along, walk, Entry, Step, settled, memory, entry_of, step_as, step_of}
 use Rattle.machine.specs.Run.{word, flagged}
-use Rattle.machine.specs.RunLaws.{stop_number_lem}
+use Rattle.machine.proofs.RunLaws.{stop_number_lem}
 use Rattle.run_state.specs.Good.{frame_in, Shape}
 use Rattle.run_state.specs.Arrays.{marks_of, cells_of}
 use Rattle.run_state.specs.ArrayLaws.{shape_lost, shape_frames}

@@ -11,7 +11,7 @@ use Rattle.machine.specs.declared.Frame.{Frame}
 use Rattle.machine.specs.declared.State.{State}
 use Rattle.machine.specs.State.{open_frames, is_lost, place, frame_at, topmost, stands_before, blocked}
 use Rattle.machine.specs.Step.{Stop, task_lost, task_blocked, Does, opens, closes, goes, stops, exec, choose, Kept, kept_in, Walk, halts, arrives, along, Step, stopped, stepped, settled, returned, memory, entry_of, dropping, step_as, step_of, before, unless, step}
-use Rattle.machine.specs.RunLaws.{stop_number_lem}
+use Rattle.machine.proofs.RunLaws.{stop_number_lem}
 use Rattle.run_code.specs.Code.{byte}
 use Rattle.run_state.specs.Good.{frame_in}
 use Rattle.run_state.specs.Arrays.{marks_of, cells_of}

@@ -15,10 +15,10 @@ use Rattle.machine.specs.declared.Frame.{Frame}
 use Rattle.machine.specs.declared.State.{State}
 use Rattle.machine.specs.State.{open_frames, place, topmost, Begun, spent, begun, begin}
 use Rattle.machine.specs.Step.{Stop, kept_in, Entry, Step, stopped, stepped, step_of, before, unless, step}
-use Rattle.machine.specs.StepLaws.{step_task}
-use Rattle.machine.specs.Run.{Ran, flagged, entry_bytes, turn, run_begun, run}
-use Rattle.machine.specs.RunLaws.{run_from, after_step, run_end, run_next, run_begun_lem, step_taken}
-use Rattle.machine.specs.LogLaws.{byte_old, byte_new}
+use Rattle.machine.proofs.StepLaws.{step_task}
+use Rattle.machine.specs.Run.{Ran, flagged, entry_bytes, turn, run_begun, run, run_from}
+use Rattle.machine.proofs.RunLaws.{after_step, run_end, run_next, run_begun_lem, step_taken}
+use Rattle.machine.proofs.LogLaws.{byte_old, byte_new}
 use Rattle.run_code.specs.Ready.{Ready}
 use Rattle.run_code.specs.ReadyLaws.{ready}
 use Rattle.run_state.specs.Good.{Good}

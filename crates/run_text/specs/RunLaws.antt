@@ -20,9 +20,9 @@ use Rattle.machine.specs.declared.Frame.{Frame}
 use Rattle.machine.specs.declared.State.{State}
 use Rattle.machine.specs.State.{no_state, open_frames, is_lost, frame_at, topmost, blocked_at, blocked, stands_before, first_state, first_inputs, with_inputs, Begun, spent, begun, take_inputs, begin}
 use Rattle.machine.specs.Step.{task_lost, task_blocked, Memory, Does, exec, choose, Kept, kept_in, Walk, halts, arrives, along, walk, Entry, Step, stopped, stepped, landed, settled, returned, memory, entry_of, step_as, step_of, before, unless, step}
-use Rattle.machine.specs.ExecLaws.{Executes, calling, returning, going, stopping, exec_view}
-use Rattle.machine.specs.Run.{Ran, entry_bytes, turn, run_begun, run_checked, run}
-use Rattle.machine.specs.RunLaws.{run_from, after_step, run_end, run_next, run_begun_lem}
+use Rattle.machine.proofs.ExecLaws.{Executes, calling, returning, going, stopping, exec_view}
+use Rattle.machine.specs.Run.{Ran, entry_bytes, turn, run_begun, run_checked, run, run_from}
+use Rattle.machine.proofs.RunLaws.{after_step, run_end, run_next, run_begun_lem}
 use Rattle.run_state.specs.ArrayLaws.{after_set}
 
 either_way : {A : Type 0} (P : A → Type 0) (b : Bool) {x y : A} → (b ≡ true → P x) → (b ≡ false → P y) → P (elim b [ true ↦ x | false ↦ y ])

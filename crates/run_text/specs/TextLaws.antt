@@ -6,8 +6,8 @@ use Rattle.table.specs.declared.Table.{Table}
 use Rattle.text.specs.declared.Reading.{Reading}
 use Rattle.text.specs.Reader.{read}
 use Rattle.text.specs.Writer.{fault}
-use Rattle.text.specs.NumberLaws.{by_order}
-use Rattle.text.specs.RoundTrip.{read_good, read_fault}
+use Rattle.text.proofs.NumberLaws.{by_order}
+use Rattle.text.proofs.RoundTrip.{read_good, read_fault}
 use Rattle.closing.specs.Program.{refused_line}
 use Rattle.machine.specs.declared.Running.{Running}
 use Rattle.machine.specs.Run.{run}

@@ -4,7 +4,7 @@ use Rattle.std.proofs.Math.Path.{refl, ap}
 use Rattle.std.proofs.Common.{sym, subst, ◌∙◌, arith, take_all}
 use Rattle.std.proofs.Math.Option.{none, some}
 use Rattle.machine.specs.Words.{unread, next, given, said_up_to, Answer as Answered}
-use Rattle.machine.specs.WordLaws.{next_missing, next_unread, next_said}
+use Rattle.machine.proofs.WordLaws.{next_missing, next_unread, next_said}
 use Rattle.machine.specs.Program.{schedule, values, most, said_value, said_items, most_items, most_nodes, most_bytes, said, word_line, run_text, answer_for, run_answer}
 use Rattle.put.specs.Put.{Put}
 use Rattle.put.specs.PutLaws.{put_more}

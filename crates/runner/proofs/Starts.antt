@@ -13,8 +13,8 @@ use Rattle.machine.specs.declared.State.{State}
 use Rattle.machine.specs.declared.Running.{Running}
 use Rattle.machine.specs.State.{Begun as Beginning, spent, begun, begin, first_state}
 use Rattle.machine.specs.Step.{values_spent, stop_number, kept_in}
-use Rattle.machine.specs.Run.{Ran, run_begun, run}
-use Rattle.machine.specs.RunLaws.{run_from, run_begun_lem}
+use Rattle.machine.specs.Run.{Ran, run_begun, run, run_from}
+use Rattle.machine.proofs.RunLaws.{run_begun_lem}
 use Rattle.run_code.specs.Ready.{Ready}
 use Rattle.run_code.specs.Code.{Coded, Worded}
 use Rattle.run_state.specs.declared.Begun.{Begun}

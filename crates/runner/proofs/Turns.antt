@@ -15,9 +15,9 @@ use Rattle.table.specs.Mask.{pick}
 use Rattle.table.specs.declared.Table.{Table}
 use Rattle.machine.specs.declared.State.{State}
 use Rattle.machine.specs.Step.{Stop, no_such_task, log_full, stop_number, kept_in, Entry, Step, stopped, stepped, step}
-use Rattle.machine.specs.Run.{word, entry_bytes, Ran, ended, turn}
-use Rattle.machine.specs.StepLaws.{step_task}
-use Rattle.machine.specs.RunLaws.{run_from, after_step, run_end, run_next, stop_number_lem}
+use Rattle.machine.specs.Run.{word, entry_bytes, Ran, ended, turn, run_from}
+use Rattle.machine.proofs.StepLaws.{step_task}
+use Rattle.machine.proofs.RunLaws.{after_step, run_end, run_next, stop_number_lem}
 use Rattle.run_code.specs.Code.{byte}
 use Rattle.run_state.specs.ArrayLaws.{depth_at}
 use Rattle.run_state.specs.StepGood.{step_good, step_rest}

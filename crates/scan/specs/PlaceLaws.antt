@@ -10,7 +10,7 @@ use Rattle.table.specs.Cases.{cases}
 use Rattle.table.specs.Mask.{pick}
 use Rattle.text.specs.declared.Fault.TheVariants.{Form, Ended}
 use Rattle.text.specs.Number.{all_digits}
-use Rattle.text.specs.NumberLaws.{by_order, all_head, all_tail}
+use Rattle.text.proofs.NumberLaws.{by_order, all_head, all_tail}
 use Rattle.text.specs.Line.{at as stands, differs, broken, after, run as count, stops, field_of}
 use Rattle.scan.specs.declared.Found.{Found}
 use Rattle.scan.specs.declared.Found.TheVariants.{At, Differs, Broken}

@@ -5,7 +5,7 @@ use Rattle.std.specs.Int.Count.{ones}
 use Rattle.table.specs.Mask.{members}
 use Rattle.text.specs.Fault.{number}
 use Rattle.text.specs.Value.{check, ascending, within, is_one}
-use Rattle.text.specs.MaskLists.{members_ascends}
+use Rattle.text.proofs.MaskLists.{members_ascends}
 use Rattle.text.specs.Structure.{numbered}
 use Rattle.targets.specs.MaskTests.{within_is, one_is}
 

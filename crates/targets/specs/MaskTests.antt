@@ -6,11 +6,11 @@ use Rattle.std.specs.Int.Count.{ones, ones_in, ones_step}
 use Rattle.table.specs.Cases.{cases}
 use Rattle.table.specs.Mask.{bit, also, members_from, members, mask_of}
 use Rattle.table.specs.MaskLaws.{bit_above, bit_mask_of, mask_of_lt, members_is}
-use Rattle.text.specs.NumberLaws.{by_order, and_left, and_right}
-use Rattle.text.specs.ValueLaws.{no}
+use Rattle.text.proofs.NumberLaws.{by_order, and_left, and_right}
+use Rattle.text.proofs.ValueLaws.{no}
 use Rattle.text.specs.Value.{within, is_one}
-use Rattle.text.specs.MaskLists.{mask_bits}
-use Rattle.text.specs.RightLaws.{within_all, all_within}
+use Rattle.text.proofs.MaskLists.{mask_bits}
+use Rattle.text.proofs.RightLaws.{within_all, all_within}
 
 pub same_truth : (a b : Bool) → (a ≡ true → b ≡ true) → (b ≡ true → a ≡ true) → a ≡ b
 same_truth true b f g = sym (f refl)

@@ -14,11 +14,11 @@ use Rattle.table.specs.declared.Node.TheVariants.{Call}
 use Rattle.table.specs.declared.Queue.{Queue}
 use Rattle.table.specs.declared.Proc.{Proc}
 use Rattle.table.specs.declared.Table.{Table}
-use Rattle.text.specs.NumberLaws.{by_order, and_left, and_right}
+use Rattle.text.proofs.NumberLaws.{by_order, and_left, and_right}
 use Rattle.text.specs.Reader.{all_below}
 use Rattle.text.specs.Writer.{every, is_zero, slot_empty, task_empty, sem_empty, queue_empty, proc_empty, empty_behind, args_empty, proc_tidy, tidy}
-use Rattle.text.specs.KindLaws.{Other, not_call}
-use Rattle.text.specs.ValidLaws.{below_all, all_below_lem}
+use Rattle.text.proofs.KindLaws.{Other, not_call}
+use Rattle.text.proofs.ValidLaws.{below_all, all_below_lem}
 use Rattle.targets.specs.MaskTests.{same_truth}
 use Rattle.unused.specs.Unused.{task_fits, sem_fits, queue_fits, ProcFits, tasks_tidy, sems_tidy, queues_tidy, slots_tidy, procs_tidy, head_tidy, Ranged}
 

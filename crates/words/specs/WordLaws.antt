@@ -15,8 +15,8 @@ use Rattle.text.specs.Number.{bytes}
 use Rattle.text.specs.declared.NodeKind.{NodeKind}
 use Rattle.text.specs.declared.NodeKind.TheVariants.{Start as start, Set as set_kind, Test as test, Read as read, Out as out}
 use Rattle.text.specs.Value.{choice, kind, operation, kind_word, op_word, same, named, said, unsaid, unless, is_kind, due_at, kind_fault, op_fault, check, kinds, ops}
-use Rattle.text.specs.NumberLaws.{by_order, and_left, and_right}
-use Rattle.text.specs.ValueLaws.{same_eq, kind_said}
+use Rattle.text.proofs.NumberLaws.{by_order, and_left, and_right}
+use Rattle.text.proofs.ValueLaws.{same_eq, kind_said}
 use Rattle.text.specs.Line.{judged, run as count, stops, field_of}
 use Rattle.scan.specs.declared.Found.{Found}
 use Rattle.scan.specs.declared.Found.TheVariants.{At, Differs, Broken}

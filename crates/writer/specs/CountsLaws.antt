@@ -7,8 +7,8 @@ use Rattle.table.specs.declared.Table.{Table}
 use Rattle.text.specs.Reader.{count_right}
 use Rattle.text.specs.Writer.{scope, fault}
 use Rattle.text.specs.Valid.{Valid, NodeValid, ActValid}
-use Rattle.text.specs.LinedLaws.{valid_parts}
-use Rattle.text.specs.ValidLaws.{valid_of}
+use Rattle.text.proofs.LinedLaws.{valid_parts}
+use Rattle.text.proofs.ValidLaws.{valid_of}
 use Rattle.lines.specs.Lines.{FewArgs}
 use Rattle.writer.specs.Table.{Counts}
 

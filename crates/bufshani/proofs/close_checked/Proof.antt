@@ -1,5 +1,5 @@
 use mathlib.Core.Path.{sym, ◌∙◌}
-use Rattle.text.specs.ShapeLaws.{shaped}
+use Rattle.text.proofs.ShapeLaws.{shaped}
 use Rattle.analysis.specs.ReadyLaws.{ready}
 use Rattle.closed_text.specs.CloseLaws.{close_faulty, close_closed, close_open}
 use borrow.Author.Rules.{rules}

@@ -2,7 +2,7 @@
 use borrow.Author.Rules.{rules}
 use native.Mathlib.Omega.{arith}
 use mathlib.Core.Path.{sym, ◌∙◌}
-use Rattle.exploring.specs.RefusalLaws.{refused_fault, refused_open, refused_deep, explore_refused}
+use Rattle.exploring.proofs.RefusalLaws.{refused_fault, refused_open, refused_deep, explore_refused}
 use Rattle.bufshani.proofs.explore_checked.Statement.{statement}
 use Rattle.bufshani.proofs.explore_checked.Tie as tie
 

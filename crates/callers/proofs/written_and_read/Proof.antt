@@ -2,8 +2,8 @@
 use borrow.Author.Rules.{rules}
 use mathlib.Core.Path.{sym}
 use lib.Seq.{length-take-le}
-use Rattle.text.specs.ShapeLaws.{shaped}
-use Rattle.promise.specs.RoundTripCalls.{write_fits}
+use Rattle.text.proofs.ShapeLaws.{shaped}
+use Rattle.promise.proofs.RoundTripCalls.{write_fits}
 use Rattle.callers.specs.WrittenAndReadLaws.{refused_is, accepted_is}
 use Rattle.callers.proofs.written_and_read.Statement.{statement}
 use Rattle.callers.proofs.written_and_read.Tie as tie

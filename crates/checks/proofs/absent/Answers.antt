@@ -1,6 +1,6 @@
 use Rattle.std.proofs.Common.{sym, rules}
 use Rattle.table.specs.Table.{parts}
-use Rattle.text.specs.KindLaws.{not_absent}
+use Rattle.text.proofs.KindLaws.{not_absent}
 use borrow.Enum.Refused.{opened}
 use Rattle.checks.proofs.absent.Goals as goal
 

@@ -1,7 +1,7 @@
 -- The loop's invariant: the procedures passed stand, closed, behind the lines before them.
 use Rattle.std.proofs.Common.{arith}
 use Rattle.put.specs.RowLaws.{rows_start}
-use Rattle.text.specs.ShapeLaws.{shaped}
+use Rattle.text.proofs.ShapeLaws.{shaped}
 use Rattle.closer.specs.TableLaws.{counted}
 use Rattle.closed_text.specs.ClosedLaws.{closable, front_in, procs_few, proc_in, proc_put, closed_put}
 use Rattle.closed_text.proofs.put_closed.Goals as goal

@@ -1,7 +1,7 @@
 -- The first loop finds which nodes are kept, which are gone and their targets; the second closes each node in its place.
 use Rattle.std.proofs.Common.{rules, arith}
 use Rattle.closer.specs.SlotLaws.{upto_none, upto_next, sorted_none, sorted_next, sorted_gone, made}
-use Rattle.text.specs.ShapeLaws.{proc_long}
+use Rattle.text.proofs.ShapeLaws.{proc_long}
 use Rattle.closer.proofs.closed_proc.Goals as goal
 
 pub loop-n-init : goal.loop-n-init

@@ -1,5 +1,5 @@
 -- `explore_text::explore_ready` prints what the search finds, unless it meets its bound.
-use Rattle.text.specs.ShapeLaws.{shaped}
+use Rattle.text.proofs.ShapeLaws.{shaped}
 use Rattle.explore_answer.specs.Ready.{left_low}
 use Rattle.explore_text.specs.Reached.{allowed_few, allowed_begins, reached, reached_stated, reached_state, reached_shown, reached_short}
 use Rattle.explore_text.specs.TextLaws.{prints_met, prints_none, prints_found}

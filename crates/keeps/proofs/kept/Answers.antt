@@ -1,4 +1,4 @@
-use Rattle.text.specs.ShapeLaws.{shaped}
+use Rattle.text.proofs.ShapeLaws.{shaped}
 use Rattle.analysis.specs.ReadyLaws.{ready}
 use Rattle.keeps.specs.Keeps.{all_kept, open_kept}
 use Rattle.keeps.proofs.kept.Goals as goal

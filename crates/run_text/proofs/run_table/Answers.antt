@@ -1,6 +1,6 @@
 -- `run_text::run_table` prints the report of a run.
 use Rattle.std.proofs.Common.{sym}
-use Rattle.text.specs.ShapeLaws.{shaped}
+use Rattle.text.proofs.ShapeLaws.{shaped}
 use Rattle.run_text.specs.TextLaws.{reportable, report_is}
 use Rattle.run_text.proofs.run_table.Goals as goal
 

@@ -1,6 +1,6 @@
 -- `runner::run_valid` runs a table that has no fault: it is ready, and its run is the definition's.
 use Rattle.std.proofs.Common.{◌∙◌, ap}
-use Rattle.text.specs.ShapeLaws.{shaped}
+use Rattle.text.proofs.ShapeLaws.{shaped}
 use Rattle.machine.specs.Run.{Ran}
 use Rattle.run_code.specs.ReadyLaws.{ready}
 use Rattle.runner.proofs.Starts.{begun_is}

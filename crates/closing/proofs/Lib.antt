@@ -1,0 +1,12 @@
+pub mod ListLaws
+pub mod DirtyLaws
+pub mod KeptLaws
+pub mod ArcLaws
+pub mod CloseLaws
+pub mod ClosedTableLaws
+pub mod ClosedValid
+pub mod ReasonLaws
+pub mod Computing
+pub mod Examples
+pub mod ReasonExamples
+pub mod ClosedShaped

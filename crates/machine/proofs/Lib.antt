@@ -1,0 +1,11 @@
+pub mod Computing
+pub mod StepLaws
+pub mod ExecLaws
+pub mod RunLaws
+pub mod KeptLaws
+pub mod StopLaws
+pub mod ClosedStep
+pub mod ClosedRun
+pub mod LogLaws
+pub mod WordLaws
+pub mod ReasonLaws
