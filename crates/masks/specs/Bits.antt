@@ -1,6 +1,6 @@
 -- What is in the masks that code computes with `|`, `&`, `^` and shifts.
 use Rattle.std.specs.Prelude.{ℕ, zero, suc, ◌+◌, ◌-◌, ◌*◌, ◌/◌, ◌%◌, ◌^◌, ◌<◌, ◌≤◌, ◌≡◌, refl, Bool, true, false, not, ◌||◌, ◌&&◌, ◌⊎◌, ◌≢◌, eqb, ltb}
-use Rattle.std.proofs.Common.{arith, mod-lt, zero-lt-suc, pow-suc, div-one, one-mul, mod-eq_of_lt, lt_of_lt_of_le, lt_of_le_of_lt, add-one, sym, ◌∙◌, ap, true≢false, inl, inr, pow_pos, pow_mono, pow-add, shr-shr, shl_exact, eqb-true, eq-eqb, ltb-true, ltb-false}
+use Rattle.std.proofs.Common.{arith, pow-suc, one-mul, mod-eq_of_lt, lt_of_lt_of_le, lt_of_le_of_lt, add-one, sym, ◌∙◌, ap, true≢false, inl, inr, pow_pos, pow_mono, pow-add, shl_exact, eqb-true, eq-eqb, ltb-true, ltb-false}
 use Rattle.std.proofs.Math.Nat.{zero-div, div_self, div-eq_of_lt, mul-mod_left}
 use Rattle.std.proofs.lemmas.Bool.{false≢true, eqb-false}
 use Rattle.std.specs.Int.Bits.{bit_and, bit_or, and_lt, or_add_and, bit_xor, or_shifted_r}
