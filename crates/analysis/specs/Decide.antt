@@ -15,7 +15,7 @@ use Rattle.std.proofs.Math.Dec.{ltb}
 use borrow.Author.Tests.{ltb-true, ltb-false, lt-ltb, le-ltb, eqb-true, eqb-false}
 use Rattle.table.specs.Cases.{cases}
 use Rattle.table.specs.Mask.{pick, bit, members}
-use Rattle.table.specs.Table.{no_slot, outside, proc_at, node_at, task_at, uses, variable_set, arcs, first_arc, second_arc, arg_at, Exit, ends, by, either, Act, alone, waits, signals, sends, receives, calls, returns, act, parts}
+use Rattle.table.specs.Table.{no_slot, outside, proc_at, node_at, task_at, variable_set, arcs, first_arc, second_arc, arg_at, Exit, ends, by, either, Act, alone, waits, signals, sends, receives, calls, returns, act, parts}
 use Rattle.table.specs.declared.Node.{Node}
 use Rattle.table.specs.declared.Node.TheVariants.{Absent}
 use Rattle.table.specs.declared.Slot.{Slot}

@@ -1,5 +1,5 @@
 -- Masks that are made procedure by procedure, up to the table's counts: in each the nodes that pass a test. None passes where there is no node.
-use Rattle.std.specs.Prelude.{ℕ, ◌+◌, ◌<◌, ◌≤◌, ◌^◌, ◌≡◌, Bool, false, List, length, set, replicate}
+use Rattle.std.specs.Prelude.{ℕ, ◌+◌, ◌<◌, ◌≤◌, ◌≡◌, Bool, false, List, length, set, replicate}
 use Rattle.std.proofs.Common.{arith, lt_of_lt_of_le, sym, ◌∙◌, inl, inr, length-set, get_or-set_other, pow_pos, pow_mono}
 use Rattle.std.proofs.lemmas.List.{length-replicate}
 use Rattle.table.specs.Mask.{bit, mask_of}

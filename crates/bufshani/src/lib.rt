@@ -1,5 +1,7 @@
 // The library: what a user calls. Each call first checks a hand-made table.
 
+#![tactic(auto)]
+
 ghost use Rattle.std.specs.Prelude.{◌≡◌};
 ghost use Rattle.text.specs.Reader.{read};
 ghost use Rattle.text.specs.Writer.{fault, write_to};

@@ -1,5 +1,7 @@
 // Callers of the library, which get what the theorems of `promise` say of its calls. They ask nothing of their callers.
 
+#![tactic(auto)]
+
 ghost use Rattle.std.specs.Prelude.{◌≡◌};
 ghost use Rattle.table.specs.Table.{no_table};
 ghost use Rattle.text.specs.Writer.{write_to};

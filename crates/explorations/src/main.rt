@@ -1,6 +1,8 @@
 // Prints what the program `explore` answers to many words and texts, so that it can be compared with what it should answer. Standard input holds
 // the cases: the words DEPTH and BOUND and a text, each behind its length in five digits.
 
+#![tactic(auto)]
+
 fn print(rt: HostRuntime, first: &[u8], second: &[u8], text: &[u8]) {
     let mut out = [0u8; 65536];
     let a = explore_words::explore_words(rt.stderr(), 2, first, second, text, &mut out);

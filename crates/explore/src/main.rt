@@ -1,5 +1,7 @@
 // explore DEPTH BOUND < closed.txt
 
+#![tactic(auto)]
+
 use console::Input;
 use explore_words::{Asked, Word};
 

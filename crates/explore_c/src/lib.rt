@@ -1,4 +1,7 @@
 // The explorer for Rust and C. It is a library of its own, so that the search is compiled for it alone.
+
+#![tactic(auto)]
+
 ghost use Rattle.exploring.specs.Program.{explore_text};
 ghost use Rattle.put.specs.Put.{Put};
 

@@ -1,4 +1,7 @@
 // What the program `explore` prints for a text.
+
+#![tactic(auto)]
+
 ghost use Rattle.std.specs.Prelude.{◌≡◌};
 ghost use Rattle.text.specs.Writer.{fault};
 ghost use Rattle.put.specs.Put.{Put};

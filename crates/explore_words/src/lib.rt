@@ -1,6 +1,8 @@
 // What the program `explore` answers to its words and a text, in two steps: what the words ask for, and the search or the word's line. On a long
 // search it says on the standard error stream how far it is.
 
+#![tactic(auto)]
+
 ghost use Rattle.std.specs.Prelude.{◌≡◌, ◌∷◌, [], ◌<◌, ◌≤◌, min};
 ghost use Rattle.text.specs.Writer.{fault};
 ghost use Rattle.machine.specs.Words.{given};

@@ -1,7 +1,7 @@
 -- What is computed is the least set.
 use Prim.Native.Nat.{ℕ, zero, suc, ◌<◌}
 use Rattle.std.proofs.Common.{arith, sym, ◌∙◌, subst}
-use Rattle.std.specs.Prelude.{◌≡◌, refl, true, false, ◌↔◌, ltb, length}
+use Rattle.std.specs.Prelude.{◌≡◌, refl, true, ◌↔◌, ltb, length}
 use Rattle.std.proofs.Math.Path.{ap}
 use Rattle.std.proofs.Math.Bool.{false≢true}
 use Rattle.std.proofs.Math.Logic.{inl, inr}

@@ -2,6 +2,9 @@
 // each behind its length in five digits. For each, a line with the reader's number and line; for an accepted one also what writing its table
 // answers in a buffer of the text's length, whether that gives the same text, and what it answers in a buffer of one byte less; then
 // what the closing program prints.
+
+#![tactic(auto)]
+
 ghost use Rattle.std.specs.Prelude.{◌≤◌, length};
 
 use std::io::{Print, Stdout};

@@ -3,7 +3,7 @@ use Rattle.std.specs.Prelude.{ℕ, zero, suc, ◌+◌, ◌-◌, ◌≤◌, ◌<�
 use Rattle.std.proofs.Math.Path.{refl}
 use Rattle.std.proofs.Common.{sym, ◌∙◌, ap, arith, add-one, take-append-drop, drop-cons, drop-drop}
 use mathlib.Core.List.{List, [], ◌∷◌, ◌++◌}
-use Rattle.std.proofs.Math.Option.{Option, none, some}
+use Rattle.std.proofs.Math.Option.{some}
 use Rattle.std.proofs.lemmas.Bool.{false≢true}
 use borrow.Author.Tests.{lt-ltb, le-ltb, ne_eqb, not-true}
 use Rattle.table.specs.Cases.{cases}
@@ -17,7 +17,7 @@ use Rattle.text.specs.declared.NodeKind.TheVariants.{Start as start, Set as set_
 use Rattle.text.specs.Value.{choice, kind, operation, kind_word, op_word, same, named, said, unsaid, unless, is_kind, due_at, kind_fault, op_fault, check, kinds, ops}
 use Rattle.text.proofs.NumberLaws.{by_order, and_left, and_right}
 use Rattle.text.proofs.ValueLaws.{same_eq, kind_said}
-use Rattle.text.specs.Line.{judged, run as count, stops, field_of}
+use Rattle.text.specs.Line.{run as count, stops, field_of}
 use Rattle.scan.specs.declared.Found.{Found}
 use Rattle.scan.specs.declared.Found.TheVariants.{At, Differs, Broken}
 use Rattle.scan.specs.declared.Token.{Token}

@@ -1,4 +1,3 @@
-use Rattle.std.proofs.Common.{false}
 use Rattle.analysis.specs.Todo.{leads_low}
 use Rattle.analysis.specs.Work.{along_start, along_end, going_end}
 use Rattle.analysis.specs.WorklistLaws.{seen_less, seen_along, toward_lowest, toward_along, toward_end, toward_done}

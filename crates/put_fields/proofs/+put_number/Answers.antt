@@ -1,6 +1,6 @@
 -- The digits of a number are those of n / 10000 and the last four.
 use Rattle.std.proofs.Common.{rules}
-use Rattle.put_fields.specs.DigitLaws.{put_same_2, large_room, last_room, number_four}
+use Rattle.put_fields.specs.DigitLaws.{large_room, last_room, number_four}
 use Rattle.put_fields.proofs.+put_number.Goals as goal
 
 pub put_number-next-requires : goal.put_number-next-requires

@@ -1,0 +1,5 @@
+use Rattle.std.proofs.Common.{sym, arith, length-take-le}
+use Rattle.explore_words.proofs.say.Goals as goal
+
+pub slice_bounds-write_all-end : goal.slice_bounds-write_all-end
+slice_bounds-write_all-end c = sym (length-take-le _ _ (omega arith))
