@@ -1,4 +1,4 @@
--- A list that is made place by place is the list that `mapFrom` makes.
+-- A list that is made place by place is the list that `map_from` makes.
 use Prim.Native.Nat.{ℕ, zero, suc, ◌+◌, ◌<◌}
 use Rattle.std.proofs.Common.{arith, zero-add, add-suc, suc-add, ◌∙◌}
 use Rattle.std.proofs.Math.Nat.{add-zero}

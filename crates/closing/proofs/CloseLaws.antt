@@ -17,7 +17,7 @@ use Rattle.closing.specs.Dirty.{dropped}
 use Rattle.closing.specs.Closing.{dirty, is_dirty, kept}
 use Rattle.closing.specs.Close.{map_from, unkept_arcs, new_arc, closed_node, closed_slot, closed_proc, closed_queue, closed_with, close_table, answer, close}
 
--- place k of a list that `mapFrom` made; past the list's end the two defaults must agree
+-- place k of a list that `map_from` made; past the list's end the two defaults must agree
 map_from_at : {A B : Type 0} (f : ℕ → A → B) (i k : ℕ) (xs : List A) (a : A) (b : B) → (length xs ≤ k → f (i + k) a ≡ b) → get_or (map_from f i xs) k b ≡ f (i + k) (get_or xs k a)
 unfolding map_from
 map_from_at f i k [] a b h = sym (h (omega arith))

@@ -1,4 +1,4 @@
--- Lists that are made by `forEach` and `up_to`: what all their elements have, and what is among them.
+-- Lists that are made by `for_each` and `up_to`: what all their elements have, and what is among them.
 use Rattle.std.specs.Prelude.{ℕ, zero, suc, ◌<◌, refl, eqb}
 use Rattle.std.proofs.Common.{arith, eqb-true}
 use mathlib.Core.List.Memᴰ

@@ -1,4 +1,4 @@
--- The number of the first fault of a table's lines is that of `linesFault`.
+-- The number of the first fault of a table's lines is that of `lines_fault`.
 use Rattle.std.specs.Prelude.{ℕ, zero, suc, ◌+◌, ◌-◌, ◌<◌, ◌≡◌, refl, List, Bool, true, false, ◌&&◌, ltb}
 use Rattle.std.proofs.Common.{sym, ◌∙◌, ap, arith, lt-ltb, le-leb, ne_eqb}
 use Rattle.std.proofs.Math.Option.{Option, none, some}

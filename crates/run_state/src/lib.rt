@@ -1,5 +1,5 @@
 // The arrays that hold a state while it is stepped.
-// `marksOf` and `cells_of` (specs/Arrays.antt) say what stands where: `marks` has the frames open of each task, from 4 on whether it is lost, from 8 on the semaphores' counts, from 16 on the queues' lengths, from 32
+// `marks_of` and `cells_of` (specs/Arrays.antt) say what stands where: `marks` has the frames open of each task, from 4 on whether it is lost, from 8 on the semaphores' counts, from 16 on the queues' lengths, from 32
 // on the frames' procedures and from 64 on their nodes; `cells` has the frames' variables and from row 32 on the queues' entries.
 
 #![tactic(auto)]

@@ -1,4 +1,4 @@
--- Reading the lines that a table stands for ends as `linesFault` says: with that fault, or with a table that is the same in all that counts.
+-- Reading the lines that a table stands for ends as `lines_fault` says: with that fault, or with a table that is the same in all that counts.
 use Prim.Native.Nat.{ℕ, zero, suc, ◌+◌, ◌-◌, ◌≤◌, ◌<◌}
 use Rattle.std.specs.Prelude.{◌≡◌, Bool, true, false, eqb, length, get_or, set, replicate}
 use Rattle.std.proofs.Math.Path.{refl}

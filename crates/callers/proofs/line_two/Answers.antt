@@ -1,4 +1,4 @@
--- `callers::line_two` closes and explores, and line 2 of the sheet holds of its answer: `explored-calls` is applied to what `close` and `explore` ensure.
+-- `callers::line_two` closes and explores, and line 2 of the sheet holds of its answer: `explored_calls` is applied to what `close` and `explore` ensure.
 use Rattle.callers.specs.LineTwo.{sheet_is, sheet_clears}
 use Rattle.callers.proofs.line_two.Goals as goal
 

@@ -1,4 +1,4 @@
--- `callers::side_by_side` answers both runs, and demand 3 holds of them: `closed-calls` is applied to what `close` and `run` ensure.
+-- `callers::side_by_side` answers both runs, and demand 3 holds of them: `closed_calls` is applied to what `close` and `run` ensure.
 use Rattle.callers.specs.SideBySideLaws.{beside_is, beside_log, beside_agrees}
 use Rattle.callers.proofs.side_by_side.Goals as goal
 

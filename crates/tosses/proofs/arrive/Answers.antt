@@ -1,4 +1,4 @@
--- `tosses::arrive` takes an arc as `arrivedOf` says, by the number of its targets.
+-- `tosses::arrive` takes an arc as `arrived_of` says, by the number of its targets.
 use Rattle.std.proofs.Common.{arith}
 use Rattle.tosses.proofs.Arcs.{low_lt, one_target, more_targets, arrives_nowhere, arrives_at, arrives_tossed}
 use Rattle.tosses.proofs.arrive.Goals as goal
