@@ -1,5 +1,5 @@
 -- What a node is judged by after all lines, and its late fault.
-use Rattle.std.specs.Prelude.{ℕ, Bool, true, not, ◌&&◌, ◌||◌, List, [], ◌∷◌, map, eqb, get_or}
+use Rattle.std.specs.Prelude.{ℕ, Bool, not, ◌||◌, List, map, eqb, get_or}
 use Rattle.std.proofs.Math.Option.{Option, none}
 use Rattle.table.specs.Mask.{bit, members, mask_of}
 use Rattle.table.specs.Table.{no_queue, node_in, arg_at, Act, alone, waits, signals, sends, receives, calls, returns, Exit, ends, by, either, parts, act, is_absent}

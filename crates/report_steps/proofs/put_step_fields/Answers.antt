@@ -12,7 +12,10 @@ put_value-requires c = omega (arith, c.requires.0, c.put_size-a.ensures.put.few,
 
 pub returns : goal.returns
 returns c = let v = c.logged_value-v in
-    let e : to_z w32 (of_z w32 v.result) ≡ logged_value c.args.log.now c.args.j = to_z-of_z {w = w32} (record { sfits = v.type_inv }) ∙ v.ensures in record { printed = rw add-zero (put_more (omega arith)
+    let e : to_z w32 (of_z w32 v.result) ≡ logged_value c.args.log.now c.args.j = to_z-of_z {w = w32} (record { sfits = v.type_inv }) ∙ v.ensures in record {
+      printed = rw add-zero (put_more (omega arith)
           (field_then (short c.args.i (omega (arith, c.requires.2)) c.put_size-a.ensures)
           (field_then c.put_count-b.ensures (field_then c.put_count-c.ensures (field_then c.put_count-d.ensures (field_then c.put_count-e.ensures
-          (rw e at c.put_value.ensures))))))); short = λ h. fields_short c.args.i c.args.log.now c.args.j c.requires.2 (rw e at c.put_value.ensures.few) h }
+          (rw e at c.put_value.ensures)))))));
+      short = λ h. fields_short c.args.i c.args.log.now c.args.j c.requires.2 (rw e at c.put_value.ensures.few) h;
+    }
