@@ -9,7 +9,6 @@ use Rattle.text.specs.Value.{ascending, operand}
 use Rattle.text.specs.Line.{Line, end, field, Vals, line}
 use Rattle.text.specs.Format.{Scope as Judged, targets, to_field, fields, node_line, set_of, node_of}
 use Rattle.text.specs.Reader.{Numbered}
-use Rattle.lists.specs.declared.Set.{Set}
 use Rattle.nodes.specs.declared.Scope.{Scope}
 use Rattle.nodes.specs.declared.Line.{Line as NodeAnswer}
 use Rattle.nodes.specs.declared.Line.TheVariants.{Node as IsNode, Refused as NotNode}

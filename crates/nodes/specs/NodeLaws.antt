@@ -8,7 +8,7 @@ use Rattle.table.specs.declared.Args.{Args}
 use Rattle.text.specs.declared.Fault.{Fault}
 use Rattle.text.specs.declared.NodeKind.{NodeKind}
 use Rattle.text.proofs.ValueLaws.{no}
-use Rattle.text.specs.Line.{end, Vals, line}
+use Rattle.text.specs.Line.{Vals, line}
 use Rattle.text.specs.Format.{set_of, Scope as Judged, fields, node_of}
 use Rattle.text.specs.Reader.{Numbered}
 use Rattle.scan.specs.declared.Ended.{Ended}

@@ -1,5 +1,5 @@
 -- The lines of a text, one group behind the other.
-use Rattle.std.specs.Prelude.{ℕ, zero, suc, ◌+◌, ◌*◌, ◌≤◌, ◌<◌, ◌≡◌, List, [], ◌∷◌, map, Bool, false, length, get_or, set, replicate}
+use Rattle.std.specs.Prelude.{ℕ, zero, suc, ◌+◌, ◌*◌, ◌≤◌, ◌<◌, ◌≡◌, List, [], ◌∷◌, map, Bool, false, length, set, replicate}
 use Rattle.std.proofs.Math.Path.{refl}
 use Rattle.std.proofs.Common.{sym, ◌∙◌, ap, subst, arith, lt-ltb, le-ltb, drop_of_length-le, drop-cons}
 use Rattle.std.proofs.Math.ListN.{drop}
@@ -10,12 +10,12 @@ use Rattle.text.specs.declared.Fault.{Fault}
 use Rattle.text.specs.declared.Fault.TheVariants.{Long, Ended}
 use Rattle.text.specs.declared.Reading.{Reading}
 use Rattle.text.specs.Fault.{number}
-use Rattle.text.specs.Line.{Outcome, took, refused, Parser, onto, ◌>>=◌, give, line}
+use Rattle.text.specs.Line.{Outcome, took, refused, Parser, onto, give, line}
 use Rattle.text.proofs.LineLaws.{onto_read, line_read}
 use Rattle.text.proofs.RowLaws.{Rows, Row, faultless, rows_fill}
 use Rattle.text.proofs.NodeLaws.{number_fact}
 use Rattle.text.specs.Format.{head_line, counts_line, proc_line}
-use Rattle.text.specs.Reader.{rows, task_row, sem_row, queue_row, nodes_of, scope_of, proc_of, proc_row, at_end, body, table, proc_late, late, first_late, bad, read_lines, reading, read}
+use Rattle.text.specs.Reader.{rows, task_row, sem_row, queue_row, nodes_of, scope_of, proc_of, proc_row, body, table, proc_late, late, first_late, bad, read_lines, reading, read}
 use Rattle.fields.specs.Answer.{LineAt}
 use Rattle.fields.specs.FieldLaws.{onto_onto, onto_got, onto_stop}
 use Rattle.records.specs.declared.Counts.{Counts}
@@ -46,7 +46,7 @@ use Rattle.late.specs.Steps.{found_bad}
 use Rattle.late.specs.Walks.{tasks_late, procs_late, tasks_of, proc_of_lem, tasks_late_lem, procs_late_lem, late_found}
 use Rattle.reader.specs.declared.Objects.{Objects}
 use Rattle.reader.specs.declared.Front.{Front}
-use Rattle.reader.specs.Answer.{head_fault, counts_fault, fault_of, Lists, lists, no_objects, lists_of, queue_rows, sem_rows, object_rows, ObjectsAt, answered, body_in, table_of, others, front_lists, table_with, no_front, FrontAt}
+use Rattle.reader.specs.Answer.{head_fault, counts_fault, fault_of, lists, no_objects, lists_of, queue_rows, sem_rows, object_rows, ObjectsAt, answered, body_in, others, front_lists, table_with, no_front, FrontAt}
 
 module _ {A : Type 0} {f : ℕ → Parser A} {n : ℕ} {acc : List A} {s : List ℕ} {at line : ℕ} {e : End} {l : ℕ} {a : List A} (m : RowsAt f n acc s at line e l a) where
   rows_took : {p : ℕ} → e ≡ At p → rows f n 0 acc line (drop at s) ≡ took a l (drop p s)

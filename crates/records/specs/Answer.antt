@@ -1,12 +1,12 @@
 -- What the readers of the lines before the nodes answer.
-use Rattle.std.specs.Prelude.{ℕ, ◌<◌, List, Bool, true, false, drop}
+use Rattle.std.specs.Prelude.{ℕ, ◌<◌, List, Bool, true, false}
 use Rattle.table.specs.declared.Task.{Task}
 use Rattle.table.specs.declared.Sem.{Sem}
 use Rattle.table.specs.declared.Queue.{Queue}
 use Rattle.text.specs.Number.{bytes}
 use Rattle.text.specs.Value.{from}
-use Rattle.text.specs.Line.{Line, end, field, Vals, line}
-use Rattle.text.specs.Format.{head_line, counts_line, task_line, sem_line, queue_line, blank_field, proc_line, drop_field, set_of}
+use Rattle.text.specs.Line.{Line, end, field, Vals}
+use Rattle.text.specs.Format.{head_line, counts_line, queue_line, blank_field, proc_line, drop_field, set_of}
 use Rattle.text.specs.Reader.{queue_of, dropped_by}
 use Rattle.records.specs.declared.Counts.{Counts}
 use Rattle.records.specs.declared.HeadLine.{HeadLine}

@@ -5,7 +5,7 @@ use Rattle.table.specs.declared.Node.TheVariants.{Absent}
 use Rattle.table.specs.declared.Table.{Table}
 use Rattle.masks.specs.Cells.{set_more}
 use Rattle.run_code.specs.Ready.{Ready}
-use Rattle.run_code.specs.Code.{bytes_of, words_of, takes_of}
+use Rattle.run_code.specs.Code.{bytes_of, takes_of}
 use Rattle.run_code.proofs.Rows.{bytes_at, words_at, bytes_none, words_none, rowed_none, rowed_more, rowed_all}
 use Rattle.run_code.proofs.decode.Goals as goal
 
@@ -45,5 +45,10 @@ returns c = let t = c.args.t in
     let y = c.requires.0 in
     let i = c.loop-p.invariant in
     let e : c.loop-p.p ≡ t.procs = omega arith in
-    let none : (p n : ℕ) → c.loop-p.p ≤ p → node_at t p n ≡ Absent = λ p n h. y.beyond p n (λ u k. omega arith) in record { code = λ p n h k. rowed_all (bytes_at t cs keep) (replicate 8 0) c.loop-p.p c.loop-p.code (λ p n h. bytes_none cs (get_or keep p 0) (node_at t p n) (none p n h)) i.1 p n h k
-          ∙ ap (λ (l : List ℕ). bytes_of l (get_or keep p 0) (node_at t p n)) c.caps-caps.ensures; words = rowed_all (words_at t) (replicate 4 0) c.loop-p.p c.loop-p.words (λ p n h. words_none (node_at t p n) (none p n h)) i.2; takes = (λ p h. i.4 p (omega arith)); rest = λ p h. i.5 p (omega arith) }
+    let none : (p n : ℕ) → c.loop-p.p ≤ p → node_at t p n ≡ Absent = λ p n h. y.beyond p n (λ u k. omega arith) in record {
+      code = λ p n h k. rowed_all (bytes_at t cs keep) (replicate 8 0) c.loop-p.p c.loop-p.code (λ p n h. bytes_none cs (get_or keep p 0) (node_at t p n) (none p n h)) i.1 p n h k
+          ∙ ap (λ (l : List ℕ). bytes_of l (get_or keep p 0) (node_at t p n)) c.caps-caps.ensures;
+      words = rowed_all (words_at t) (replicate 4 0) c.loop-p.p c.loop-p.words (λ p n h. words_none (node_at t p n) (none p n h)) i.2;
+      takes = (λ p h. i.4 p (omega arith));
+      rest = λ p h. i.5 p (omega arith);
+    }

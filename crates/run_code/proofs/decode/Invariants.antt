@@ -1,7 +1,5 @@
-use Rattle.std.proofs.Common.{◌≡◌, List, ℕ, ◌-◌, ◌≤◌, ◌<◌, length, get_or, replicate}
-use Rattle.table.specs.Table.{node_at}
-use Rattle.table.specs.declared.Table.{Table}
-use Rattle.run_code.specs.Code.{bytes_of, words_of, takes_of}
+use Rattle.std.proofs.Common.{◌≡◌, ℕ, ◌-◌, ◌≤◌, ◌<◌, length, get_or, replicate}
+use Rattle.run_code.specs.Code.{takes_of}
 use Rattle.run_code.proofs.Rows.{bytes_at, words_at, Rowed}
 use Rattle.run_code.proofs.decode.Given as goal
 
