@@ -1,5 +1,5 @@
 -- What a step is, by how its node goes on, and what each arm of the code leaves.
-use Rattle.std.specs.Prelude.{ℕ, ◌-◌, ◌/◌, ◌%◌, ◌≡◌, refl, Bool, true, false, List, ◌∷◌, length, set, drop, eqb, ℤ}
+use Rattle.std.specs.Prelude.{ℕ, ◌/◌, ◌%◌, ◌≡◌, refl, Bool, true, false, List, ◌∷◌, length, set, drop, eqb, ℤ}
 use Rattle.std.proofs.Common.{sym, ◌∙◌, subst, length-set, eqb-true}
 use Rattle.std.proofs.Math.Path.{ap}
 use Rattle.std.proofs.Math.Option.{Option, none, some}

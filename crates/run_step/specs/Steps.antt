@@ -7,7 +7,7 @@ use Rattle.table.specs.Mask.{bit, members}
 use Rattle.table.specs.declared.Table.{Table}
 use Rattle.machine.specs.declared.State.{State}
 use Rattle.machine.specs.State.{open_frames, is_lost, place, blocked}
-use Rattle.machine.specs.Step.{Stop, stop_number, assign, choose, kept_in, Walk, halts, arrives, along, walk, Step, stopped, stepped, landed, memory, step_of, step, before}
+use Rattle.machine.specs.Step.{Stop, stop_number, assign, choose, kept_in, Walk, halts, arrives, along, walk, Step, stopped, stepped, landed, memory, step_of}
 use Rattle.run_code.specs.Ready.{Ready}
 use Rattle.run_code.specs.Code.{byte, Coded, Worded}
 use Rattle.run_state.specs.Good.{frame_in, Good}

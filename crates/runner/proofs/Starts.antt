@@ -1,10 +1,10 @@
 -- A run from its start: where the values are spent, and where the first state is begun with.
 use mathlib.Core.Path.{◌≡◌, refl, sym, ◌∙◌, ap, subst}
 use mathlib.Core.Bool.{true, false, true≢false}
-use mathlib.Core.List.{List, []}
-use Prim.Native.Nat.{ℕ, ◌-◌, ◌<◌, ◌≤◌}
+use mathlib.Core.List.{List}
+use Prim.Native.Nat.{ℕ, ◌-◌, ◌≤◌}
 use native.Mathlib.Omega.{arith}
-use lib.ListN.{length, get_or, drop}
+use lib.ListN.{length, drop}
 use lib.IntN.{ℤ}
 use Rattle.table.specs.Cases.{cases}
 use Rattle.table.specs.declared.Table.{Table}
@@ -15,8 +15,6 @@ use Rattle.machine.specs.State.{Begun as Beginning, spent, begun, begin, first_s
 use Rattle.machine.specs.Step.{values_spent, stop_number, kept_in}
 use Rattle.machine.specs.Run.{Ran, run_begun, run, run_from}
 use Rattle.machine.proofs.RunLaws.{run_begun_lem}
-use Rattle.run_code.specs.Ready.{Ready}
-use Rattle.run_code.specs.Code.{Coded, Worded}
 use Rattle.run_state.specs.declared.Begun.{Begun}
 use Rattle.run_state.specs.Good.{Shape}
 use Rattle.run_state.specs.Arrays.{marks_of, cells_of}

@@ -17,11 +17,10 @@ pub bounds-takes-p : goal.bounds-takes-p
 bounds-takes-p c = tops_low c.requires.0 c.loop-i.i (omega arith)
 
 pub input_row-w-requires : goal.input_row-w-requires
-input_row-w-requires c = let l = c.loop-i in
-    (
-      takes_few c.requires.0 l.i (omega arith),
-      take_room c.args.task c.args.takes.now c.args.tasks c.args.values.now l.invariant.1 (omega arith) (omega (arith, c.if-values-needed.false, c.needed.ensures)),
-    )
+input_row-w-requires c = let l = c.loop-i in (
+  takes_few c.requires.0 l.i (omega arith),
+  take_room c.args.task c.args.takes.now c.args.tasks c.args.values.now l.invariant.1 (omega arith) (omega (arith, c.if-values-needed.false, c.needed.ensures)),
+)
 
 pub overflow_cast-used : goal.overflow_cast-used
 overflow_cast-used c = let l = c.loop-i in

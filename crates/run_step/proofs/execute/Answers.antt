@@ -1,5 +1,5 @@
 -- The arm of a node's kind executes it.
-use Rattle.std.proofs.Common.{[], arith, ℕ, get_or, ◌≡◌, inl, inr}
+use Rattle.std.proofs.Common.{[], arith, ℕ, get_or, ◌≡◌}
 use Rattle.run_code.specs.Code.{byte}
 use Rattle.run_step.specs.Steps.{Stands, Standing}
 use Rattle.run_step.specs.Standing.{row_low, by_row}

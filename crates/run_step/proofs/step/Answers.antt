@@ -29,9 +29,9 @@ row-a-requires c = let p = c.requires.0 in
 
 pub before_at-b-requires : goal.before_at-b-requires
 before_at-b-requires c = let p = c.requires.0 in (
-      asked p.held c.args.i p.task,
-      (row_top p.held c.args.i p.task c.top-f.result c.top-f.ensures c.row-a.result c.row-a.ensures, refl),
-    )
+  asked p.held c.args.i p.task,
+  (row_top p.held c.args.i p.task c.top-f.result c.top-f.ensures c.row-a.result c.row-a.ensures, refl),
+)
 
 pub returns-then-b-ne0 : goal.returns-then-b-ne0
 returns-then-b-ne0 c = λ t s h k.

@@ -60,9 +60,9 @@ returns c =
     elim c.if-rest-eq0.branch [
       | then-rest-eq0 w ↦ ends_as _ _ _ _ _ _ _ _ _ _ v (ends_last _ _ _ _ _ _ _ _ _ _ v w.if-rest-eq0.true) w.marks-is w.cells-is w.stop-is
       | else-rest-eq0+then-b-ne0 w ↦
-        ends_as _ _ _ _ _ _ _ _ _ _ v (ends_before _ _ _ _ _ _ _ _ _ _ v w.if-rest-eq0.false _ w.before-b.ensures w.if-b-ne0.true) w.marks-is w.cells-is w.stop-is
+          ends_as _ _ _ _ _ _ _ _ _ _ v (ends_before _ _ _ _ _ _ _ _ _ _ v w.if-rest-eq0.false _ w.before-b.ensures w.if-b-ne0.true) w.marks-is w.cells-is w.stop-is
       | else-rest-eq0+else-b-ne0+then-e-ne0 w ↦
-        ends_as _ _ _ _ _ _ _ _ _ _ v
-        (ends_step _ _ _ _ _ _ _ _ _ _ v w.if-rest-eq0.false _ w.before-b.ensures w.if-b-ne0.false w.step-e.result _ _ w.step-e.ensures w.if-e-ne0.true)
-        w.marks-is w.cells-is w.stop-is
+          ends_as _ _ _ _ _ _ _ _ _ _ v
+          (ends_step _ _ _ _ _ _ _ _ _ _ v w.if-rest-eq0.false _ w.before-b.ensures w.if-b-ne0.false w.step-e.result _ _ w.step-e.ensures w.if-e-ne0.true)
+          w.marks-is w.cells-is w.stop-is
     ]
