@@ -1,6 +1,6 @@
 -- What `line_two` answers, and line 2 of the sheet.
 use Rattle.std.specs.Prelude.{ℕ, ◌≡◌}
-use Rattle.std.proofs.Common.{sym, ◌∙◌, ap, ap₂}
+use Rattle.std.proofs.Common.{◌∙◌, ap}
 use Rattle.table.specs.declared.Table.{Table}
 use Rattle.closing.specs.declared.Closing.{Closing}
 use Rattle.closing.specs.Close.{close}
