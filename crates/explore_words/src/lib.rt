@@ -47,7 +47,8 @@ pub fn ask(n: usize, first: &[u8], second: &[u8]) -> Asked
     let Number::Is(b) = arguments::up_to(second, 18446744073709551615) else {
         return Asked::Unread(Word::Bound);
     };
-    if left != 1 {
+    let further = left != 1;
+    if further {
         return Asked::Unread(Word::Further);
     }
     Asked::Search(d, b)

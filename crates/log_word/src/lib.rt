@@ -27,7 +27,8 @@ pub fn last_words(n: usize, word: &[u8]) -> Rest
     let Number::Is(k) = arguments::log(word) else {
         return Rest::NoLog;
     };
-    if n != 1 {
+    let further = n != 1;
+    if further {
         return Rest::Further;
     }
     Rest::Log(k)

@@ -16,8 +16,8 @@ returns-then-left-eq0 c = let x = c.args in bound_missing x.first.now x.second.n
 pub returns-in_default-up_to : goal.returns-in_default-up_to
 returns-in_default-up_to c = let x = c.args in bound_unread x.first.now x.second.now x.n c.if-n-eq0.false (number_is most_steps _ c.up_to.ensures c.in-Is.is) c.if-left-eq0.false (number_none most_steps _ c.up_to-2.ensures c.in_default-up_to.is)
 
-pub returns-then-left-ne1 : goal.returns-then-left-ne1
-returns-then-left-ne1 c = let x = c.args in words_further x.first.now x.second.now x.n c.if-n-eq0.false (number_is most_steps _ c.up_to.ensures c.in-Is.is) c.if-left-eq0.false (number_is most_steps _ c.up_to-2.ensures c.in-Is-up_to.is) c.if-left-ne1.true
+pub returns-then-further : goal.returns-then-further
+returns-then-further c = let x = c.args in words_further x.first.now x.second.now x.n c.if-n-eq0.false (number_is most_steps _ c.up_to.ensures c.in-Is.is) c.if-left-eq0.false (number_is most_steps _ c.up_to-2.ensures c.in-Is-up_to.is) c.if-further.true
 
 pub returns : goal.returns
-returns c = let x = c.args in words_ask x.first.now x.second.now x.n c.if-n-eq0.false (number_is most_steps _ c.up_to.ensures c.in-Is.is) c.if-left-eq0.false (number_is most_steps _ c.up_to-2.ensures c.in-Is-up_to.is) c.if-left-ne1.false
+returns c = let x = c.args in words_ask x.first.now x.second.now x.n c.if-n-eq0.false (number_is most_steps _ c.up_to.ensures c.in-Is.is) c.if-left-eq0.false (number_is most_steps _ c.up_to-2.ensures c.in-Is-up_to.is) c.if-further.false

@@ -8,8 +8,8 @@ returns-then-n-eq0 c = record { says = log_missing c.args.word.now c.args.n c.if
 pub returns-in_default : goal.returns-in_default
 returns-in_default c = record { says = log_unread c.args.word.now c.args.n c.if-n-eq0.false (number_none 800000 _ c.log.ensures c.in_default.is); fits = tt }
 
-pub returns-then-n-ne1 : goal.returns-then-n-ne1
-returns-then-n-ne1 c = record { says = log_further c.args.word.now c.args.n c.if-n-eq0.false c.if-n-ne1.true (number_is 800000 _ c.log.ensures c.in-Is.is); fits = tt }
+pub returns-then-further : goal.returns-then-further
+returns-then-further c = record { says = log_further c.args.word.now c.args.n c.if-n-eq0.false c.if-further.true (number_is 800000 _ c.log.ensures c.in-Is.is); fits = tt }
 
 pub returns : goal.returns
-returns c = let e = number_is 800000 _ c.log.ensures c.in-Is.is in record { says = log_asks c.args.word.now c.args.n c.if-n-eq0.false c.if-n-ne1.false e; fits = number_small _ e }
+returns c = let e = number_is 800000 _ c.log.ensures c.in-Is.is in record { says = log_asks c.args.word.now c.args.n c.if-n-eq0.false c.if-further.false e; fits = number_small _ e }
