@@ -9,7 +9,7 @@ pub struct Frame {
     pub vars: [i32; 16],
 }
 
-// A queue's entries, the oldest first.
+// A queue's entries, the oldest first, in the first `len` of eight places, since there is no heap.
 #[derive(Clone, Copy)]
 pub struct Entries {
     pub len: u8,
@@ -27,6 +27,7 @@ pub struct State {
 }
 
 // Steps completed, values used, the stop number, 0 when the schedule ends, and the state.
+// No Result, since a run that stops has all four too: `run`, and the theorems `demand_3` and `demand_3_stopped`.
 #[derive(Clone, Copy)]
 pub struct Running {
     pub steps: usize,

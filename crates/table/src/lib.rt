@@ -23,6 +23,7 @@ pub enum Op {
 }
 
 // The variables that a call passes, the first `len` of four places. No callee has more than four parameters, so a greater `len` is a fault.
+// No list, since a hand-made table can have any count and any unused place, which `fault` judges.
 #[derive(Clone, Copy)]
 pub struct Args {
     pub len: u8,
@@ -126,7 +127,8 @@ pub struct Proc {
     pub slots: [Slot; 32],
 }
 
-// A table. Places at or beyond a count are unused, and 0 in a table without a fault.
+// A table. Places at or beyond a count are unused, and 0 in a table without a fault. No lists, since there is no heap, and since `fault` judges
+// counts and unused places of a hand-made table, and `Shaped` in the round trip `written_read` has them.
 #[derive(Clone, Copy)]
 pub struct Table {
     pub trap: u8,

@@ -68,6 +68,7 @@ pub enum NodeKind {
 }
 
 // The table, with number and line 0; or the number and the line of the first fault, with a table all 0.
+// No Result, since a refusal too has a number, a line and a table all 0: `read`, and the round trips `written_read` and `read_written`.
 #[derive(Clone, Copy)]
 pub struct Reading {
     pub number: u8,
@@ -76,6 +77,7 @@ pub struct Reading {
 }
 
 // The length of the text written, with number and line 0; or the number of the refusal, with line and length 0.
+// No Result, since a refusal too has a number, a line and a length 0: `write_to`.
 #[derive(Clone, Copy)]
 pub struct Writing {
     pub number: u8,
