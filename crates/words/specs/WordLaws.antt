@@ -1,5 +1,5 @@
 -- Laws of the readers of words: each says what a step of the code shows.
-use Rattle.std.specs.Prelude.{ℕ, zero, suc, ◌+◌, ◌-◌, ◌≤◌, ◌<◌, ◌≡◌, Bool, true, false, not, length, take, drop, get_or, ltb}
+use Rattle.std.specs.Prelude.{ℕ, zero, suc, ◌+◌, ◌-◌, ◌≤◌, ◌<◌, ◌≡◌, Bool, true, false, not, length, take, drop, get_or, ltb, Option, Some, None, Ok, Err}
 use Rattle.std.proofs.Math.Path.{refl}
 use Rattle.std.proofs.Common.{sym, ◌∙◌, ap, arith, add-one, take-append-drop, drop-cons, drop-drop}
 use mathlib.Core.List.{List, [], ◌∷◌, ◌++◌}
@@ -22,17 +22,9 @@ use Rattle.scan.specs.declared.Found.{Found}
 use Rattle.scan.specs.declared.Found.TheVariants.{At, Differs, Broken}
 use Rattle.scan.specs.declared.Token.{Token}
 use Rattle.scan.specs.declared.Token.TheVariants.{At as Between, Not as Refused}
-use Rattle.words.specs.declared.Choice.{Choice}
-use Rattle.words.specs.declared.Choice.TheVariants.{Is as IsChoice, Not as NotChoice}
-use Rattle.words.specs.declared.Quick.{Quick}
-use Rattle.words.specs.declared.Quick.TheVariants.{Is as IsQuick, Not as NotQuick}
-use Rattle.words.specs.declared.Kind.{Kind as KindAnswer}
-use Rattle.words.specs.declared.Kind.TheVariants.{Is as IsKind, Not as NotKind}
-use Rattle.words.specs.declared.Operation.{Operation}
-use Rattle.words.specs.declared.Operation.TheVariants.{Is as IsOp, Not as NotOp}
 use Rattle.scan.specs.Place.{AfterKey, quad_number, Bytes, QuadAt, ValueAt, TokenAt, RefusalOf}
 use Rattle.scan.specs.PlaceLaws.{quad_bytes, count_more, count_none, value_ends, value_within, token_within}
-use Rattle.words.specs.Answer.{WordTo, ChoiceEnds, ChoiceWithin, ChoiceSaid, ChoiceAt, KindEnds, KindWithin, plain, KindJudged, Later, KindSaid, KindIn, stands_at, quick_kind, KindAt, OpEnds, OpWithin, calculates, OpJudged, OpSaid, OpIn, OpAt}
+use Rattle.words.specs.Answer.{Answer, WordTo, Ends, Within, ChoiceSaid, ChoiceAt, plain, KindJudged, Later, KindSaid, KindIn, stands_at, quick_kind, KindAt, calculates, OpJudged, OpSaid, OpIn, OpAt}
 
 -- ---- a word that four bytes show
 step : (s : List ℕ) (i k : ℕ) → i < length s → k ≡ i + 1 → drop i s ≡ get_or s i 0 ∷ drop k s
@@ -89,29 +81,29 @@ module _ {s : List ℕ} {at r : ℕ} (m : QuadAt s at r) (h : 4 ≤ length s - a
 
 -- ---- one of two words
 module _ (a b t : List ℕ) (e : ℕ) {x : Bool} (p : x ≡ same a t) where
-  pub choice_first : x ≡ true → ChoiceSaid a b t e (IsChoice false e)
+  pub choice_first : x ≡ true → ChoiceSaid a b t e (Ok (false, e))
   unfolding said named check
   choice_first h = record { same = λ l s. rw (← p, h); ends = refl }
 
   module _ {y : Bool} (h : x ≡ false) (q : y ≡ same b t) where
-    pub choice_second : y ≡ true → ChoiceSaid a b t e (IsChoice true e)
+    pub choice_second : y ≡ true → ChoiceSaid a b t e (Ok (true, e))
     unfolding said named check
     choice_second k = record { same = λ l s. rw (← p, h, ← q, k); ends = refl }
 
-    pub choice_none : y ≡ false → ChoiceSaid a b t e (NotChoice Form)
+    pub choice_none : y ≡ false → ChoiceSaid a b t e (Err Form)
     unfolding said named unsaid
     choice_none k = record { same = λ l s. rw (← p, h, ← q, k); ends = tt }
 
 module _ {key s : List ℕ} {at : ℕ} {r : Token} (m : TokenAt key s at r) where
-  pub choice_stop : (a b : List ℕ) {x y : Fault} → r ≡ Refused y → x ≡ RefusalOf r → ChoiceAt a b key s at (NotChoice x)
+  pub choice_stop : (a b : List ℕ) {x y : Fault} → r ≡ Refused y → x ≡ RefusalOf r → ChoiceAt a b key s at (Err x)
   choice_stop a b q z = record { same = λ l. rw (z, q) (rw q at (m.same (choice a b) l)); within = tt }
 
-  pub choice_step : {a b : List ℕ} {from e : ℕ} {v : Choice} → r ≡ Between from e → ChoiceSaid a b (take (e - from) (drop from s)) e v → ChoiceAt a b key s at v
+  pub choice_step : {a b : List ℕ} {from e : ℕ} {v : Answer Bool} → r ≡ Between from e → ChoiceSaid a b (take (e - from) (drop from s)) e v → ChoiceAt a b key s at v
   choice_step {a} {b} {from} {e} {v} q d = record { same = λ l. d.same l s ∙ rw q at (m.same (choice a b) l); within = reach v d.ends }
     where
-      reach : (v : Choice) → ChoiceEnds e v → ChoiceWithin s v
-      reach (IsChoice v p) h = rw h (token_within m q).1
-      reach (NotChoice f) h = tt
+      reach : (v : Answer Bool) → Ends e v → Within s v
+      reach (Ok (v, p)) h = rw h (token_within m q).1
+      reach (Err f) h = tt
 
 -- ---- the kinds of nodes
 plain_fault : (k : NodeKind) → plain k ≡ true → (c : Bool) (j : ℕ) → kind_fault c j k ≡ unless (due_at j false) Index
@@ -120,38 +112,38 @@ plain_fault k h c j =
     let r = is_kind read k in
     rw (not-true s (and_left (not s) (not r) h), not-true r (and_right (not s) (not r) h))
 
-pub later_zero : (k : NodeKind) {j : ℕ} (e : ℕ) → plain k ≡ true → j ≡ 0 → Later k j e (NotKind Index)
+pub later_zero : (k : NodeKind) {j : ℕ} (e : ℕ) → plain k ≡ true → j ≡ 0 → Later k j e (Err Index)
 unfolding check
 later_zero k {j} e h z = record { judged = λ c. record { same = λ l s. rw (plain_fault k h c j, z); ends = tt } }
 
-pub later_is : (k : NodeKind) (j e : ℕ) → plain k ≡ true → (j ≡ 0 → ⊥) → Later k j e (IsKind k e)
+pub later_is : (k : NodeKind) (j e : ℕ) → plain k ≡ true → (j ≡ 0 → ⊥) → Later k j e (Ok (k, e))
 unfolding check
 later_is k zero e h z = absurd (z refl)
 later_is k (suc j) e h z = record { judged = λ c. record { same = λ l s. rw (plain_fault k h c (suc j)); ends = refl } }
 
-pub start_is : {j : ℕ} (e : ℕ) → j ≡ 0 → Later start j e (IsKind start e)
+pub start_is : {j : ℕ} (e : ℕ) → j ≡ 0 → Later start j e (Ok (start, e))
 unfolding check same
 start_is e z = record { judged = λ c. record { same = λ l s. rw z; ends = refl } }
 
-pub start_late : (j e : ℕ) → (j ≡ 0 → ⊥) → Later start j e (NotKind Index)
+pub start_late : (j e : ℕ) → (j ≡ 0 → ⊥) → Later start j e (Err Index)
 unfolding check same
 start_late zero e z = absurd (z refl)
 start_late (suc j) e z = record { judged = λ c. record { same = λ l s. refl; ends = tt } }
 
-pub read_closed : {c : Bool} (j e : ℕ) → c ≡ true → KindJudged c j read e (NotKind Form)
+pub read_closed : {c : Bool} (j e : ℕ) → c ≡ true → KindJudged c j read e (Err Form)
 unfolding check same
 read_closed j e h = record { same = λ l s. rw h; ends = tt }
 
-pub read_first : {c : Bool} {j : ℕ} (e : ℕ) → c ≡ false → j ≡ 0 → KindJudged c j read e (NotKind Index)
+pub read_first : {c : Bool} {j : ℕ} (e : ℕ) → c ≡ false → j ≡ 0 → KindJudged c j read e (Err Index)
 unfolding check same
 read_first e h z = record { same = λ l s. rw (h, z); ends = tt }
 
-pub read_is : {c : Bool} (j e : ℕ) → c ≡ false → (j ≡ 0 → ⊥) → KindJudged c j read e (IsKind read e)
+pub read_is : {c : Bool} (j e : ℕ) → c ≡ false → (j ≡ 0 → ⊥) → KindJudged c j read e (Ok (read, e))
 unfolding check same
 read_is zero e h z = absurd (z refl)
 read_is (suc j) e h z = record { same = λ l s. rw h; ends = refl }
 
-module _ {c : Bool} {j : ℕ} {t : List ℕ} {e : ℕ} {r : KindAnswer} where
+module _ {c : Bool} {j : ℕ} {t : List ℕ} {e : ℕ} {r : Answer NodeKind} where
   pub kind_hit : {k : NodeKind} {ks : List NodeKind} {x : Bool} → x ≡ same (kind_word k) t → x ≡ true → KindJudged c j k e r → KindSaid c j (k ∷ ks) t e r
   unfolding named
   kind_hit p h d = record { same = λ l s. rw (← p, h) (d.same l s); ends = d.ends }
@@ -163,32 +155,32 @@ module _ {c : Bool} {j : ℕ} {t : List ℕ} {e : ℕ} {r : KindAnswer} where
   unfolding named
   kind_miss p h d = record { same = λ l s. rw (← p, h) (d.same l s); ends = d.ends }
 
-pub kind_none : (c : Bool) (j : ℕ) (t : List ℕ) (e : ℕ) → KindSaid c j [] t e (NotKind Form)
+pub kind_none : (c : Bool) (j : ℕ) (t : List ℕ) (e : ℕ) → KindSaid c j [] t e (Err Form)
 unfolding named unsaid
 kind_none c j t e = record { same = λ l s. refl; ends = tt }
 
 module _ {s : List ℕ} {at : ℕ} {r : Token} (m : ValueAt s at r) where
-  pub kind_stop : (c : Bool) (j : ℕ) {x y : Fault} → r ≡ Refused y → x ≡ RefusalOf r → KindIn c j s at (NotKind x)
+  pub kind_stop : (c : Bool) (j : ℕ) {x y : Fault} → r ≡ Refused y → x ≡ RefusalOf r → KindIn c j s at (Err x)
   kind_stop c j q z = record { same = λ l. rw (z, q) (rw q at (m.same (kind c j) l)); within = tt }
 
-  pub kind_step : {c : Bool} {j from e : ℕ} {v : KindAnswer} → r ≡ Between from e → KindSaid c j kinds (take (e - from) (drop from s)) e v → KindIn c j s at v
+  pub kind_step : {c : Bool} {j from e : ℕ} {v : Answer NodeKind} → r ≡ Between from e → KindSaid c j kinds (take (e - from) (drop from s)) e v → KindIn c j s at v
   unfolding said
   kind_step {c} {j} {from} {e} {v} q d = record { same = λ l. d.same l s ∙ rw q at (m.same (kind c j) l); within = reach v d.ends }
     where
-      reach : (v : KindAnswer) → KindEnds e v → KindWithin s v
-      reach (IsKind v p) h = rw h (value_within m q).1
-      reach (NotKind f) h = tt
+      reach : (v : Answer NodeKind) → Ends e v → Within s v
+      reach (Ok (v, p)) h = rw h (value_within m q).1
+      reach (Err f) h = tt
 
 module _ {s : List ℕ} {at : ℕ} {r : Found} (m : AfterKey (bytes " kind=") s at r) where
-  pub kind_found : {c : Bool} {j b : ℕ} {v : KindAnswer} → r ≡ At b → KindIn c j s b v → KindAt c j s at v
+  pub kind_found : {c : Bool} {j b : ℕ} {v : Answer NodeKind} → r ≡ At b → KindIn c j s b v → KindAt c j s at v
   unfolding field_of
   kind_found q u = record { same = λ l. u.same l ∙ rw (← m.same, q); within = u.within }
 
-  pub kind_differs : (c : Bool) (j : ℕ) → r ≡ Differs → KindAt c j s at (NotKind Form)
+  pub kind_differs : (c : Bool) (j : ℕ) → r ≡ Differs → KindAt c j s at (Err Form)
   unfolding field_of
   kind_differs c j e = record { same = λ l. rw (← m.same, e); within = tt }
 
-  pub kind_broken : (c : Bool) (j : ℕ) → r ≡ Broken → KindAt c j s at (NotKind Ended)
+  pub kind_broken : (c : Bool) (j : ℕ) → r ≡ Broken → KindAt c j s at (Err Ended)
   unfolding field_of
   kind_broken c j e = record { same = λ l. rw (← m.same, e); within = tt }
 
@@ -197,9 +189,9 @@ stands_parts : (w s : List ℕ) (at : ℕ) → stands_at w s at ≡ true → dro
 stands_parts w s at h = sym (take-append-drop (length w) (drop at s)) ∙ ap (λ (t : List ℕ). t ++ drop (length w) (drop at s)) (sym (same_eq w _ h))
 
 -- a kind whose word stands at a place
-abbrev KindStands : List ℕ → ℕ → Quick → Type 0
-KindStands s at (IsQuick k e) = WordTo s at e (kind_word k) × (plain k ≡ true)
-KindStands s at NotQuick = Unit {0}
+abbrev KindStands : List ℕ → ℕ → Option (NodeKind × ℕ) → Type 0
+KindStands s at (Some (k, e)) = WordTo s at e (kind_word k) × (plain k ≡ true)
+KindStands s at None = Unit {0}
 
 module _ (s : List ℕ) (at : ℕ) (h : 5 ≤ length s - at) where
   four_stand : (a b c d : ℕ) → stands_at (a ∷ b ∷ c ∷ d ∷ []) s at ≡ true → drop at s ≡ a ∷ b ∷ c ∷ d ∷ drop (at + 4) s
@@ -228,25 +220,25 @@ quick_stands : (s : List ℕ) (at : ℕ) → KindStands s at (quick_kind s at)
 unfolding quick_kind
 quick_stands s at = by_order (length s - at) 5 (λ h. rw (lt-ltb (length s - at) 5 h) tt) (λ h. quick_long s at h)
 
-module _ (s : List ℕ) (at : ℕ) {r : Quick} (m : r ≡ quick_kind s at) {k : NodeKind} {e : ℕ} (q : r ≡ IsQuick k e) where
+module _ (s : List ℕ) (at : ℕ) {r : Option (NodeKind × ℕ)} (m : r ≡ quick_kind s at) {k : NodeKind} {e : ℕ} (q : r ≡ Some (k, e)) where
   quick_word : WordTo s at e (kind_word k) × (plain k ≡ true)
   quick_word = rw (← m, q) at (quick_stands s at)
 
   pub quick_plain : plain k ≡ true
   quick_plain = quick_word.1
 
-  pub quick_kind_lem : {c : Bool} {j : ℕ} {v : KindAnswer} → Later k j e v → KindIn c j s at v
+  pub quick_kind_lem : {c : Bool} {j : ℕ} {v : Answer NodeKind} → Later k j e v → KindIn c j s at v
   unfolding said
   quick_kind_lem {c} {j} {v} d =
       let w = quick_word.0 in
       let z : named kind_word kinds (take (e - at) (drop at s)) ≡ some k = rw w.same (kind_said k) in
       record { same = λ l. (d.judged c).same l s ∙ (rw z at ((value_ends w.run w.inside).same (kind c j) l)); within = reach v (d.judged c).ends }
     where
-      reach : (v : KindAnswer) → KindEnds e v → KindWithin s v
-      reach (IsKind v p) h = rw h quick_word.0.inside
-      reach (NotKind f) h = tt
+      reach : (v : Answer NodeKind) → Ends e v → Within s v
+      reach (Ok (v, p)) h = rw h quick_word.0.inside
+      reach (Err f) h = tt
 
-pub quick_short : (s : List ℕ) (at : ℕ) → length s - at < 5 → NotQuick ≡ quick_kind s at
+pub quick_short : (s : List ℕ) (at : ℕ) → length s - at < 5 → None ≡ quick_kind s at
 unfolding quick_kind
 quick_short s at h = rw (lt-ltb (length s - at) 5 h)
 
@@ -255,11 +247,11 @@ module _ {s : List ℕ} {at r : ℕ} (m : QuadAt s at r) (h : 5 ≤ length s - a
   long = le-ltb (length s - at) 5 h
 
   module _ {x : ℕ} where
-    pub quick_set : Bytes 115 101 116 32 → x ≡ quad_number 115 101 116 32 → r ≡ x → IsQuick set_kind (at + 3) ≡ quick_kind s at
+    pub quick_set : Bytes 115 101 116 32 → x ≡ quad_number 115 101 116 32 → r ≡ x → Some (set_kind, at + 3) ≡ quick_kind s at
     unfolding quick_kind same
     quick_set b g e = rw (long, parts m (omega arith) b g e)
 
-    pub quick_out : Bytes 111 117 116 32 → x ≡ quad_number 111 117 116 32 → r ≡ x → IsQuick out (at + 3) ≡ quick_kind s at
+    pub quick_out : Bytes 111 117 116 32 → x ≡ quad_number 111 117 116 32 → r ≡ x → Some (out, at + 3) ≡ quick_kind s at
     unfolding quick_kind same
     quick_out b g e = rw (long, parts m (omega arith) b g e)
 
@@ -267,11 +259,11 @@ module _ {s : List ℕ} {at r : ℕ} (m : QuadAt s at r) (h : 5 ≤ length s - a
       five : drop at s ≡ 116 ∷ 101 ∷ 115 ∷ 116 ∷ get_or s (at + 4) 0 ∷ drop (at + 5) s
       five = rw (← step s (at + 4) (at + 5) (omega arith) (omega arith)) (parts m (omega arith) b g e)
 
-      pub quick_test : get_or s (at + 4) 0 ≡ 32 → IsQuick test (at + 4) ≡ quick_kind s at
+      pub quick_test : get_or s (at + 4) 0 ≡ 32 → Some (test, at + 4) ≡ quick_kind s at
       unfolding quick_kind same
       quick_test d = rw (long, five, d)
 
-      pub quick_longer : (get_or s (at + 4) 0 ≡ 32 → ⊥) → NotQuick ≡ quick_kind s at
+      pub quick_longer : (get_or s (at + 4) 0 ≡ 32 → ⊥) → None ≡ quick_kind s at
       unfolding quick_kind same
       quick_longer d = rw (long, five, ne_eqb 32 (get_or s (at + 4) 0) (λ z. d (sym z)))
 
@@ -282,7 +274,7 @@ module _ {s : List ℕ} {at r : ℕ} (m : QuadAt s at r) (h : 5 ≤ length s - a
 
   pub quick_other : {x y z : ℕ} → Bytes 115 101 116 32 → x ≡ quad_number 115 101 116 32 → (r ≡ x → ⊥)
       → Bytes 111 117 116 32 → y ≡ quad_number 111 117 116 32 → (r ≡ y → ⊥)
-      → Bytes 116 101 115 116 → z ≡ quad_number 116 101 115 116 → (r ≡ z → ⊥) → NotQuick ≡ quick_kind s at
+      → Bytes 116 101 115 116 → z ≡ quad_number 116 101 115 116 → (r ≡ z → ⊥) → None ≡ quick_kind s at
   unfolding quick_kind
   quick_other b g n b' g' n' b'' g'' n'' = rw (long, other b g n [], other b' g' n' [], other b'' g'' n'' (32 ∷ []))
 
@@ -297,59 +289,59 @@ calculates_fault Shr h = refl
 calculates_fault Lt h = absurd (false≢true h)
 calculates_fault Eq h = absurd (false≢true h)
 
-pub calculation_test : {x : Bool} {o : Op} (e : ℕ) → calculates o ≡ true → x ≡ true → OpJudged x o e (NotOp Form)
+pub calculation_test : {x : Bool} {o : Op} (e : ℕ) → calculates o ≡ true → x ≡ true → OpJudged x o e (Err Form)
 unfolding check
 calculation_test {x} {o} e h z = record { same = λ l s. rw (z, calculates_fault o h); ends = tt }
 
-pub calculation_is : {x : Bool} {o : Op} (e : ℕ) → x ≡ false → OpJudged x o e (IsOp o e)
+pub calculation_is : {x : Bool} {o : Op} (e : ℕ) → x ≡ false → OpJudged x o e (Ok (o, e))
 unfolding check
 calculation_is e z = record { same = λ l s. rw z; ends = refl }
 
 module _ {x : Bool} {t : List ℕ} {e : ℕ} where
-  pub op_hit : {o : Op} {os : List Op} {w : Bool} {r : Operation} → w ≡ same (op_word o) t → w ≡ true → OpJudged x o e r → OpSaid x (o ∷ os) t e r
+  pub op_hit : {o : Op} {os : List Op} {w : Bool} {r : Answer Op} → w ≡ same (op_word o) t → w ≡ true → OpJudged x o e r → OpSaid x (o ∷ os) t e r
   unfolding named
   op_hit p h d = record { same = λ l s. rw (← p, h) (d.same l s); ends = d.ends }
 
-  pub op_miss : {o : Op} {os : List Op} {w : Bool} {r : Operation} → w ≡ same (op_word o) t → w ≡ false → OpSaid x os t e r → OpSaid x (o ∷ os) t e r
+  pub op_miss : {o : Op} {os : List Op} {w : Bool} {r : Answer Op} → w ≡ same (op_word o) t → w ≡ false → OpSaid x os t e r → OpSaid x (o ∷ os) t e r
   unfolding named
   op_miss p h d = record { same = λ l s. rw (← p, h) (d.same l s); ends = d.ends }
 
-pub op_less : (x : Bool) (e : ℕ) → OpJudged x Lt e (IsOp Lt e)
+pub op_less : (x : Bool) (e : ℕ) → OpJudged x Lt e (Ok (Lt, e))
 unfolding check
 op_less true e = record { same = λ l s. refl; ends = refl }
 op_less false e = record { same = λ l s. refl; ends = refl }
 
-pub op_equal : (x : Bool) (e : ℕ) → OpJudged x Eq e (IsOp Eq e)
+pub op_equal : (x : Bool) (e : ℕ) → OpJudged x Eq e (Ok (Eq, e))
 unfolding check
 op_equal true e = record { same = λ l s. refl; ends = refl }
 op_equal false e = record { same = λ l s. refl; ends = refl }
 
-pub op_none : (x : Bool) (t : List ℕ) (e : ℕ) → OpSaid x [] t e (NotOp Form)
+pub op_none : (x : Bool) (t : List ℕ) (e : ℕ) → OpSaid x [] t e (Err Form)
 unfolding named unsaid
 op_none x t e = record { same = λ l s. refl; ends = tt }
 
 module _ {s : List ℕ} {at : ℕ} {r : Token} (m : ValueAt s at r) where
-  pub op_stop : (x : Bool) {f y : Fault} → r ≡ Refused y → f ≡ RefusalOf r → OpIn x s at (NotOp f)
+  pub op_stop : (x : Bool) {f y : Fault} → r ≡ Refused y → f ≡ RefusalOf r → OpIn x s at (Err f)
   op_stop x q z = record { same = λ l. rw (z, q) (rw q at (m.same (operation x) l)); within = tt }
 
-  pub op_step : {x : Bool} {from e : ℕ} {v : Operation} → r ≡ Between from e → OpSaid x ops (take (e - from) (drop from s)) e v → OpIn x s at v
+  pub op_step : {x : Bool} {from e : ℕ} {v : Answer Op} → r ≡ Between from e → OpSaid x ops (take (e - from) (drop from s)) e v → OpIn x s at v
   unfolding said
   op_step {x} {from} {e} {v} q d = record { same = λ l. d.same l s ∙ rw q at (m.same (operation x) l); within = reach v d.ends }
     where
-      reach : (v : Operation) → OpEnds e v → OpWithin s v
-      reach (IsOp v p) h = rw h (value_within m q).1
-      reach (NotOp f) h = tt
+      reach : (v : Answer Op) → Ends e v → Within s v
+      reach (Ok (v, p)) h = rw h (value_within m q).1
+      reach (Err f) h = tt
 
 module _ {s : List ℕ} {at : ℕ} {r : Found} (m : AfterKey (bytes " op=") s at r) where
-  pub op_found : {x : Bool} {b : ℕ} {v : Operation} → r ≡ At b → OpIn x s b v → OpAt x s at v
+  pub op_found : {x : Bool} {b : ℕ} {v : Answer Op} → r ≡ At b → OpIn x s b v → OpAt x s at v
   unfolding field_of
   op_found q u = record { same = λ l. u.same l ∙ rw (← m.same, q); within = u.within }
 
-  pub op_differs : (x : Bool) → r ≡ Differs → OpAt x s at (NotOp Form)
+  pub op_differs : (x : Bool) → r ≡ Differs → OpAt x s at (Err Form)
   unfolding field_of
   op_differs x e = record { same = λ l. rw (← m.same, e); within = tt }
 
-  pub op_broken : (x : Bool) → r ≡ Broken → OpAt x s at (NotOp Ended)
+  pub op_broken : (x : Bool) → r ≡ Broken → OpAt x s at (Err Ended)
   unfolding field_of
   op_broken x e = record { same = λ l. rw (← m.same, e); within = tt }
 
@@ -366,42 +358,42 @@ named_op Lt = refl
 named_op Eq = refl
 
 -- an operation whose word stands at a place
-op_stands : {s : List ℕ} {at e : ℕ} {o : Op} → WordTo s at e (op_word o) → {x : Bool} {v : Operation} → OpJudged x o e v → OpIn x s at v
+op_stands : {s : List ℕ} {at e : ℕ} {o : Op} → WordTo s at e (op_word o) → {x : Bool} {v : Answer Op} → OpJudged x o e v → OpIn x s at v
 unfolding said
 op_stands {s} {at} {e} {o} w {x} {v} d =
     let z : named op_word ops (take (e - at) (drop at s)) ≡ some o = rw w.same (named_op o) in
     record { same = λ l. d.same l s ∙ (rw z at ((value_ends w.run w.inside).same (operation x) l)); within = reach v d.ends }
   where
-    reach : (v : Operation) → OpEnds e v → OpWithin s v
-    reach (IsOp v p) h = rw h w.inside
-    reach (NotOp f) h = tt
+    reach : (v : Answer Op) → Ends e v → Within s v
+    reach (Ok (v, p)) h = rw h w.inside
+    reach (Err f) h = tt
 
 module _ {s : List ℕ} {at r x : ℕ} (m : QuadAt s at r) (h : 4 ≤ length s - at) where
-  pub quick_add : Bytes 97 100 100 32 → x ≡ quad_number 97 100 100 32 → r ≡ x → OpIn false s at (IsOp Add (at + 3))
+  pub quick_add : Bytes 97 100 100 32 → x ≡ quad_number 97 100 100 32 → r ≡ x → OpIn false s at (Ok (Add, at + 3))
   quick_add b g e = op_stands (three_letters h (parts m h b g e) refl refl refl refl) (calculation_is (at + 3) refl)
 
-  pub quick_sub : Bytes 115 117 98 32 → x ≡ quad_number 115 117 98 32 → r ≡ x → OpIn false s at (IsOp Sub (at + 3))
+  pub quick_sub : Bytes 115 117 98 32 → x ≡ quad_number 115 117 98 32 → r ≡ x → OpIn false s at (Ok (Sub, at + 3))
   quick_sub b g e = op_stands (three_letters h (parts m h b g e) refl refl refl refl) (calculation_is (at + 3) refl)
 
-  pub quick_and : Bytes 97 110 100 32 → x ≡ quad_number 97 110 100 32 → r ≡ x → OpIn false s at (IsOp And (at + 3))
+  pub quick_and : Bytes 97 110 100 32 → x ≡ quad_number 97 110 100 32 → r ≡ x → OpIn false s at (Ok (And, at + 3))
   quick_and b g e = op_stands (three_letters h (parts m h b g e) refl refl refl refl) (calculation_is (at + 3) refl)
 
-  pub quick_xor : Bytes 120 111 114 32 → x ≡ quad_number 120 111 114 32 → r ≡ x → OpIn false s at (IsOp Xor (at + 3))
+  pub quick_xor : Bytes 120 111 114 32 → x ≡ quad_number 120 111 114 32 → r ≡ x → OpIn false s at (Ok (Xor, at + 3))
   quick_xor b g e = op_stands (three_letters h (parts m h b g e) refl refl refl refl) (calculation_is (at + 3) refl)
 
-  pub quick_shr : Bytes 115 104 114 32 → x ≡ quad_number 115 104 114 32 → r ≡ x → OpIn false s at (IsOp Shr (at + 3))
+  pub quick_shr : Bytes 115 104 114 32 → x ≡ quad_number 115 104 114 32 → r ≡ x → OpIn false s at (Ok (Shr, at + 3))
   quick_shr b g e = op_stands (three_letters h (parts m h b g e) refl refl refl refl) (calculation_is (at + 3) refl)
 
-  pub quick_less : Bytes 108 116 32 97 → x ≡ quad_number 108 116 32 97 → r ≡ x → OpIn true s at (IsOp Lt (at + 2))
+  pub quick_less : Bytes 108 116 32 97 → x ≡ quad_number 108 116 32 97 → r ≡ x → OpIn true s at (Ok (Lt, at + 2))
   quick_less b g e = op_stands (two_letters h (parts m h b g e) refl refl refl) (op_less true (at + 2))
 
-  pub quick_equal : Bytes 101 113 32 97 → x ≡ quad_number 101 113 32 97 → r ≡ x → OpIn true s at (IsOp Eq (at + 2))
+  pub quick_equal : Bytes 101 113 32 97 → x ≡ quad_number 101 113 32 97 → r ≡ x → OpIn true s at (Ok (Eq, at + 2))
   quick_equal b g e = op_stands (two_letters h (parts m h b g e) refl refl refl) (op_equal true (at + 2))
 
-pub in_set : {x : Bool} {s : List ℕ} {at : ℕ} {v : Operation} → x ≡ false → OpIn false s at v → OpIn x s at v
+pub in_set : {x : Bool} {s : List ℕ} {at : ℕ} {v : Answer Op} → x ≡ false → OpIn false s at v → OpIn x s at v
 in_set h m = rw h m
 
-pub in_test : {x : Bool} {s : List ℕ} {at : ℕ} {v : Operation} → x ≡ true → OpIn true s at v → OpIn x s at v
+pub in_test : {x : Bool} {s : List ℕ} {at : ℕ} {v : Answer Op} → x ≡ true → OpIn true s at v → OpIn x s at v
 in_test h m = rw h m
 
 pub ruleset kind_laws = (kind_hit, kind_later, kind_miss, kind_none)

@@ -7,47 +7,35 @@ ghost use Rattle.text.specs.declared.NodeKind.TheVariants.{Start as start, Read 
 ghost use Rattle.text.specs.Value.{kinds, ops};
 ghost use Rattle.words.specs.Answer.{ChoiceSaid, ChoiceAt, KindJudged, plain, Later, KindSaid, middle_kinds, late_kinds, KindIn, quick_kind, KindAt, calculates, OpJudged, OpSaid, late_ops, OpIn, OpAt};
 
-// One of two words and the place after it, or the fault.
-#[derive(Clone, Copy)]
-pub enum Choice {
-    Is(bool, usize),
-    Not(text::Fault),
-}
+use table::Op;
+use text::{Fault, NodeKind};
 
-// A node's kind and the place after it, or the fault.
-#[derive(Clone, Copy)]
-pub enum Kind {
-    Is(text::NodeKind, usize),
-    Not(text::Fault),
-}
-
-// An operation and the place after it, or the fault.
-#[derive(Clone, Copy)]
-pub enum Operation {
-    Is(table::Op, usize),
-    Not(text::Fault),
-}
-
-fn choice_value(t: &[u8], e: usize, a: &[u8], b: &[u8]) -> Choice
+fn choice_value(t: &[u8], e: usize, a: &[u8], b: &[u8]) -> Result<(bool, usize), Fault>
     ensures { ChoiceSaid a.now b.now t.now e result }
 {
     if scan::is_word(t, a) {
-        return Choice::Is(false, e);
+        Ok((false, e))
+    } else if scan::is_word(t, b) {
+        Ok((true, e))
+    } else {
+        Err(Fault::Form)
     }
-    if scan::is_word(t, b) {
-        return Choice::Is(true, e);
-    }
-    Choice::Not(text::Fault::Form)
 }
 
 // One of two words: the first for false, the second for true.
-pub fn choice_field(s: &[u8], at: usize, key: &[u8], a: &[u8], b: &[u8]) -> Choice
+pub fn choice_field(
+    s: &[u8],
+    at: usize,
+    key: &[u8],
+    a: &[u8],
+    b: &[u8],
+) -> Result<(bool, usize), Fault>
     requires { at ≤ length s.now }
     ensures { ChoiceAt a.now b.now key.now s.now at result }
 {
     let found = scan::token_at(s, at, key);
     let scan::Token::At(from, e) = found else {
-        return Choice::Not(scan::refusal(found));
+        return Err(scan::refusal(found));
     };
     choice_value(&s[from..e], e, a, b)
 }
@@ -55,222 +43,204 @@ pub fn choice_field(s: &[u8], at: usize, key: &[u8], a: &[u8], b: &[u8]) -> Choi
 // ---- the kinds of nodes
 
 // Node 0 is the only `start`.
-fn start_at(e: usize, j: u8) -> Kind
+fn start_at(e: usize, j: u8) -> Result<(NodeKind, usize), Fault>
     ensures { Later start j e result }
 {
     if j == 0 {
-        return Kind::Is(text::NodeKind::Start, e);
+        Ok((NodeKind::Start, e))
+    } else {
+        Err(Fault::Index)
     }
-    Kind::Not(text::Fault::Index)
 }
 
-fn later(k: text::NodeKind, e: usize, j: u8) -> Kind
+fn later(k: NodeKind, e: usize, j: u8) -> Result<(NodeKind, usize), Fault>
     requires { plain k ≡ true }
     ensures { Later k j e result }
 {
     if j == 0 {
-        return Kind::Not(text::Fault::Index);
+        Err(Fault::Index)
+    } else {
+        Ok((k, e))
     }
-    Kind::Is(k, e)
 }
 
 // A closed table has no `read`.
-fn read_at(e: usize, closed: bool, j: u8) -> Kind
+fn read_at(e: usize, closed: bool, j: u8) -> Result<(NodeKind, usize), Fault>
     ensures { KindJudged closed j read e result }
 {
     if closed {
-        return Kind::Not(text::Fault::Form);
+        Err(Fault::Form)
+    } else if j == 0 {
+        Err(Fault::Index)
+    } else {
+        Ok((NodeKind::Read, e))
     }
-    if j == 0 {
-        return Kind::Not(text::Fault::Index);
-    }
-    Kind::Is(text::NodeKind::Read, e)
 }
 
-fn late_kind(t: &[u8], e: usize, closed: bool, j: u8) -> Kind
+fn late_kind(t: &[u8], e: usize, closed: bool, j: u8) -> Result<(NodeKind, usize), Fault>
     ensures { KindSaid closed j late_kinds t.now e result }
 {
     if scan::is_word(t, b"recv") {
-        return later(text::NodeKind::Recv, e, j);
+        later(NodeKind::Recv, e, j)
+    } else if scan::is_word(t, b"assert") {
+        later(NodeKind::Assert, e, j)
+    } else if scan::is_word(t, b"out") {
+        later(NodeKind::Out, e, j)
+    } else if scan::is_word(t, b"return") {
+        later(NodeKind::Return, e, j)
+    } else {
+        Err(Fault::Form)
     }
-    if scan::is_word(t, b"assert") {
-        return later(text::NodeKind::Assert, e, j);
-    }
-    if scan::is_word(t, b"out") {
-        return later(text::NodeKind::Out, e, j);
-    }
-    if scan::is_word(t, b"return") {
-        return later(text::NodeKind::Return, e, j);
-    }
-    Kind::Not(text::Fault::Form)
 }
 
-fn middle_kind(t: &[u8], e: usize, closed: bool, j: u8) -> Kind
+fn middle_kind(t: &[u8], e: usize, closed: bool, j: u8) -> Result<(NodeKind, usize), Fault>
     ensures { KindSaid closed j middle_kinds t.now e result }
 {
     if scan::is_word(t, b"call") {
-        return later(text::NodeKind::Call, e, j);
+        later(NodeKind::Call, e, j)
+    } else if scan::is_word(t, b"wait") {
+        later(NodeKind::Wait, e, j)
+    } else if scan::is_word(t, b"signal") {
+        later(NodeKind::Signal, e, j)
+    } else if scan::is_word(t, b"send") {
+        later(NodeKind::Send, e, j)
+    } else {
+        late_kind(t, e, closed, j)
     }
-    if scan::is_word(t, b"wait") {
-        return later(text::NodeKind::Wait, e, j);
-    }
-    if scan::is_word(t, b"signal") {
-        return later(text::NodeKind::Signal, e, j);
-    }
-    if scan::is_word(t, b"send") {
-        return later(text::NodeKind::Send, e, j);
-    }
-    late_kind(t, e, closed, j)
 }
 
-fn kind_value(t: &[u8], e: usize, closed: bool, j: u8) -> Kind
+fn kind_value(t: &[u8], e: usize, closed: bool, j: u8) -> Result<(NodeKind, usize), Fault>
     ensures { KindSaid closed j kinds t.now e result }
 {
     if scan::is_word(t, b"start") {
-        return start_at(e, j);
+        start_at(e, j)
+    } else if scan::is_word(t, b"set") {
+        later(NodeKind::Set, e, j)
+    } else if scan::is_word(t, b"test") {
+        later(NodeKind::Test, e, j)
+    } else if scan::is_word(t, b"read") {
+        read_at(e, closed, j)
+    } else {
+        middle_kind(t, e, closed, j)
     }
-    if scan::is_word(t, b"set") {
-        return later(text::NodeKind::Set, e, j);
-    }
-    if scan::is_word(t, b"test") {
-        return later(text::NodeKind::Test, e, j);
-    }
-    if scan::is_word(t, b"read") {
-        return read_at(e, closed, j);
-    }
-    middle_kind(t, e, closed, j)
-}
-
-// A kind that is told by its first bytes, and where its word ends.
-#[derive(Clone, Copy)]
-enum Quick {
-    Is(text::NodeKind, usize),
-    Not,
 }
 
 // Any value.
-fn any_kind(s: &[u8], at: usize, closed: bool, j: u8) -> Kind
+fn any_kind(s: &[u8], at: usize, closed: bool, j: u8) -> Result<(NodeKind, usize), Fault>
     requires { at ≤ length s.now }
     ensures { KindIn closed j s.now at result }
 {
     let found = scan::value_at(s, at);
     let scan::Token::At(from, e) = found else {
-        return Kind::Not(scan::refusal(found));
+        return Err(scan::refusal(found));
     };
     kind_value(&s[from..e], e, closed, j)
 }
 
-fn quick_kind(s: &[u8], at: usize) -> Quick
+// A kind that is told by its first bytes, and where its word ends.
+fn quick_kind(s: &[u8], at: usize) -> Option<(NodeKind, usize)>
     requires { at ≤ length s.now }
     ensures { result ≡ quick_kind s.now at }
 {
     if s.len() - at < 5 {
-        return Quick::Not;
+        return None;
     }
     let w = scan::quad(s, at);
-    if w == scan::quad_of(115, 101, 116, 32) {
-        return Quick::Is(text::NodeKind::Set, at + 3);
+    if w == scan::quad_of(b's', b'e', b't', b' ') {
+        return Some((NodeKind::Set, at + 3));
     }
-    if w == scan::quad_of(111, 117, 116, 32) {
-        return Quick::Is(text::NodeKind::Out, at + 3);
+    if w == scan::quad_of(b'o', b'u', b't', b' ') {
+        return Some((NodeKind::Out, at + 3));
     }
-    if w != scan::quad_of(116, 101, 115, 116) {
-        return Quick::Not;
+    if w != scan::quad_of(b't', b'e', b's', b't') {
+        return None;
     }
     let e = at + 4;
-    if s[e] == 32 {
-        return Quick::Is(text::NodeKind::Test, e);
+    if s[e] == b' ' {
+        return Some((NodeKind::Test, e));
     }
-    Quick::Not
+    None
 }
 
 // The frequent kinds first.
-fn kind_at(s: &[u8], at: usize, closed: bool, j: u8) -> Kind
+fn kind_at(s: &[u8], at: usize, closed: bool, j: u8) -> Result<(NodeKind, usize), Fault>
     requires { at ≤ length s.now }
     ensures { KindIn closed j s.now at result }
 {
-    let quick = quick_kind(s, at);
-    let Quick::Is(k, e) = quick else {
-        return any_kind(s, at, closed, j);
-    };
-    later(k, e, j)
+    match quick_kind(s, at) {
+        Some((k, e)) => later(k, e, j),
+        None => any_kind(s, at, closed, j),
+    }
 }
 
 // The kind of node j.
-pub fn kind_field(s: &[u8], at: usize, closed: bool, j: u8) -> Kind
+pub fn kind_field(s: &[u8], at: usize, closed: bool, j: u8) -> Result<(NodeKind, usize), Fault>
     requires { at ≤ length s.now }
     ensures { KindAt closed j s.now at result }
 {
-    match scan::after_word(s, at, 32, 107, 105, 110, b"d=") {
+    match scan::after_word(s, at, b' ', b'k', b'i', b'n', b"d=") {
         scan::Found::At(b) => kind_at(s, b, closed, j),
-        scan::Found::Differs => Kind::Not(text::Fault::Form),
-        scan::Found::Broken => Kind::Not(text::Fault::Ended),
+        scan::Found::Differs => Err(Fault::Form),
+        scan::Found::Broken => Err(Fault::Ended),
     }
 }
 
 // ---- operations
 
 // "A test has lt or eq".
-fn calculation(o: table::Op, e: usize, test: bool) -> Operation
+fn calculation(o: Op, e: usize, test: bool) -> Result<(Op, usize), Fault>
     requires { calculates o ≡ true }
     ensures { OpJudged test o e result }
 {
-    if test {
-        return Operation::Not(text::Fault::Form);
-    }
-    Operation::Is(o, e)
+    if test { Err(Fault::Form) } else { Ok((o, e)) }
 }
 
-fn late_operation(t: &[u8], e: usize, test: bool) -> Operation
+fn late_operation(t: &[u8], e: usize, test: bool) -> Result<(Op, usize), Fault>
     ensures { OpSaid test late_ops t.now e result }
 {
     if scan::is_word(t, b"xor") {
-        return calculation(table::Op::Xor, e, test);
+        calculation(Op::Xor, e, test)
+    } else if scan::is_word(t, b"shr") {
+        calculation(Op::Shr, e, test)
+    } else if scan::is_word(t, b"lt") {
+        Ok((Op::Lt, e))
+    } else if scan::is_word(t, b"eq") {
+        Ok((Op::Eq, e))
+    } else {
+        Err(Fault::Form)
     }
-    if scan::is_word(t, b"shr") {
-        return calculation(table::Op::Shr, e, test);
-    }
-    if scan::is_word(t, b"lt") {
-        return Operation::Is(table::Op::Lt, e);
-    }
-    if scan::is_word(t, b"eq") {
-        return Operation::Is(table::Op::Eq, e);
-    }
-    Operation::Not(text::Fault::Form)
 }
 
-fn operation_value(t: &[u8], e: usize, test: bool) -> Operation
+fn operation_value(t: &[u8], e: usize, test: bool) -> Result<(Op, usize), Fault>
     ensures { OpSaid test ops t.now e result }
 {
     if scan::is_word(t, b"add") {
-        return calculation(table::Op::Add, e, test);
+        calculation(Op::Add, e, test)
+    } else if scan::is_word(t, b"sub") {
+        calculation(Op::Sub, e, test)
+    } else if scan::is_word(t, b"and") {
+        calculation(Op::And, e, test)
+    } else if scan::is_word(t, b"or") {
+        calculation(Op::Or, e, test)
+    } else {
+        late_operation(t, e, test)
     }
-    if scan::is_word(t, b"sub") {
-        return calculation(table::Op::Sub, e, test);
-    }
-    if scan::is_word(t, b"and") {
-        return calculation(table::Op::And, e, test);
-    }
-    if scan::is_word(t, b"or") {
-        return calculation(table::Op::Or, e, test);
-    }
-    late_operation(t, e, test)
 }
 
 // Any value.
-fn any_operation(s: &[u8], at: usize, test: bool) -> Operation
+fn any_operation(s: &[u8], at: usize, test: bool) -> Result<(Op, usize), Fault>
     requires { at ≤ length s.now }
     ensures { OpIn test s.now at result }
 {
     let found = scan::value_at(s, at);
     let scan::Token::At(from, e) = found else {
-        return Operation::Not(scan::refusal(found));
+        return Err(scan::refusal(found));
     };
     operation_value(&s[from..e], e, test)
 }
 
 // A set's operation, the words of three letters told by their bytes and the space behind.
-fn calculation_at(s: &[u8], at: usize) -> Operation
+fn calculation_at(s: &[u8], at: usize) -> Result<(Op, usize), Fault>
     requires { at ≤ length s.now }
     ensures { OpIn false s.now at result }
 {
@@ -278,26 +248,26 @@ fn calculation_at(s: &[u8], at: usize) -> Operation
         return any_operation(s, at, false);
     }
     let w = scan::quad(s, at);
-    if w == scan::quad_of(97, 100, 100, 32) {
-        return Operation::Is(table::Op::Add, at + 3);
+    if w == scan::quad_of(b'a', b'd', b'd', b' ') {
+        return Ok((Op::Add, at + 3));
     }
-    if w == scan::quad_of(115, 117, 98, 32) {
-        return Operation::Is(table::Op::Sub, at + 3);
+    if w == scan::quad_of(b's', b'u', b'b', b' ') {
+        return Ok((Op::Sub, at + 3));
     }
-    if w == scan::quad_of(97, 110, 100, 32) {
-        return Operation::Is(table::Op::And, at + 3);
+    if w == scan::quad_of(b'a', b'n', b'd', b' ') {
+        return Ok((Op::And, at + 3));
     }
-    if w == scan::quad_of(120, 111, 114, 32) {
-        return Operation::Is(table::Op::Xor, at + 3);
+    if w == scan::quad_of(b'x', b'o', b'r', b' ') {
+        return Ok((Op::Xor, at + 3));
     }
-    if w == scan::quad_of(115, 104, 114, 32) {
-        return Operation::Is(table::Op::Shr, at + 3);
+    if w == scan::quad_of(b's', b'h', b'r', b' ') {
+        return Ok((Op::Shr, at + 3));
     }
     any_operation(s, at, false)
 }
 
 // A test's operation, `lt` and `eq` told by their bytes and the first two of the next key.
-fn comparison_at(s: &[u8], at: usize) -> Operation
+fn comparison_at(s: &[u8], at: usize) -> Result<(Op, usize), Fault>
     requires { at ≤ length s.now }
     ensures { OpIn true s.now at result }
 {
@@ -305,33 +275,34 @@ fn comparison_at(s: &[u8], at: usize) -> Operation
         return any_operation(s, at, true);
     }
     let w = scan::quad(s, at);
-    if w == scan::quad_of(108, 116, 32, 97) {
-        return Operation::Is(table::Op::Lt, at + 2);
+    if w == scan::quad_of(b'l', b't', b' ', b'a') {
+        return Ok((Op::Lt, at + 2));
     }
-    if w == scan::quad_of(101, 113, 32, 97) {
-        return Operation::Is(table::Op::Eq, at + 2);
+    if w == scan::quad_of(b'e', b'q', b' ', b'a') {
+        return Ok((Op::Eq, at + 2));
     }
     any_operation(s, at, true)
 }
 
-fn operation_at(s: &[u8], at: usize, test: bool) -> Operation
+fn operation_at(s: &[u8], at: usize, test: bool) -> Result<(Op, usize), Fault>
     requires { at ≤ length s.now }
     ensures { OpIn test s.now at result }
 {
     if test {
-        return comparison_at(s, at);
+        comparison_at(s, at)
+    } else {
+        calculation_at(s, at)
     }
-    calculation_at(s, at)
 }
 
 // An operation; in a test or not.
-pub fn operation_field(s: &[u8], at: usize, test: bool) -> Operation
+pub fn operation_field(s: &[u8], at: usize, test: bool) -> Result<(Op, usize), Fault>
     requires { at ≤ length s.now }
     ensures { OpAt test s.now at result }
 {
-    match scan::after_word(s, at, 32, 111, 112, 61, b"") {
+    match scan::after_word(s, at, b' ', b'o', b'p', b'=', b"") {
         scan::Found::At(b) => operation_at(s, b, test),
-        scan::Found::Differs => Operation::Not(text::Fault::Form),
-        scan::Found::Broken => Operation::Not(text::Fault::Ended),
+        scan::Found::Differs => Err(Fault::Form),
+        scan::Found::Broken => Err(Fault::Ended),
     }
 }

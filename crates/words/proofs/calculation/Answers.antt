@@ -5,5 +5,5 @@ use Rattle.words.proofs.calculation.Goals as goal
 pub returns-then-test : goal.returns-then-test
 returns-then-test c = search (rules, calculation_test)
 
-pub returns : goal.returns
-returns c = search (rules, calculation_is)
+pub returns-else-test : goal.returns-else-test
+returns-else-test c = search (rules, calculation_is)

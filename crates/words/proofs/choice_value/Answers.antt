@@ -8,5 +8,5 @@ returns-then-is_word c = search (rules, choice_first)
 pub returns-then-is_word-2 : goal.returns-then-is_word-2
 returns-then-is_word-2 c = search (rules, choice_second)
 
-pub returns : goal.returns
-returns c = search (rules, choice_none)
+pub returns-else-is_word-2 : goal.returns-else-is_word-2
+returns-else-is_word-2 c = search (rules, choice_none)

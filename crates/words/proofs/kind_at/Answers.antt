@@ -5,5 +5,5 @@ use Rattle.words.proofs.kind_at.Goals as goal
 pub later-requires : goal.later-requires
 later-requires c = search (rules, quick_plain)
 
-pub returns : goal.returns
-returns c = search (rules, quick_kind_lem)
+pub returns-in-Some : goal.returns-in-Some
+returns-in-Some c = search (rules, quick_kind_lem)

@@ -14,5 +14,5 @@ returns-then-is_word-3 c = search (rules, op_laws)
 pub returns-then-is_word-4 : goal.returns-then-is_word-4
 returns-then-is_word-4 c = search (rules, op_laws)
 
-pub returns : goal.returns
-returns c = search (rules, op_laws)
+pub returns-else-is_word-4 : goal.returns-else-is_word-4
+returns-else-is_word-4 c = search (rules, op_laws)

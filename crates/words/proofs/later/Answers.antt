@@ -5,5 +5,5 @@ use Rattle.words.proofs.later.Goals as goal
 pub returns-then-j-eq0 : goal.returns-then-j-eq0
 returns-then-j-eq0 c = search (rules, later_zero)
 
-pub returns : goal.returns
-returns c = search (rules, later_is)
+pub returns-else-j-eq0 : goal.returns-else-j-eq0
+returns-else-j-eq0 c = search (rules, later_is)

@@ -31,5 +31,5 @@ later-requires-then-is_word-4 c = search rules
 pub returns-then-is_word-4 : goal.returns-then-is_word-4
 returns-then-is_word-4 c = search (rules, kind_laws)
 
-pub returns : goal.returns
-returns c = search (rules, kind_laws)
+pub returns-else-is_word-4 : goal.returns-else-is_word-4
+returns-else-is_word-4 c = search (rules, kind_laws)

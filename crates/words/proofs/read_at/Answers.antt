@@ -8,5 +8,5 @@ returns-then-closed c = search (rules, read_closed)
 pub returns-then-j-eq0 : goal.returns-then-j-eq0
 returns-then-j-eq0 c = search (rules, read_first)
 
-pub returns : goal.returns
-returns c = search (rules, read_is)
+pub returns-else-j-eq0 : goal.returns-else-j-eq0
+returns-else-j-eq0 c = search (rules, read_is)

@@ -5,5 +5,5 @@ use Rattle.words.proofs.start_at.Goals as goal
 pub returns-then-j-eq0 : goal.returns-then-j-eq0
 returns-then-j-eq0 c = search (rules, start_is)
 
-pub returns : goal.returns
-returns c = search (rules, start_late)
+pub returns-else-j-eq0 : goal.returns-else-j-eq0
+returns-else-j-eq0 c = search (rules, start_late)
