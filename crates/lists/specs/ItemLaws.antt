@@ -1,5 +1,5 @@
 -- Laws of a list's items: each says what a step of the code shows.
-use Rattle.std.specs.Prelude.{ℕ, suc, ◌+◌, ◌-◌, ◌*◌, ◌%◌, ◌^◌, ◌≤◌, ◌<◌, ◌≡◌, refl, Bool, true, false, ◌&&◌, not, List, [], ◌∷◌, ltb, leb, eqb, length, take, drop, get_or}
+use Rattle.std.specs.Prelude.{ℕ, suc, ◌+◌, ◌-◌, ◌*◌, ◌%◌, ◌^◌, ◌≤◌, ◌<◌, ◌≡◌, refl, Bool, true, false, ◌&&◌, List, [], ◌∷◌, ltb, leb, eqb, length, take, drop, get_or, Option, Some, None}
 use Rattle.std.proofs.Common.{sym, ◌∙◌, arith, one-mul, shl_exact, drop_of_length-le, length-drop, drop-drop}
 use Rattle.std.proofs.Math.Option.{none}
 use Rattle.std.proofs.Math.Numerals.{add-one}
@@ -14,8 +14,6 @@ use Rattle.digits.specs.declared.Num.{Num}
 use Rattle.digits.specs.declared.Num.TheVariants.{Good, Bad}
 use Rattle.digits.specs.Read.{number_of, capped}
 use Rattle.digits.specs.NumeralLaws.{spelt_good, numeral_bad}
-use Rattle.lists.specs.declared.Item.{Item}
-use Rattle.lists.specs.declared.Item.TheVariants.{Is, Not}
 use Rattle.lists.specs.Items.{up_to, next_comma, CommaAt, more, bit_of, part, item_for, item_of}
 
 -- ---- up to the next comma
@@ -95,11 +93,11 @@ bit_capped lo n x v c u =
 
 -- ---- an item
 module _ {t : List ℕ} {from to : ℕ} (c : CommaAt t from to) {w : Num} (d : w ≡ number_of (part t from to)) (lo n : ℕ) where
-  pub item_bad : w ≡ Bad → Not ≡ item_of lo n t from
+  pub item_bad : w ≡ Bad → None ≡ item_of lo n t from
   unfolding item_of
   item_bad h = rw (← c.same, ← d, h)
 
-  pub item_good : {v m : ℕ} → w ≡ Good v → m ≡ bit_of lo n v → Is to m ≡ item_of lo n t from
+  pub item_good : {v m : ℕ} → w ≡ Good v → m ≡ bit_of lo n v → Some (m, to) ≡ item_of lo n t from
   unfolding item_of
   item_good h b = rw (← c.same, ← d, h, b)
 
@@ -112,11 +110,11 @@ pub record Itemized (lo n : ℕ) (t : List ℕ) (from to m : ℕ) : Type 0 where
   pub split : split (drop from t) ≡ part t from to ∷ more t to
 
 -- what an item says of the items from a place on
-abbrev pub ItemIs : ℕ → ℕ → List ℕ → ℕ → Item → Type 0
-ItemIs lo n t from (Is to m) = Itemized lo n t from to m
-ItemIs lo n t from Not = each numeral (split (drop from t)) ≡ none
+abbrev pub ItemIs : ℕ → ℕ → List ℕ → ℕ → Option (ℕ × ℕ) → Type 0
+ItemIs lo n t from (Some (m, to)) = Itemized lo n t from to m
+ItemIs lo n t from None = each numeral (split (drop from t)) ≡ none
 
-pub record ItemAt (lo n : ℕ) (t : List ℕ) (from : ℕ) (r : Item) : Type 0 where
+pub record ItemAt (lo n : ℕ) (t : List ℕ) (from : ℕ) (r : Option (ℕ × ℕ)) : Type 0 where
   pub is : ItemIs lo n t from r
 
 up_short : (s : List ℕ) → up_to s ≤ length s
@@ -127,7 +125,7 @@ up_short (b ∷ s) = cases (eqb b 44) (λ e. rw e (omega arith)) (λ e. rw e (om
 pub comma_here : (t : List ℕ) (from : ℕ) → from ≤ length t → CommaAt t from (next_comma t from)
 comma_here t from h = record { same = refl; from_on = omega arith; within = omega (arith, up_short (drop from t), length-drop from t) }
 
-pub item_read : (lo n : ℕ) (t : List ℕ) (from : ℕ) {r : Item} → r ≡ item_of lo n t from → from ≤ length t → n ≤ 32 → ItemAt lo n t from r
+pub item_read : (lo n : ℕ) (t : List ℕ) (from : ℕ) {r : Option (ℕ × ℕ)} → r ≡ item_of lo n t from → from ≤ length t → n ≤ 32 → ItemAt lo n t from r
 unfolding item_of each
 item_read lo n t from q h u = rw q (go (next_comma t from) (comma_here t from h) (number_of (part t from (next_comma t from))) refl)
   where
@@ -145,16 +143,8 @@ item_read lo n t from q h u = rw q (go (next_comma t from) (comma_here t from h)
           };
         }
 
-pub item_next : (lo n : ℕ) (t : List ℕ) (to : ℕ) {r : Item} → r ≡ item_of lo n t (to + 1) → to < length t → n ≤ 32 → ItemAt lo n t (to + 1) r
+pub item_next : (lo n : ℕ) (t : List ℕ) (to : ℕ) {r : Option (ℕ × ℕ)} → r ≡ item_of lo n t (to + 1) → to < length t → n ≤ 32 → ItemAt lo n t (to + 1) r
 item_next lo n t to q h u = item_read lo n t (to + 1) q (omega arith) u
-
-pub kept_none : (m : ℕ) (b : Bool) → m ≡ 0 → false ≡ b && not (eqb m 0)
-kept_none m true h = rw h
-kept_none m false h = refl
-
-pub kept_some : (m : ℕ) (b : Bool) → (m ≡ 0 → ⊥) → b ≡ b && not (eqb m 0)
-kept_some m true h = rw (ne_eqb m 0 h)
-kept_some m false h = refl
 
 pub comma_from : {t : List ℕ} {from to : ℕ} → CommaAt t from to → from ≤ to
 comma_from c = c.from_on

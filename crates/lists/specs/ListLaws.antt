@@ -1,5 +1,5 @@
 -- Laws of whole lists of numbers: each says what a step of the code shows.
-use Rattle.std.specs.Prelude.{ℕ, suc, ◌-◌, ◌^◌, ◌≤◌, ◌<◌, ◌≡◌, Bool, ◌&&◌, List, [], ◌∷◌, ltb, length, take, drop}
+use Rattle.std.specs.Prelude.{ℕ, suc, ◌-◌, ◌^◌, ◌≤◌, ◌<◌, ◌≡◌, Bool, ◌&&◌, List, [], ◌∷◌, ltb, length, take, drop, Ok, Err}
 use Rattle.std.proofs.Math.Path.{refl, sym}
 use Rattle.std.proofs.Common.{◌∙◌, ap, arith, pow_pos, take_all, le-ltb, ltb-false, ne_eqb}
 use Rattle.std.proofs.Math.Bool.{true, false}
@@ -23,11 +23,9 @@ use Rattle.scan.specs.declared.Found.{Found}
 use Rattle.scan.specs.declared.Found.TheVariants.{At, Differs, Broken}
 use Rattle.scan.specs.Place.{AfterKey, ValueAt, RefusalOf}
 use Rattle.numbers.specs.Answer.{mapped}
-use Rattle.lists.specs.declared.Set.{Set}
-use Rattle.lists.specs.declared.Set.TheVariants.{Is, Not}
 use Rattle.lists.specs.Items.{up_to, more, inside, bit_of}
 use Rattle.lists.specs.ItemLaws.{split_first, bit_capped}
-use Rattle.lists.specs.Sets.{SetEnds, SetWithin, SetJudged, SetSaid, single_of, SetIn, SetAt}
+use Rattle.lists.specs.Sets.{Answer, Ends, Within, SetJudged, SetSaid, single_of, SetIn, SetAt}
 use Rattle.lists.specs.TotalLaws.{total, total_is, mask_none}
 use Rattle.lists.specs.SetLaws.{bit_inside}
 use Rattle.table.specs.Cases.{cases}
@@ -77,7 +75,7 @@ one_refused lo n t l s h =
 
 -- ---- a list of one number
 module _ (t : List ℕ) (e lo n : ℕ) {w : Num} (d : w ≡ number_of t) where
-  pub single_bad : w ≡ Bad → SetSaid true lo n t e (Not Misspelt)
+  pub single_bad : w ≡ Bad → SetSaid true lo n t e (Err Misspelt)
   unfolding said
   single_bad h = record { judged = record { same = λ l s. rw (one_refused lo n t l (drop e s) (spelt_bad t d h)); ends = tt } }
 
@@ -85,13 +83,13 @@ module _ (t : List ℕ) (e lo n : ℕ) {w : Num} (d : w ≡ number_of t) where
     bit_said : b ≡ bit_of lo n (value t)
     bit_said = k ∙ bit_capped lo n (value t) v (spelt_good t d h).1 u
 
-    single_outside : b ≡ 0 → SetSaid true lo n t e (Not Reference)
+    single_outside : b ≡ 0 → SetSaid true lo n t e (Err Reference)
     unfolding said check ascends every
     single_outside z =
         let i : inside lo n (value t) ≡ false = sym (bit_inside lo n (value t) b bit_said) ∙ rw z in
         record { judged = record { same = λ l s. rw (one_said t (spelt_good t d h).0, i); ends = tt } }
 
-    single_is : (b ≡ 0 → ⊥) → SetSaid true lo n t e (Is b e)
+    single_is : (b ≡ 0 → ⊥) → SetSaid true lo n t e (Ok (b, e))
     unfolding said check ascends every total
     single_is z =
         let i : inside lo n (value t) ≡ true = sym (bit_inside lo n (value t) b bit_said) ∙ rw (ne_eqb b 0 z) in
@@ -101,45 +99,45 @@ module _ (t : List ℕ) (e lo n : ℕ) {w : Num} (d : w ≡ number_of t) where
         record { judged = record { same = λ l s. rw (one_said t (spelt_good t d h).0, i, f); ends = refl } }
 
 module _ (lo n v e : ℕ) {b : ℕ} (k : b ≡ bit_of lo n v) where
-  pub one_outside : b ≡ 0 → Not Reference ≡ single_of lo n v e
+  pub one_outside : b ≡ 0 → Err Reference ≡ single_of lo n v e
   unfolding single_of
   one_outside z = let i : inside lo n v ≡ false = sym (bit_inside lo n v b k) ∙ rw z in rw i
 
-  pub one_is : (b ≡ 0 → ⊥) → Is b e ≡ single_of lo n v e
+  pub one_is : (b ≡ 0 → ⊥) → Ok (b, e) ≡ single_of lo n v e
   unfolding single_of
   one_is z =
       let i : inside lo n v ≡ true = sym (bit_inside lo n v b k) ∙ rw (ne_eqb b 0 z) in
       let m : b ≡ 2 ^ v = k ∙ rw i in
       rw (i, m)
 
-pub one_value : (lo n : ℕ) (t : List ℕ) (v e : ℕ) {r : Set} → Good v ≡ number_of t → n ≤ 32 → r ≡ single_of lo n v e → SetSaid true lo n t e r
+pub one_value : (lo n : ℕ) (t : List ℕ) (v e : ℕ) {r : Answer ℕ} → Good v ≡ number_of t → n ≤ 32 → r ≡ single_of lo n v e → SetSaid true lo n t e r
 unfolding single_of
 one_value lo n t v e d u q =
     cases (inside lo n v)
     (λ i. rw (q, i) (single_is t e lo n d refl u (rw i) (λ z. omega (arith, pow_pos v))))
     (λ i. let k : 0 ≡ bit_of lo n v = rw i in rw (q, i) (single_outside t e lo n d refl u k refl))
 
-pub single_one : (lo n : ℕ) (t : List ℕ) {v e : ℕ} {w : Num} {r : Set} → w ≡ number_of t → w ≡ Good v → n ≤ 32 → r ≡ single_of lo n v e → SetSaid true lo n t e r
+pub single_one : (lo n : ℕ) (t : List ℕ) {v e : ℕ} {w : Num} {r : Answer ℕ} → w ≡ number_of t → w ≡ Good v → n ≤ 32 → r ≡ single_of lo n v e → SetSaid true lo n t e r
 single_one lo n t {v} {e} d h u q = one_value lo n t v e (sym h ∙ d) u q
 
 -- ---- a list
-pub list_single : {one : Bool} {lo n : ℕ} {t : List ℕ} {e : ℕ} {r : Set} → one ≡ true → SetSaid true lo n t e r → SetSaid one lo n t e r
+pub list_single : {one : Bool} {lo n : ℕ} {t : List ℕ} {e : ℕ} {r : Answer ℕ} → one ≡ true → SetSaid true lo n t e r → SetSaid one lo n t e r
 list_single h a = rw h a
 
-pub list_none : {one : Bool} (lo n : ℕ) (t : List ℕ) (e : ℕ) {x : Bool} → one ≡ false → x ≡ same (bytes "none") t → x ≡ true → SetSaid one lo n t e (Is 0 e)
+pub list_none : {one : Bool} (lo n : ℕ) (t : List ℕ) (e : ℕ) {x : Bool} → one ≡ false → x ≡ same (bytes "none") t → x ≡ true → SetSaid one lo n t e (Ok (0, e))
 unfolding said check ascends every elem
 list_none lo n t e h p k =
     let f : set_of [] ≡ 0 = mask_none 32 in
     rw h (record { judged = record { same = λ l s. rw (← p, k, f); ends = refl } })
 
-pub list_rising : {one : Bool} {lo n : ℕ} {t : List ℕ} {e : ℕ} {r : Set} {x : Bool} → one ≡ false → x ≡ same (bytes "none") t → x ≡ false
+pub list_rising : {one : Bool} {lo n : ℕ} {t : List ℕ} {e : ℕ} {r : Answer ℕ} {x : Bool} → one ≡ false → x ≡ same (bytes "none") t → x ≡ false
     → SetJudged false lo n (each numeral (split t)) e r → SetSaid one lo n t e r
 unfolding said
 list_rising h p k a = rw h (record { judged = rw (← p, k) a })
 
 -- ---- from a list to its place, and to its field
 module _ {s : List ℕ} {at : ℕ} {r : Token} (m : ValueAt s at r) where
-  pub set_stop : (one : Bool) (lo n : ℕ) {x y : Fault} → r ≡ Refused y → x ≡ RefusalOf r → SetIn one lo n s at (Not x)
+  pub set_stop : (one : Bool) (lo n : ℕ) {x y : Fault} → r ≡ Refused y → x ≡ RefusalOf r → SetIn one lo n s at (Err x)
   set_stop one lo n q z = record { same = λ l. rw (z, q) (ap (mapped set_of) (rw q at (m.same (ascending one lo n) l))); within = tt }
 
   value_within : {b e : ℕ} → r ≡ Between b e → (b ≤ e) × (e < length s)
@@ -151,29 +149,29 @@ module _ {s : List ℕ} {at : ℕ} {r : Token} (m : ValueAt s at r) where
   pub set_to : {b e : ℕ} → r ≡ Between b e → e ≤ length s
   set_to q = omega (arith, (value_within q).1)
 
-  pub set_step : {one : Bool} {lo n b e : ℕ} {v : Set} → r ≡ Between b e → SetSaid one lo n (take (e - b) (drop b s)) e v → SetIn one lo n s at v
+  pub set_step : {one : Bool} {lo n b e : ℕ} {v : Answer ℕ} → r ≡ Between b e → SetSaid one lo n (take (e - b) (drop b s)) e v → SetIn one lo n s at v
   set_step {one} {lo} {n} {b} {e} {v} q d =
       record { same = λ l. d.judged.same l s ∙ ap (mapped set_of) (rw q at (m.same (ascending one lo n) l)); within = reach v d.judged.ends }
     where
-      reach : (v : Set) → SetEnds e v → SetWithin s v
-      reach (Is k p) h = rw h (value_within q).1
-      reach (Not f) h = tt
+      reach : (v : Answer ℕ) → Ends e v → Within s v
+      reach (Ok (k, p)) h = rw h (value_within q).1
+      reach (Err f) h = tt
 
-pub set_one : {one : Bool} {lo n : ℕ} {s : List ℕ} {at : ℕ} {r : Set} → one ≡ true → SetIn true lo n s at r → SetIn one lo n s at r
+pub set_one : {one : Bool} {lo n : ℕ} {s : List ℕ} {at : ℕ} {r : Answer ℕ} → one ≡ true → SetIn true lo n s at r → SetIn one lo n s at r
 set_one h a = rw h a
 
-pub set_many : {one : Bool} {lo n : ℕ} {s : List ℕ} {at : ℕ} {r : Set} → one ≡ false → SetIn false lo n s at r → SetIn one lo n s at r
+pub set_many : {one : Bool} {lo n : ℕ} {s : List ℕ} {at : ℕ} {r : Answer ℕ} → one ≡ false → SetIn false lo n s at r → SetIn one lo n s at r
 set_many h a = rw h a
 
 module _ {key s : List ℕ} {at : ℕ} {r : Found} (m : AfterKey key s at r) where
-  pub set_found : {one : Bool} {lo n b : ℕ} {v : Set} → r ≡ At b → SetIn one lo n s b v → SetAt one lo n key s at v
+  pub set_found : {one : Bool} {lo n b : ℕ} {v : Answer ℕ} → r ≡ At b → SetIn one lo n s b v → SetAt one lo n key s at v
   unfolding field_of
   set_found q u = record { same = λ l. u.same l ∙ rw (← m.same, q); within = u.within }
 
-  pub set_differs : (one : Bool) (lo n : ℕ) → r ≡ Differs → SetAt one lo n key s at (Not Form)
+  pub set_differs : (one : Bool) (lo n : ℕ) → r ≡ Differs → SetAt one lo n key s at (Err Form)
   unfolding field_of
   set_differs one lo n e = record { same = λ l. rw (← m.same, e); within = tt }
 
-  pub set_broken : (one : Bool) (lo n : ℕ) → r ≡ Broken → SetAt one lo n key s at (Not Ended)
+  pub set_broken : (one : Bool) (lo n : ℕ) → r ≡ Broken → SetAt one lo n key s at (Err Ended)
   unfolding field_of
   set_broken one lo n e = record { same = λ l. rw (← m.same, e); within = tt }

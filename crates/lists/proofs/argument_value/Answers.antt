@@ -14,5 +14,5 @@ returns-in_default c = search (rules, argument_bad)
 pub returns-then-v-vars : goal.returns-then-v-vars
 returns-then-v-vars c = search (rules, argument_is)
 
-pub returns : goal.returns
-returns c = search (rules, argument_outside)
+pub returns-else-v-vars : goal.returns-else-v-vars
+returns-else-v-vars c = search (rules, argument_outside)

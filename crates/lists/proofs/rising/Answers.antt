@@ -9,8 +9,8 @@ returns-in_default c = search (rules, first_bad, item_read)
 pub loop-to-init : goal.loop-to-init
 loop-to-init c = search (rules, rising_start, item_read)
 
-pub returns-in_default-item : goal.returns-in_default-item
-returns-in_default-item c = search (rules, rising_bad, item_next)
+pub returns-in_default-item_at : goal.returns-in_default-item_at
+returns-in_default-item_at c = search (rules, rising_bad, item_next)
 
 pub slice_bounds-less-count-in-loop-to : goal.slice_bounds-less-count-in-loop-to
 slice_bounds-less-count-in-loop-to c = search (rules, item_from)
@@ -39,5 +39,5 @@ loop-to-preserved c = search (rules, rising_turn, item_next)
 pub returns-then-within : goal.returns-then-within
 returns-then-within c = search (rules, rising_end)
 
-pub returns : goal.returns
-returns c = search (rules, rising_outside)
+pub returns-else-within : goal.returns-else-within
+returns-else-within c = search (rules, rising_outside)

@@ -6,5 +6,5 @@ use Rattle.lists.proofs.single_at.Goals as goal
 pub bounds-s-to : goal.bounds-s-to
 bounds-s-to c = search (rules, short_within)
 
-pub returns-then-stops : goal.returns-then-stops
-returns-then-stops c = search (rules, single_at)
+pub returns-in-Is : goal.returns-in-Is
+returns-in-Is c = search (rules, single_at)
