@@ -10,20 +10,16 @@ use Rattle.table.specs.Cases.{cases}
 use Rattle.table.specs.declared.Op.{Op}
 use Rattle.table.specs.declared.Op.TheVariants.{Add, Sub, And, Or, Xor, Shr, Lt, Eq}
 use Rattle.text.specs.declared.Fault.{Fault}
-use Rattle.text.specs.declared.Fault.TheVariants.{Form, Ended, Index}
+use Rattle.text.specs.declared.Fault.TheVariants.{Form, Index}
 use Rattle.text.specs.Number.{bytes}
 use Rattle.text.specs.declared.NodeKind.{NodeKind}
 use Rattle.text.specs.declared.NodeKind.TheVariants.{Start as start, Set as set_kind, Test as test, Read as read, Out as out}
 use Rattle.text.specs.Value.{choice, kind, operation, kind_word, op_word, same, named, said, unsaid, unless, is_kind, due_at, kind_fault, op_fault, check, kinds, ops}
 use Rattle.text.proofs.NumberLaws.{by_order, and_left, and_right}
 use Rattle.text.proofs.ValueLaws.{same_eq, kind_said}
-use Rattle.text.specs.Line.{run as count, stops, field_of}
-use Rattle.scan.specs.declared.Found.{Found}
-use Rattle.scan.specs.declared.Found.TheVariants.{At, Differs, Broken}
-use Rattle.scan.specs.declared.Token.{Token}
-use Rattle.scan.specs.declared.Token.TheVariants.{At as Between, Not as Refused}
-use Rattle.scan.specs.Place.{AfterKey, quad_number, Bytes, QuadAt, ValueAt, TokenAt, RefusalOf}
-use Rattle.scan.specs.PlaceLaws.{quad_bytes, count_more, count_none, value_ends, value_within, token_within}
+use Rattle.text.specs.Line.{run as count, stops}
+use Rattle.scan.specs.Place.{AfterKey, quad_number, Bytes, QuadAt, ValueAt, TokenAt}
+use Rattle.scan.specs.PlaceLaws.{quad_bytes, count_more, count_none, value_ends, value_within, token_within, field_found, field_refused}
 use Rattle.words.specs.Answer.{Answer, WordTo, Ends, Within, ChoiceSaid, ChoiceAt, plain, KindJudged, Later, KindSaid, KindIn, stands_at, quick_kind, KindAt, calculates, OpJudged, OpSaid, OpIn, OpAt}
 
 -- ---- a word that four bytes show
@@ -94,16 +90,17 @@ module _ (a b t : List ℕ) (e : ℕ) {x : Bool} (p : x ≡ same a t) where
     unfolding said named unsaid
     choice_none k = record { same = λ l s. rw (← p, h, ← q, k); ends = tt }
 
-module _ {key s : List ℕ} {at : ℕ} {r : Token} (m : TokenAt key s at r) where
-  pub choice_stop : (a b : List ℕ) {x y : Fault} → r ≡ Refused y → x ≡ RefusalOf r → ChoiceAt a b key s at (Err x)
-  choice_stop a b q z = record { same = λ l. rw (z, q) (rw q at (m.same (choice a b) l)); within = tt }
+-- ---- from bytes to their place, and to their field
+ends_within : {A : Type 0} (s : List ℕ) (e : ℕ) (r : Answer A) → Ends e r → e < length s → Within s r
+ends_within s e (Ok (v, p)) h w = rw h w
+ends_within s e (Err f) h w = tt
 
-  pub choice_step : {a b : List ℕ} {from e : ℕ} {v : Answer Bool} → r ≡ Between from e → ChoiceSaid a b (take (e - from) (drop from s)) e v → ChoiceAt a b key s at v
-  choice_step {a} {b} {from} {e} {v} q d = record { same = λ l. d.same l s ∙ rw q at (m.same (choice a b) l); within = reach v d.ends }
-    where
-      reach : (v : Answer Bool) → Ends e v → Within s v
-      reach (Ok (v, p)) h = rw h (token_within m q).1
-      reach (Err f) h = tt
+pub choice_stop : (a b : List ℕ) {key s : List ℕ} {at : ℕ} {f : Fault} → TokenAt key s at (Err f) → ChoiceAt a b key s at (Err f)
+choice_stop a b m = record { same = m.same (choice a b); within = tt }
+
+pub choice_step : {a b key s : List ℕ} {at from e : ℕ} {v : Answer Bool} → TokenAt key s at (Ok (from, e)) → ChoiceSaid a b (take (e - from) (drop from s)) e v
+    → ChoiceAt a b key s at v
+choice_step {a} {b} {s = s} {e = e} {v = v} m d = record { same = λ l. d.same l s ∙ m.same (choice a b) l; within = ends_within s e v d.ends (token_within m).1 }
 
 -- ---- the kinds of nodes
 plain_fault : (k : NodeKind) → plain k ≡ true → (c : Bool) (j : ℕ) → kind_fault c j k ≡ unless (due_at j false) Index
@@ -159,30 +156,19 @@ pub kind_none : (c : Bool) (j : ℕ) (t : List ℕ) (e : ℕ) → KindSaid c j [
 unfolding named unsaid
 kind_none c j t e = record { same = λ l s. refl; ends = tt }
 
-module _ {s : List ℕ} {at : ℕ} {r : Token} (m : ValueAt s at r) where
-  pub kind_stop : (c : Bool) (j : ℕ) {x y : Fault} → r ≡ Refused y → x ≡ RefusalOf r → KindIn c j s at (Err x)
-  kind_stop c j q z = record { same = λ l. rw (z, q) (rw q at (m.same (kind c j) l)); within = tt }
+pub kind_stop : (c : Bool) (j : ℕ) {s : List ℕ} {at : ℕ} {f : Fault} → ValueAt s at (Err f) → KindIn c j s at (Err f)
+kind_stop c j m = record { same = m.same (kind c j); within = tt }
 
-  pub kind_step : {c : Bool} {j from e : ℕ} {v : Answer NodeKind} → r ≡ Between from e → KindSaid c j kinds (take (e - from) (drop from s)) e v → KindIn c j s at v
-  unfolding said
-  kind_step {c} {j} {from} {e} {v} q d = record { same = λ l. d.same l s ∙ rw q at (m.same (kind c j) l); within = reach v d.ends }
-    where
-      reach : (v : Answer NodeKind) → Ends e v → Within s v
-      reach (Ok (v, p)) h = rw h (value_within m q).1
-      reach (Err f) h = tt
+pub kind_step : {c : Bool} {j : ℕ} {s : List ℕ} {at from e : ℕ} {v : Answer NodeKind} → ValueAt s at (Ok (from, e)) → KindSaid c j kinds (take (e - from) (drop from s)) e v
+    → KindIn c j s at v
+unfolding said
+kind_step {c} {j} {s} {e = e} {v = v} m d = record { same = λ l. d.same l s ∙ m.same (kind c j) l; within = ends_within s e v d.ends (value_within m).1 }
 
-module _ {s : List ℕ} {at : ℕ} {r : Found} (m : AfterKey (bytes " kind=") s at r) where
-  pub kind_found : {c : Bool} {j b : ℕ} {v : Answer NodeKind} → r ≡ At b → KindIn c j s b v → KindAt c j s at v
-  unfolding field_of
-  kind_found q u = record { same = λ l. u.same l ∙ rw (← m.same, q); within = u.within }
+pub kind_refused : (c : Bool) (j : ℕ) {s : List ℕ} {at : ℕ} {f : Fault} → AfterKey (bytes " kind=") s at (Err f) → KindAt c j s at (Err f)
+kind_refused c j m = record { same = field_refused m (kind c j); within = tt }
 
-  pub kind_differs : (c : Bool) (j : ℕ) → r ≡ Differs → KindAt c j s at (Err Form)
-  unfolding field_of
-  kind_differs c j e = record { same = λ l. rw (← m.same, e); within = tt }
-
-  pub kind_broken : (c : Bool) (j : ℕ) → r ≡ Broken → KindAt c j s at (Err Ended)
-  unfolding field_of
-  kind_broken c j e = record { same = λ l. rw (← m.same, e); within = tt }
+pub kind_found : {c : Bool} {j : ℕ} {s : List ℕ} {at b : ℕ} {v : Answer NodeKind} → AfterKey (bytes " kind=") s at (Ok b) → KindIn c j s b v → KindAt c j s at v
+kind_found {c} {j} m u = record { same = λ l. u.same l ∙ field_found m (kind c j) l; within = u.within }
 
 -- the bytes that stand at a place
 stands_parts : (w s : List ℕ) (at : ℕ) → stands_at w s at ≡ true → drop at s ≡ w ++ drop (length w) (drop at s)
@@ -232,11 +218,7 @@ module _ (s : List ℕ) (at : ℕ) {r : Option (NodeKind × ℕ)} (m : r ≡ qui
   quick_kind_lem {c} {j} {v} d =
       let w = quick_word.0 in
       let z : named kind_word kinds (take (e - at) (drop at s)) ≡ some k = rw w.same (kind_said k) in
-      record { same = λ l. (d.judged c).same l s ∙ (rw z at ((value_ends w.run w.inside).same (kind c j) l)); within = reach v (d.judged c).ends }
-    where
-      reach : (v : Answer NodeKind) → Ends e v → Within s v
-      reach (Ok (v, p)) h = rw h quick_word.0.inside
-      reach (Err f) h = tt
+      record { same = λ l. (d.judged c).same l s ∙ (rw z at ((value_ends w.run w.inside).same (kind c j) l)); within = ends_within s e v (d.judged c).ends w.inside }
 
 pub quick_short : (s : List ℕ) (at : ℕ) → length s - at < 5 → None ≡ quick_kind s at
 unfolding quick_kind
@@ -320,30 +302,18 @@ pub op_none : (x : Bool) (t : List ℕ) (e : ℕ) → OpSaid x [] t e (Err Form)
 unfolding named unsaid
 op_none x t e = record { same = λ l s. refl; ends = tt }
 
-module _ {s : List ℕ} {at : ℕ} {r : Token} (m : ValueAt s at r) where
-  pub op_stop : (x : Bool) {f y : Fault} → r ≡ Refused y → f ≡ RefusalOf r → OpIn x s at (Err f)
-  op_stop x q z = record { same = λ l. rw (z, q) (rw q at (m.same (operation x) l)); within = tt }
+pub op_stop : (x : Bool) {s : List ℕ} {at : ℕ} {f : Fault} → ValueAt s at (Err f) → OpIn x s at (Err f)
+op_stop x m = record { same = m.same (operation x); within = tt }
 
-  pub op_step : {x : Bool} {from e : ℕ} {v : Answer Op} → r ≡ Between from e → OpSaid x ops (take (e - from) (drop from s)) e v → OpIn x s at v
-  unfolding said
-  op_step {x} {from} {e} {v} q d = record { same = λ l. d.same l s ∙ rw q at (m.same (operation x) l); within = reach v d.ends }
-    where
-      reach : (v : Answer Op) → Ends e v → Within s v
-      reach (Ok (v, p)) h = rw h (value_within m q).1
-      reach (Err f) h = tt
+pub op_step : {x : Bool} {s : List ℕ} {at from e : ℕ} {v : Answer Op} → ValueAt s at (Ok (from, e)) → OpSaid x ops (take (e - from) (drop from s)) e v → OpIn x s at v
+unfolding said
+op_step {x} {s} {e = e} {v = v} m d = record { same = λ l. d.same l s ∙ m.same (operation x) l; within = ends_within s e v d.ends (value_within m).1 }
 
-module _ {s : List ℕ} {at : ℕ} {r : Found} (m : AfterKey (bytes " op=") s at r) where
-  pub op_found : {x : Bool} {b : ℕ} {v : Answer Op} → r ≡ At b → OpIn x s b v → OpAt x s at v
-  unfolding field_of
-  op_found q u = record { same = λ l. u.same l ∙ rw (← m.same, q); within = u.within }
+pub op_refused : (x : Bool) {s : List ℕ} {at : ℕ} {f : Fault} → AfterKey (bytes " op=") s at (Err f) → OpAt x s at (Err f)
+op_refused x m = record { same = field_refused m (operation x); within = tt }
 
-  pub op_differs : (x : Bool) → r ≡ Differs → OpAt x s at (Err Form)
-  unfolding field_of
-  op_differs x e = record { same = λ l. rw (← m.same, e); within = tt }
-
-  pub op_broken : (x : Bool) → r ≡ Broken → OpAt x s at (Err Ended)
-  unfolding field_of
-  op_broken x e = record { same = λ l. rw (← m.same, e); within = tt }
+pub op_found : {x : Bool} {s : List ℕ} {at b : ℕ} {v : Answer Op} → AfterKey (bytes " op=") s at (Ok b) → OpIn x s b v → OpAt x s at v
+op_found {x} m u = record { same = λ l. u.same l ∙ field_found m (operation x) l; within = u.within }
 
 -- an operation is the first whose word its word is
 named_op : (o : Op) → named op_word ops (op_word o) ≡ some o
@@ -362,11 +332,7 @@ op_stands : {s : List ℕ} {at e : ℕ} {o : Op} → WordTo s at e (op_word o) �
 unfolding said
 op_stands {s} {at} {e} {o} w {x} {v} d =
     let z : named op_word ops (take (e - at) (drop at s)) ≡ some o = rw w.same (named_op o) in
-    record { same = λ l. d.same l s ∙ (rw z at ((value_ends w.run w.inside).same (operation x) l)); within = reach v d.ends }
-  where
-    reach : (v : Answer Op) → Ends e v → Within s v
-    reach (Ok (v, p)) h = rw h w.inside
-    reach (Err f) h = tt
+    record { same = λ l. d.same l s ∙ (rw z at ((value_ends w.run w.inside).same (operation x) l)); within = ends_within s e v d.ends w.inside }
 
 module _ {s : List ℕ} {at r x : ℕ} (m : QuadAt s at r) (h : 4 ≤ length s - at) where
   pub quick_add : Bytes 97 100 100 32 → x ≡ quad_number 97 100 100 32 → r ≡ x → OpIn false s at (Ok (Add, at + 3))

@@ -33,10 +33,7 @@ pub fn choice_field(
     requires { at ≤ length s.now }
     ensures { ChoiceAt a.now b.now key.now s.now at result }
 {
-    let found = scan::token_at(s, at, key);
-    let scan::Token::At(from, e) = found else {
-        return Err(scan::refusal(found));
-    };
+    let (from, e) = scan::token_at(s, at, key)?;
     choice_value(&s[from..e], e, a, b)
 }
 
@@ -130,10 +127,7 @@ fn any_kind(s: &[u8], at: usize, closed: bool, j: u8) -> Result<(NodeKind, usize
     requires { at ≤ length s.now }
     ensures { KindIn closed j s.now at result }
 {
-    let found = scan::value_at(s, at);
-    let scan::Token::At(from, e) = found else {
-        return Err(scan::refusal(found));
-    };
+    let (from, e) = scan::value_at(s, at)?;
     kind_value(&s[from..e], e, closed, j)
 }
 
@@ -178,11 +172,8 @@ pub fn kind_field(s: &[u8], at: usize, closed: bool, j: u8) -> Result<(NodeKind,
     requires { at ≤ length s.now }
     ensures { KindAt closed j s.now at result }
 {
-    match scan::after_word(s, at, b' ', b'k', b'i', b'n', b"d=") {
-        scan::Found::At(b) => kind_at(s, b, closed, j),
-        scan::Found::Differs => Err(Fault::Form),
-        scan::Found::Broken => Err(Fault::Ended),
-    }
+    let b = scan::after_word(s, at, b' ', b'k', b'i', b'n', b"d=")?;
+    kind_at(s, b, closed, j)
 }
 
 // ---- operations
@@ -232,10 +223,7 @@ fn any_operation(s: &[u8], at: usize, test: bool) -> Result<(Op, usize), Fault>
     requires { at ≤ length s.now }
     ensures { OpIn test s.now at result }
 {
-    let found = scan::value_at(s, at);
-    let scan::Token::At(from, e) = found else {
-        return Err(scan::refusal(found));
-    };
+    let (from, e) = scan::value_at(s, at)?;
     operation_value(&s[from..e], e, test)
 }
 
@@ -300,9 +288,6 @@ pub fn operation_field(s: &[u8], at: usize, test: bool) -> Result<(Op, usize), F
     requires { at ≤ length s.now }
     ensures { OpAt test s.now at result }
 {
-    match scan::after_word(s, at, b' ', b'o', b'p', b'=', b"") {
-        scan::Found::At(b) => operation_at(s, b, test),
-        scan::Found::Differs => Err(Fault::Form),
-        scan::Found::Broken => Err(Fault::Ended),
-    }
+    let b = scan::after_word(s, at, b' ', b'o', b'p', b'=', b"")?;
+    operation_at(s, b, test)
 }

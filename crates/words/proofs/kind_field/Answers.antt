@@ -1,12 +1,9 @@
 use Rattle.std.proofs.Common.{rules}
-use Rattle.words.specs.WordLaws.{kind_found, kind_differs, kind_broken}
+use Rattle.words.specs.WordLaws.{kind_refused, kind_found}
 use Rattle.words.proofs.kind_field.Goals as goal
 
-pub returns-in-At : goal.returns-in-At
-returns-in-At c = search (rules, kind_found)
+pub returns-in_err-b : goal.returns-in_err-b
+returns-in_err-b c = search (rules, kind_refused c.args.closed c.args.j c.in_err-b.ensures)
 
-pub returns-in-Differs : goal.returns-in-Differs
-returns-in-Differs c = search (rules, kind_differs)
-
-pub returns-in-Broken : goal.returns-in-Broken
-returns-in-Broken c = search (rules, kind_broken)
+pub returns : goal.returns
+returns c = kind_found c.in_ok-b.ensures c.kind_at.ensures

@@ -1,12 +1,9 @@
 use Rattle.std.proofs.Common.{rules}
-use Rattle.words.specs.WordLaws.{op_found, op_differs, op_broken}
+use Rattle.words.specs.WordLaws.{op_refused, op_found}
 use Rattle.words.proofs.operation_field.Goals as goal
 
-pub returns-in-At : goal.returns-in-At
-returns-in-At c = search (rules, op_found)
+pub returns-in_err-b : goal.returns-in_err-b
+returns-in_err-b c = search (rules, op_refused c.args.test c.in_err-b.ensures)
 
-pub returns-in-Differs : goal.returns-in-Differs
-returns-in-Differs c = search (rules, op_differs)
-
-pub returns-in-Broken : goal.returns-in-Broken
-returns-in-Broken c = search (rules, op_broken)
+pub returns : goal.returns
+returns c = op_found c.in_ok-b.ensures c.operation_at.ensures
