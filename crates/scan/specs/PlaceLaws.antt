@@ -1,6 +1,7 @@
 -- Laws of keys and places: each says what a step of the code shows.
-use Rattle.std.specs.Prelude.{ℕ, zero, suc, ◌+◌, ◌-◌, ◌*◌, ◌≤◌, ◌<◌, ◌≡◌, refl, List, [], ◌∷◌, ◌++◌, Result, Ok, Err, true, false, eqb, take, drop, get_or}
+use Rattle.std.specs.Prelude.{ℕ, zero, suc, ◌+◌, ◌-◌, ◌*◌, ◌≤◌, ◌<◌, ◌≡◌, ◌⊎◌, refl, List, [], ◌∷◌, ◌++◌, Result, Ok, Err, true, false, eqb, take, drop, get_or}
 use Rattle.std.proofs.Common.{sym, ◌∙◌, ap, add-zero, zero-add, drop_of_length-le}
+use Rattle.std.proofs.Math.Logic.{inl, inr}
 use native.Mathlib.Omega.{arith}
 use Rattle.std.proofs.Math.Numerals.{add-one}
 use Rattle.std.proofs.Math.ListN.{length, length-drop}
@@ -171,14 +172,11 @@ module _ (s : List ℕ) (at : ℕ) (h : 3 ≤ length s - at) (x : ℕ) where
   name_two : get_or s at 0 ≡ 32 → get_or s (at + 1) 0 ≡ x → Matching (32 ∷ x ∷ 61 ∷ []) s at 2
   name_two e f = matching_turn (name_one e) (omega arith) (omega arith) (sym f)
 
-  pub name_first : (get_or s at 0 ≡ 32 → ⊥) → AfterKey (32 ∷ x ∷ 61 ∷ []) s at (Err Form)
-  name_first n = matching_differs name_start (omega arith) (omega arith) (rw (add-zero at) (λ e. n (sym e)))
-
-  pub name_second : get_or s at 0 ≡ 32 → (get_or s (at + 1) 0 ≡ x → ⊥) → AfterKey (32 ∷ x ∷ 61 ∷ []) s at (Err Form)
-  name_second e n = matching_differs (name_one e) (omega arith) (omega arith) (λ f. n (sym f))
-
-  pub name_third : get_or s at 0 ≡ 32 → get_or s (at + 1) 0 ≡ x → (get_or s (at + 2) 0 ≡ 61 → ⊥) → AfterKey (32 ∷ x ∷ 61 ∷ []) s at (Err Form)
-  name_third e f n = matching_differs (name_two e f) (omega arith) (omega arith) (λ g. n (sym g))
+  pub name_differs : ((get_or s at 0 ≡ 32) × (get_or s (at + 1) 0 ≡ x) × (get_or s (at + 2) 0 ≡ 61 → ⊥)) ⊎ ((get_or s at 0 ≡ 32) × (get_or s (at + 1) 0 ≡ x → ⊥)) ⊎ (get_or s at 0 ≡ 32 → ⊥)
+      → AfterKey (32 ∷ x ∷ 61 ∷ []) s at (Err Form)
+  name_differs (inl k) = matching_differs (name_two k.0 k.1) (omega arith) (omega arith) (λ g. k.2 (sym g))
+  name_differs (inr (inl k)) = matching_differs (name_one k.0) (omega arith) (omega arith) (λ f. k.1 (sym f))
+  name_differs (inr (inr n)) = matching_differs name_start (omega arith) (omega arith) (rw (add-zero at) (λ e. n (sym e)))
 
   pub name_found : get_or s at 0 ≡ 32 → get_or s (at + 1) 0 ≡ x → get_or s (at + 2) 0 ≡ 61 → AfterKey (32 ∷ x ∷ 61 ∷ []) s at (Ok (at + 3))
   name_found e f g = stand (matching_turn (name_two e f) (omega arith) (omega arith) (sym g)) (omega arith)
