@@ -1,5 +1,5 @@
 -- Laws of a list's items: each says what a step of the code shows.
-use Rattle.std.specs.Prelude.{ℕ, suc, ◌+◌, ◌-◌, ◌*◌, ◌%◌, ◌^◌, ◌≤◌, ◌<◌, ◌≡◌, refl, Bool, true, false, ◌&&◌, List, [], ◌∷◌, ltb, leb, eqb, length, take, drop, get_or, Option, Some, None}
+use Rattle.std.specs.Prelude.{ℕ, suc, ◌+◌, ◌-◌, ◌*◌, ◌%◌, ◌^◌, ◌≤◌, ◌<◌, ◌≡◌, refl, Bool, true, false, ◌&&◌, List, [], ◌∷◌, ltb, leb, eqb, length, take, drop, get_or, Option, Some, None, Ok, Err, ok_or}
 use Rattle.std.proofs.Common.{sym, ◌∙◌, arith, one-mul, shl_exact, drop_of_length-le, length-drop, drop-drop}
 use Rattle.std.proofs.Math.Option.{none}
 use Rattle.std.proofs.Math.Numerals.{add-one}
@@ -7,14 +7,22 @@ use Rattle.std.proofs.Math.Seq.{drop-cons}
 use borrow.Author.Tests.{lt-ltb, le-ltb, le-leb, lt-leb, ne_eqb}
 use Rattle.table.specs.Cases.{cases}
 use Rattle.table.specs.Mask.{pick}
+use Rattle.text.specs.declared.Fault.{Fault}
 use Rattle.text.specs.Number.{spelt, value}
 use Rattle.text.proofs.NumberLaws.{by_order}
 use Rattle.text.specs.Value.{numeral, split, each}
-use Rattle.digits.specs.declared.Num.{Num}
-use Rattle.digits.specs.declared.Num.TheVariants.{Good, Bad}
 use Rattle.digits.specs.Read.{number_of, capped}
 use Rattle.digits.specs.NumeralLaws.{spelt_good, numeral_bad}
 use Rattle.lists.specs.Items.{up_to, next_comma, CommaAt, more, bit_of, part, item_for, item_of}
+
+-- ---- from what `ok_or` gives
+pub ok_some : {A : Type 0} (o : Option A) (f : Fault) {v : A} → Ok v ≡ ok_or o f → o ≡ Some v
+ok_some None f q = cc
+ok_some (Some v) f q = cc
+
+pub err_none : {A : Type 0} (o : Option A) (f : Fault) {g : Fault} → Err g ≡ ok_or o f → (o ≡ None) × (g ≡ f)
+err_none None f q = (refl, cc)
+err_none (Some v) f q = cc
 
 -- ---- up to the next comma
 pub record Seeking (t : List ℕ) (from i : ℕ) : Type 0 where
@@ -92,14 +100,14 @@ bit_capped lo n x v c u =
     go false false = refl
 
 -- ---- an item
-module _ {t : List ℕ} {from to : ℕ} (c : CommaAt t from to) {w : Num} (d : w ≡ number_of (part t from to)) (lo n : ℕ) where
-  pub item_bad : w ≡ Bad → None ≡ item_of lo n t from
+module _ {t : List ℕ} {from to : ℕ} (c : CommaAt t from to) (lo n : ℕ) where
+  pub item_bad : None ≡ number_of (part t from to) → None ≡ item_of lo n t from
   unfolding item_of
-  item_bad h = rw (← c.same, ← d, h)
+  item_bad h = rw (← c.same, ← h)
 
-  pub item_good : {v m : ℕ} → w ≡ Good v → m ≡ bit_of lo n v → Some (m, to) ≡ item_of lo n t from
+  pub item_good : {v m : ℕ} → Some v ≡ number_of (part t from to) → m ≡ bit_of lo n v → Some (m, to) ≡ item_of lo n t from
   unfolding item_of
-  item_good h b = rw (← c.same, ← d, h, b)
+  item_good h b = rw (← c.same, ← h, b)
 
 -- an item that is a number, and the others
 pub record Itemized (lo n : ℕ) (t : List ℕ) (from to m : ℕ) : Type 0 where
@@ -129,9 +137,9 @@ pub item_read : (lo n : ℕ) (t : List ℕ) (from : ℕ) {r : Option (ℕ × ℕ
 unfolding item_of each
 item_read lo n t from q h u = rw q (go (next_comma t from) (comma_here t from h) (number_of (part t from (next_comma t from))) refl)
   where
-    go : (to : ℕ) → CommaAt t from to → (w : Num) → w ≡ number_of (part t from to) → ItemAt lo n t from (item_for lo n to w)
-    go to c Bad d = record { is = rw (comma_split c, numeral_bad (part t from to) d refl) }
-    go to c (Good v) d =
+    go : (to : ℕ) → CommaAt t from to → (w : Option ℕ) → w ≡ number_of (part t from to) → ItemAt lo n t from (item_for lo n to w)
+    go to c None d = record { is = rw (comma_split c, numeral_bad (part t from to) d refl) }
+    go to c (Some v) d =
         let g = spelt_good (part t from to) d refl in
         record {
           is = record {

@@ -2,8 +2,6 @@
 use Rattle.std.specs.Prelude.{ℕ, suc, ◌+◌, ◌-◌, ◌^◌, ◌≤◌, ◌≡◌, Bool, ◌&&◌, List, [], ◌∷◌, ltb, leb, eqb, length, take, drop, Option, Some, None}
 use Rattle.table.specs.Mask.{pick}
 use Rattle.text.specs.Value.{split}
-use Rattle.digits.specs.declared.Num.{Num}
-use Rattle.digits.specs.declared.Num.TheVariants.{Good, Bad}
 use Rattle.digits.specs.Read.{number_of}
 
 -- the count of bytes before the next comma
@@ -34,9 +32,9 @@ abbrev pub part : List ℕ → ℕ → ℕ → List ℕ
 part t from to = take (to - from) (drop from t)
 
 -- the answer for an item that ends at a place
-abbrev pub item_for : ℕ → ℕ → ℕ → Num → Option (ℕ × ℕ)
-item_for lo n to (Good v) = Some (bit_of lo n v, to)
-item_for lo n to Bad = None
+abbrev pub item_for : ℕ → ℕ → ℕ → Option ℕ → Option (ℕ × ℕ)
+item_for lo n to (Some v) = Some (bit_of lo n v, to)
+item_for lo n to None = None
 
 -- the item from a place to the next comma
 unfoldable pub item_of : ℕ → ℕ → List ℕ → ℕ → Option (ℕ × ℕ)

@@ -1,16 +1,14 @@
 -- What the readers of a call's variables answer.
-use Rattle.std.specs.Prelude.{ℕ, ◌+◌, min, ◌≡◌, Bool, List, ltb, eqb, drop, Option as Maybe, Some, None}
+use Rattle.std.specs.Prelude.{ℕ, ◌+◌, min, Bool, List, ltb, eqb, Option as Maybe, Some, None}
 use Rattle.std.proofs.Math.Option.{Option, none, some}
 use Rattle.table.specs.Mask.{pick}
 use Rattle.table.specs.Table.{removed}
 use Rattle.table.specs.declared.Args.{Args}
 use Rattle.text.specs.Number.{bytes}
 use Rattle.text.specs.Value.{arguments, said_variable, said}
-use Rattle.text.specs.Line.{judged, field_of}
 use Rattle.text.specs.Format.{args_of}
-use Rattle.numbers.specs.Answer.{mapped}
 use Rattle.lists.specs.Items.{next_comma, part}
-use Rattle.lists.specs.Sets.{Answer, answer_in, Ends, Within}
+use Rattle.lists.specs.Sets.{Answer, Judged, FieldAt}
 
 -- ---- one variable
 
@@ -49,14 +47,13 @@ with_of (Some a) (Some v) = Some (pushed_of a v)
 with_of (Some a) None = None
 with_of None v = None
 
--- the answer for a list that bytes say
-pub record PassedJudged (c : Bool) (n : ℕ) (o : Option (List (Option ℕ))) (e : ℕ) (r : Answer Args) : Type 0 where
-  pub same : (l : ℕ) (s : List ℕ) → answer_in l s r ≡ mapped args_of (judged (arguments c n) o l (drop e s))
-  pub ends : Ends e r
+-- the answer for a list that bytes say, and for the field
 
-pub record PassedSaid (c : Bool) (n : ℕ) (t : List ℕ) (e : ℕ) (r : Answer Args) : Type 0 where
-  pub judged : PassedJudged c n (said (arguments c n) t) e r
+abbrev pub PassedJudged : Bool → ℕ → Option (List (Option ℕ)) → ℕ → Answer Args → Type 0
+PassedJudged c n o e r = Judged (arguments c n) args_of o e r
 
-pub record PassedAt (c : Bool) (n : ℕ) (s : List ℕ) (at : ℕ) (r : Answer Args) : Type 0 where
-  pub same : (l : ℕ) → answer_in l s r ≡ mapped args_of (field_of (bytes " args=") (arguments c n) l (drop at s))
-  pub within : Within s r
+abbrev pub PassedSaid : Bool → ℕ → List ℕ → ℕ → Answer Args → Type 0
+PassedSaid c n t e r = PassedJudged c n (said (arguments c n) t) e r
+
+abbrev pub PassedAt : Bool → ℕ → List ℕ → ℕ → Answer Args → Type 0
+PassedAt c n s at r = FieldAt (arguments c n) args_of (bytes " args=") s at r

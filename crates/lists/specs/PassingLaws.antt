@@ -1,5 +1,5 @@
 -- Laws of the readers of a call's variables: each says what a step of the code shows.
-use Rattle.std.specs.Prelude.{ℕ, ◌+◌, ◌-◌, ◌≤◌, ◌<◌, min, ◌≡◌, Bool, ◌||◌, List, [], ◌∷◌, ◌++◌, ltb, eqb, length, take, drop, Option as Maybe, Some, None, Ok, Err}
+use Rattle.std.specs.Prelude.{ℕ, ◌+◌, ◌-◌, ◌≤◌, ◌<◌, min, ◌≡◌, Bool, ◌||◌, List, [], ◌∷◌, ◌++◌, ltb, eqb, length, drop, Option as Maybe, Some, None, Ok, Err, ok_or}
 use Rattle.std.proofs.Math.Path.{refl, ap}
 use Rattle.std.proofs.Common.{sym, ◌∙◌, append_assoc, append-nil, arith, add-one, length-append}
 use Rattle.std.proofs.Math.Bool.{true, false}
@@ -17,19 +17,13 @@ use Rattle.text.proofs.NumberLaws.{by_order}
 use Rattle.text.specs.Value.{arguments, same, said_variable, split, followed, each, none_removed, all_declared, said, unsaid, check}
 use Rattle.text.specs.Line.{judged}
 use Rattle.text.specs.Format.{variable_of, arg_of, args_of}
-use Rattle.digits.specs.declared.Num.{Num}
-use Rattle.digits.specs.declared.Num.TheVariants.{Good, Bad}
 use Rattle.digits.specs.Read.{number_of}
 use Rattle.digits.specs.NumeralLaws.{spelt_good, numeral_bad, numeral_good}
-use Rattle.scan.specs.declared.Token.{Token}
-use Rattle.scan.specs.declared.Token.TheVariants.{At as Between, Not as Refused}
-use Rattle.scan.specs.Place.{TokenAt, RefusalOf}
-use Rattle.scan.specs.PlaceLaws.{token_within}
 use Rattle.numbers.specs.Answer.{mapped}
 use Rattle.lists.specs.Items.{next_comma, CommaAt, more, part}
-use Rattle.lists.specs.ItemLaws.{comma_split, comma_here}
-use Rattle.lists.specs.Sets.{Answer, answer_in, Ends, Within}
-use Rattle.lists.specs.Passing.{argument_for, argument_of, ending, argument_from, pushed_of, with_of, PassedJudged, PassedSaid, PassedAt}
+use Rattle.lists.specs.ItemLaws.{ok_some, err_none, comma_split, comma_here}
+use Rattle.lists.specs.Sets.{Answer, answer_in}
+use Rattle.lists.specs.Passing.{argument_for, argument_of, ending, argument_from, pushed_of, with_of, PassedJudged, PassedSaid}
 
 -- ---- one variable
 module _ (c : Bool) (n : ℕ) (w : List ℕ) {x : Bool} (p : x ≡ same (bytes "-") w) where
@@ -41,21 +35,21 @@ module _ (c : Bool) (n : ℕ) (w : List ℕ) {x : Bool} (p : x ≡ same (bytes "
   unfolding argument_of
   argument_open h k = rw (← p, h, k)
 
-  module _ (h : x ≡ false) {d : Num} (q : d ≡ number_of w) where
-    pub argument_bad : d ≡ Bad → None ≡ argument_of c n w
+  module _ (h : x ≡ false) where
+    pub argument_bad : None ≡ number_of w → None ≡ argument_of c n w
     unfolding argument_of
-    argument_bad k = rw (← p, h, numeral_bad w q k)
+    argument_bad q = rw (← p, h, numeral_bad w q refl)
 
-    module _ {v : ℕ} (k : d ≡ Good v) (u : n ≤ 256) where
+    module _ {v : ℕ} (q : Some v ≡ number_of w) (u : n ≤ 256) where
       pub argument_is : v < n → Some (Some v) ≡ argument_of c n w
       unfolding argument_of
       argument_is l =
-          let z : value w ≡ v = omega (arith, (spelt_good w q k).1) in
-          rw (← p, h, numeral_good w q k, z, lt-ltb v n l)
+          let z : value w ≡ v = omega (arith, (spelt_good w q refl).1) in
+          rw (← p, h, numeral_good w q refl, z, lt-ltb v n l)
 
       pub argument_outside : n ≤ v → Some None ≡ argument_of c n w
       unfolding argument_of
-      argument_outside l = rw (← p, h, numeral_good w q k, le-ltb (value w) n (omega (arith, (spelt_good w q k).1)))
+      argument_outside l = rw (← p, h, numeral_good w q refl, le-ltb (value w) n (omega (arith, (spelt_good w q refl).1)))
 
 module _ (c : Bool) (n : ℕ) {t : List ℕ} {from to : ℕ} (m : CommaAt t from to) where
   pub argument_part : {v : Maybe ℕ} → Some v ≡ argument_of c n (part t from to) → Some (v, to) ≡ argument_from c n t from
@@ -210,14 +204,15 @@ module _ {c : Bool} {n e : ℕ} {t : List ℕ} {from : ℕ} {m : Maybe Args} (g 
   here : ArgumentAt c n t from r
   here = argument_read c n t from a g.within_text
 
-  pub going_stops : r ≡ None → PassedJudged c n (each said_variable (split t)) e (Err Misspelt)
+  pub going_stops : {f : Fault} → Err f ≡ ok_or r Misspelt → PassedJudged c n (each said_variable (split t)) e (Err f)
   going_stops q =
-      let d = finish_refuses c n e m (each said_variable (split (drop from t))) (rw q at here.is) in
-      record { same = λ l s. sym (ap (answer_in l s) d) ∙ g.rest l s; ends = tt }
+      let z = err_none r Misspelt q in
+      let d = finish_refuses c n e m (each said_variable (split (drop from t))) (rw (z.0) at here.is) in
+      record { same = λ l s. rw (z.1) (sym (ap (answer_in l s) d) ∙ g.rest l s); ends = tt }
 
-  module _ {v : Maybe ℕ} {to : ℕ} (q : r ≡ Some (v, to)) {b : Maybe Args} (x : b ≡ with_of m v) where
+  module _ {v : Maybe ℕ} {to : ℕ} (q : Ok (v, to) ≡ ok_or r Misspelt) {b : Maybe Args} (x : b ≡ with_of m v) where
     first : First c n t from to v
-    first = rw q at here.is
+    first = rw (ok_some r Misspelt q) at here.is
 
     next : finish c n e m (each said_variable (split (drop from t))) ≡ finish c n e b (each said_variable (more t to))
     unfolding each
@@ -231,15 +226,16 @@ module _ {c : Bool} {n e : ℕ} {t : List ℕ} {from : ℕ} {m : Maybe Args} (g 
         go true = refl
         go false = refl
 
-    pub going_end : {z : Args} → length t ≤ to → b ≡ Some z → PassedJudged c n (each said_variable (split t)) e (Ok (z, e))
+    pub going_end : {z : Args} → length t ≤ to → Ok z ≡ ok_or b Reference → PassedJudged c n (each said_variable (split t)) e (Ok (z, e))
     unfolding every push_all
     going_end {z} h k =
-        let d : finish c n e m (each said_variable (split (drop from t))) ≡ Ok (z, e) = last h ∙ rw k in
+        let d : finish c n e m (each said_variable (split (drop from t))) ≡ Ok (z, e) = last h ∙ rw (ok_some b Reference k) in
         record { same = λ l s. sym (ap (answer_in l s) d) ∙ g.rest l s; ends = refl }
 
-    pub going_outside : length t ≤ to → b ≡ None → PassedJudged c n (each said_variable (split t)) e (Err Reference)
-    going_outside h k =
-        let d : finish c n e m (each said_variable (split (drop from t))) ≡ Err Reference = last h ∙ rw k in
+    pub going_outside : {f : Fault} → length t ≤ to → Err f ≡ ok_or b Reference → PassedJudged c n (each said_variable (split t)) e (Err f)
+    going_outside {f} h k =
+        let z = err_none b Reference k in
+        let d : finish c n e m (each said_variable (split (drop from t))) ≡ Err f = last h ∙ rw (z.0, z.1) in
         record { same = λ l s. sym (ap (answer_in l s) d) ∙ g.rest l s; ends = tt }
 
     pub going_turn : to < length t → Going c n e t (to + 1) b
@@ -262,21 +258,9 @@ empty_said false n e = refl
 
 pub passed_none : (c : Bool) (n : ℕ) (t : List ℕ) (e : ℕ) {x : Bool} {a : Args} → x ≡ same (bytes "none") t → x ≡ true → a ≡ args_of [] → PassedSaid c n t e (Ok (a, e))
 unfolding said
-passed_none c n t e {x} {a} p h q = record { judged = record { same = λ l s. rw (q, ← p, h) (sym (ap (answer_in l s) (empty_said c n e)) ∙ whole_said c n e (some []) l s); ends = refl } }
+passed_none c n t e {x} {a} p h q = record { same = λ l s. rw (q, ← p, h) (sym (ap (answer_in l s) (empty_said c n e)) ∙ whole_said c n e (some []) l s); ends = refl }
 
-pub passed_some : {c : Bool} {n : ℕ} {t : List ℕ} {e : ℕ} {r : Answer Args} {x : Bool} → x ≡ same (bytes "none") t → x ≡ false
+pub passed_some : {c : Bool} {n : ℕ} (t : List ℕ) {e : ℕ} {r : Answer Args} {x : Bool} → x ≡ same (bytes "none") t → x ≡ false
     → PassedJudged c n (each said_variable (split t)) e r → PassedSaid c n t e r
 unfolding said
-passed_some p h a = record { judged = rw (← p, h) a }
-
-module _ {s : List ℕ} {at : ℕ} {r : Token} (m : TokenAt (bytes " args=") s at r) where
-  pub passed_stop : (c : Bool) (n : ℕ) {x y : Fault} → r ≡ Refused y → x ≡ RefusalOf r → PassedAt c n s at (Err x)
-  passed_stop c n q z = record { same = λ l. rw (z, q) (ap (mapped args_of) (rw q at (m.same (arguments c n) l))); within = tt }
-
-  pub passed_step : {c : Bool} {n b e : ℕ} {v : Answer Args} → r ≡ Between b e → PassedSaid c n (take (e - b) (drop b s)) e v → PassedAt c n s at v
-  passed_step {c} {n} {b} {e} {v} q d =
-      record { same = λ l. d.judged.same l s ∙ ap (mapped args_of) (rw q at (m.same (arguments c n) l)); within = reach v d.judged.ends }
-    where
-      reach : (v : Answer Args) → Ends e v → Within s v
-      reach (Ok (k, p)) h = rw h (token_within m q).1
-      reach (Err f) h = tt
+passed_some t p h a = rw (← p, h) a

@@ -1,5 +1,5 @@
 -- Laws of the readers of sets: each says what a step of the code shows.
-use Rattle.std.specs.Prelude.{ℕ, ◌+◌, ◌-◌, ◌^◌, ◌≤◌, ◌<◌, ◌≡◌, Bool, true, false, ◌&&◌, not, List, ◌∷◌, ltb, leb, eqb, length, drop, Option as Maybe, Some, None, Ok, Err}
+use Rattle.std.specs.Prelude.{ℕ, ◌+◌, ◌-◌, ◌^◌, ◌≤◌, ◌<◌, ◌≡◌, Bool, true, false, ◌&&◌, not, List, ◌∷◌, ltb, leb, eqb, length, drop, Option as Maybe, Some, Ok, Err, ok_or}
 use Rattle.std.proofs.Math.Path.{refl}
 use Rattle.std.proofs.Common.{sym, ◌∙◌, ap, arith, add_assoc, pow-suc, Fits, add-one, pow_pos, pow_mono}
 use Rattle.std.proofs.Math.Option.{Option, none, some}
@@ -9,6 +9,7 @@ use Rattle.std.proofs.Math.Pow.{pow-lt}
 use borrow.Author.Tests.{lt-ltb, le-ltb, ltb-true, ne_eqb, not-true, not-false}
 use Rattle.table.specs.Cases.{cases}
 use Rattle.table.specs.Mask.{pick}
+use Rattle.text.specs.declared.Fault.{Fault}
 use Rattle.text.specs.declared.Fault.TheVariants.{Misspelt, Reference}
 use Rattle.text.specs.Number.{spelt, value, every}
 use Rattle.text.proofs.NumberLaws.{and_left, and_right}
@@ -17,7 +18,7 @@ use Rattle.text.specs.Line.{judged}
 use Rattle.text.specs.Format.{set_of}
 use Rattle.numbers.specs.Answer.{mapped}
 use Rattle.lists.specs.Items.{more, inside, bit_of, part, item_of}
-use Rattle.lists.specs.ItemLaws.{Itemized, ItemAt, item_next}
+use Rattle.lists.specs.ItemLaws.{err_none, Itemized, ItemAt, item_next}
 use Rattle.lists.specs.Sets.{Answer, answer_in, SetJudged}
 use Rattle.lists.specs.TotalLaws.{total, total_first, within_first, total_is}
 
@@ -147,9 +148,9 @@ pub record Rising (lo n e : ℕ) (t : List ℕ) (from to m : ℕ) (ok : Bool) : 
   pub rest : (l : ℕ) (s : List ℕ) → answer_in l s (finish lo n e (value (part t from to)) m ok (each numeral (more t to)))
       ≡ mapped set_of (judged (ascending false lo n) (each numeral (split t)) l (drop e s))
 
-pub first_bad : {lo n : ℕ} {t : List ℕ} (e : ℕ) {r : Maybe (ℕ × ℕ)} → ItemAt lo n t 0 r → r ≡ None → SetJudged false lo n (each numeral (split t)) e (Err Misspelt)
+pub first_bad : {lo n : ℕ} {t : List ℕ} (e : ℕ) {r : Maybe (ℕ × ℕ)} → ItemAt lo n t 0 r → {f : Fault} → Err f ≡ ok_or r Misspelt → SetJudged false lo n (each numeral (split t)) e (Err f)
 unfolding unsaid
-first_bad e a q = record { same = λ l s. rw (rw q at a.is); ends = tt }
+first_bad e {r} a q = let z = err_none r Misspelt q in record { same = λ l s. rw (z.1, rw (z.0) at a.is); ends = tt }
 
 pub rising_start : {lo n : ℕ} {t : List ℕ} {to m : ℕ} {ok : Bool} (e : ℕ) {r : Maybe (ℕ × ℕ)} → ItemAt lo n t 0 r → r ≡ Some (m, to) → n ≤ 32 → ok ≡ true && not (eqb m 0)
     → Rising lo n e t 0 to m ok
@@ -178,8 +179,8 @@ module _ {lo n e : ℕ} {t : List ℕ} {from to m : ℕ} {ok : Bool} (g : Rising
     here : more t to ≡ split (drop (to + 1) t)
     here = rw (lt-ltb to (length t) h, add-one to)
 
-    pub rising_bad : r ≡ None → SetJudged false lo n (each numeral (split t)) e (Err Misspelt)
-    rising_bad q = record { same = λ l s. rw (here, rw q at a.is) at (g.rest l s); ends = tt }
+    pub rising_bad : {f : Fault} → Err f ≡ ok_or r Misspelt → SetJudged false lo n (each numeral (split t)) e (Err f)
+    rising_bad q = let z = err_none r Misspelt q in record { same = λ l s. rw (z.1) (rw (here, rw (z.0) at a.is) at (g.rest l s)); ends = tt }
 
     module _ {end b : ℕ} (q : r ≡ Some (b, end)) {z : Bool} (k : z ≡ ltb (value (part t from to)) (value (part t (to + 1) end))) where
       following : each numeral (more t to) ≡ followed (some (value (part t (to + 1) end))) (each numeral (more t end))

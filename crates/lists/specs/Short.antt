@@ -2,15 +2,13 @@
 use Rattle.std.specs.Prelude.{ℕ, zero, suc, ◌+◌, List, leb, eqb, length, get_or, Option, Some, None}
 use Rattle.table.specs.Mask.{pick}
 use Rattle.text.specs.Line.{stops}
-use Rattle.numbers.specs.declared.Short.{Short}
-use Rattle.numbers.specs.declared.Short.TheVariants.{Is as IsShort, Not as NotShort}
 use Rattle.numbers.specs.Numerals.{short_of}
 use Rattle.lists.specs.Items.{bit_of}
 
 -- an item that is short goes on as said; any other is read another way
-abbrev pub on_short : Short → (ℕ → ℕ → Option (ℕ × ℕ)) → Option (ℕ × ℕ)
-on_short (IsShort v to) f = f v to
-on_short NotShort f = None
+abbrev pub on_short : Option (ℕ × ℕ) → (ℕ → ℕ → Option (ℕ × ℕ)) → Option (ℕ × ℕ)
+on_short (Some (v, to)) f = f v to
+on_short None f = None
 
 -- behind the items up to a place, of the set m: the list ends before the byte c, or goes on behind a comma
 abbrev pub ended_by : ℕ → ℕ → ℕ → Option (ℕ × ℕ) → Option (ℕ × ℕ)

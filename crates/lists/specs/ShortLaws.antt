@@ -12,18 +12,17 @@ use Rattle.table.specs.Cases.{cases}
 use Rattle.table.specs.Mask.{pick}
 use Rattle.text.specs.Number.{bytes, value, all_digits}
 use Rattle.text.proofs.NumberLaws.{by_order, and_right, all_head, all_tail, spelt_all}
-use Rattle.text.specs.Value.{same}
+use Rattle.text.specs.Value.{ascending, same}
+use Rattle.text.specs.Format.{set_of}
 use Rattle.text.specs.Line.{run, stops}
 use Rattle.scan.specs.PlaceLaws.{count_more, count_none, Running, running_start, running_digits, run_turn, value_ends}
-use Rattle.numbers.specs.declared.Short.{Short}
-use Rattle.numbers.specs.declared.Short.TheVariants.{Is as IsShort, Not as NotShort}
 use Rattle.numbers.specs.Numerals.{short_of}
 use Rattle.numbers.specs.NumeralLaws.{Spelt, short_few, short_is, short_numeral}
 use Rattle.lists.specs.Items.{up_to, CommaAt, inside, bit_of, part}
 use Rattle.lists.specs.ItemLaws.{comma_split, ItemAt}
 use Rattle.lists.specs.Sets.{Answer, SetSaid, single_of, SetIn}
 use Rattle.lists.specs.SetLaws.{Rising, rising_start, rising_end, rising_turn}
-use Rattle.lists.specs.ListLaws.{one_value, list_rising, set_step}
+use Rattle.lists.specs.ListLaws.{one_value, list_rising, value_judged}
 use Rattle.lists.specs.Short.{on_short, ended_by, quick_from, quick_of}
 
 -- ---- digits are no commas
@@ -91,11 +90,11 @@ module _ {u : List ℕ} {from to v : ℕ} (g : Running u 0 from) (p : Spelt u fr
         }
 
 -- ---- one short number
-pub single_at : (s : List ℕ) (at lo n : ℕ) {a : Short} {v to : ℕ} {z : Bool} {r : Answer ℕ} → a ≡ short_of s at → a ≡ IsShort v to → at ≤ length s → n ≤ 32
+pub single_at : (s : List ℕ) (at lo n : ℕ) {v to : ℕ} {z : Bool} {r : Answer ℕ} → Some (v, to) ≡ short_of s at → at ≤ length s → n ≤ 32
     → z ≡ stops (get_or s to 0) → z ≡ true → r ≡ single_of lo n v to → SetIn true lo n s at r
-single_at s at lo n {a} {v} {to} i j h u q k d =
-    let m = short_numeral s at i j h (sym q ∙ k) in
-    set_step (value_ends m.run m.inside) refl (one_value lo n (part s at to) v to m.same u d)
+single_at s at lo n {v} {to} i h u q k d =
+    let m = short_numeral s at i h (sym q ∙ k) in
+    value_judged (ascending true lo n) set_of (value_ends m.run m.inside) (one_value lo n (part s at to) v to m.same u d)
 
 -- ---- the value at a text's start ends at e, and says the set m
 pub record Listed (lo n : ℕ) (u : List ℕ) (m e : ℕ) : Type 0 where
@@ -179,13 +178,13 @@ module _ {lo n : ℕ} {u : List ℕ} {from m : ℕ} (s : Listing lo n u from m) 
       record {
         ends = r;
         within = p.within;
-        said = λ e. rw (← w) (list_rising refl refl (no_none s p) (rising_end (rise s p q h k c e) l refl));
+        said = λ e. rw (← w) (list_rising (whole u) refl refl (no_none s p) (rising_end (rise s p q h k c e) l refl));
       }
 
   list_turn : get_or u to 0 ≡ 44 → Listing lo n u (to + 1) (m + b)
   unfolding up_to
   list_turn e =
-      let f : Running u 0 (to + 1) = run_turn g p.within (λ z. omega arith) (λ z. omega arith) in
+      let f : Running u 0 (to + 1) = run_turn g p.within (rw e) in
       let r : to < run u = omega (arith, f.same) in
       let l : to < length (whole u) = rw (whole_length u) r in
       let d : get_or (whole u) to 0 ≡ 44 = get_or-take (run u) u to 0 r ∙ e in
@@ -204,31 +203,31 @@ pub left_start : (lo n : ℕ) (u : List ℕ) → Left lo n u 0 0
 unfolding quick_of
 left_start lo n u = record { bound = length u; enough = omega arith; same = refl }
 
-module _ {lo n : ℕ} {u : List ℕ} {from m : ℕ} (s : Left lo n u from m) {a : Short} (i : a ≡ short_of u from) where
+module _ {lo n : ℕ} {u : List ℕ} {from m : ℕ} (s : Left lo n u from m) where
   left_no : ((k : ℕ) → None ≡ quick_from k lo n u from m) → None ≡ quick_of lo n u
   left_no f = f s.bound ∙ s.same
 
-  pub left_none : a ≡ NotShort → None ≡ quick_of lo n u
+  pub left_none : None ≡ short_of u from → None ≡ quick_of lo n u
   unfolding quick_from
   left_none j = left_no go
     where
       go : (k : ℕ) → None ≡ quick_from k lo n u from m
       go zero = refl
-      go (suc k) = rw (← i, j)
+      go (suc k) = rw (← j)
 
-  module _ {v to : ℕ} (j : a ≡ IsShort v to) {b : ℕ} (q : b ≡ bit_of lo n v) where
+  module _ {v to : ℕ} (j : Some (v, to) ≡ short_of u from) {b : ℕ} (q : b ≡ bit_of lo n v) where
     pub left_low : b ≤ m → None ≡ quick_of lo n u
     unfolding quick_from
     left_low h = left_no go
       where
         go : (k : ℕ) → None ≡ quick_from k lo n u from m
         go zero = refl
-        go (suc k) = rw (← i, j, ← q, le-leb b m h)
+        go (suc k) = rw (← j, ← q, le-leb b m h)
 
     module _ (h : m < b) {z : Bool} (e : z ≡ stops (get_or u to 0)) where
       more : (k : ℕ) → quick_from (suc k) lo n u from m ≡ ended_by (get_or u to 0) (m + b) to (quick_from k lo n u (to + 1) (m + b))
       unfolding quick_from
-      more k = rw (← i, j, ← q, lt-leb b m h)
+      more k = rw (← j, ← q, lt-leb b m h)
 
       pub left_end : from < length u → z ≡ true → Some (m + b, to) ≡ quick_of lo n u
       left_end l x = go s.bound s.enough s.same
@@ -249,10 +248,10 @@ module _ {lo n : ℕ} {u : List ℕ} {from m : ℕ} (s : Left lo n u from m) {a 
         where
           go : (k : ℕ) → length u ≤ from + k → quick_from k lo n u from m ≡ quick_of lo n u → Left lo n u (to + 1) (m + b)
           go zero d f = absurd (omega arith)
-          go (suc k) d f = record { bound = k; enough = omega (arith, (short_is u from i j).from); same = rw (← e, x, eq-eqb (get_or u to 0) 44 y) at (sym (more k) ∙ f) }
+          go (suc k) d f = record { bound = k; enough = omega (arith, (short_is u from j).from); same = rw (← e, x, eq-eqb (get_or u to 0) 44 y) at (sym (more k) ∙ f) }
 
 pub left_over : {lo n : ℕ} {u : List ℕ} {from m : ℕ} → Left lo n u from m → length u ≤ from → None ≡ quick_of lo n u
-left_over {lo} {n} {u} {from} s h = left_none s (short_few u from (omega arith)) refl
+left_over {lo} {n} {u} {from} s h = left_none s (short_few u from (omega arith))
 
 -- ---- what is read
 no_list : {P : Type 0} {m e : ℕ} → ◌≡◌ {A = Option (ℕ × ℕ)} None (Some (m, e)) → P
@@ -260,13 +259,13 @@ no_list e = cc
 
 module _ (lo n : ℕ) (u : List ℕ) (h : n ≤ 32) (x e : ℕ) where
   listed_item : (k : ℕ) {from m : ℕ} → Listing lo n u from m → ((f w : ℕ) → Listing lo n u f w → quick_from k lo n u f w ≡ Some (x, e) → Listed lo n u x e)
-      → (o : Short) → o ≡ short_of u from
+      → (o : Option (ℕ × ℕ)) → o ≡ short_of u from
       → on_short o (λ v to. pick (leb (bit_of lo n v) m) None (ended_by (get_or u to 0) (m + bit_of lo n v) to (quick_from k lo n u (to + 1) (m + bit_of lo n v)))) ≡ Some (x, e)
       → Listed lo n u x e
-  listed_item k s f NotShort i q = no_list q
-  listed_item k {from} {m} s f (IsShort v to) i q =
+  listed_item k s f None i q = no_list q
+  listed_item k {from} {m} s f (Some (v, to)) i q =
       let b = bit_of lo n v in
-      let p : Spelt u from to v = short_is u from i refl in
+      let p : Spelt u from to v = short_is u from i in
       cases (leb b m)
       (λ z. no_list (rw z at q))
       (λ z.
@@ -304,6 +303,6 @@ module _ (lo n : ℕ) (s : List ℕ) (at : ℕ) {r : Option (ℕ × ℕ)} (i : r
   many_is h =
       let d = listed in
       record {
-        same = λ l. (d.said (at + k)).judged.same l s ∙ rw (d.ends, lt-ltb k (length (drop at s)) d.within, drop-drop k at s);
+        same = λ l. (d.said (at + k)).same l s ∙ rw (d.ends, lt-ltb k (length (drop at s)) d.within, drop-drop k at s);
         within = many_within h;
       }

@@ -47,9 +47,7 @@ fn item_at(t: &[u8], from: usize, lo: u64, below: u64) -> Option<(u32, usize)>
     ensures { result ≡ item_of lo below t.now from }
 {
     let to = comma(t, from);
-    let digits::Num::Good(v) = digits::number(&t[from..to]) else {
-        return None;
-    };
+    let v = digits::number(&t[from..to])?;
     Some((bit(v, lo, below), to))
 }
 
@@ -61,18 +59,14 @@ fn rising(t: &[u8], e: usize, lo: u64, below: u64) -> Result<(u32, usize), Fault
     requires { below ≤ 32 }
     ensures { SetJudged false lo below (each numeral (split t.now)) e result }
 {
-    let Some((b, end)) = item_at(t, 0, lo, below) else {
-        return Err(Fault::Misspelt);
-    };
+    let (b, end) = item_at(t, 0, lo, below).ok_or(Fault::Misspelt)?;
     let mut from = 0;
     let mut to = end;
     let mut mask = b;
     let mut within = b != 0;
     while to < t.len() {
         let next = to + 1;
-        let Some((b, end)) = item_at(t, next, lo, below) else {
-            return Err(Fault::Misspelt);
-        };
+        let (b, end) = item_at(t, next, lo, below).ok_or(Fault::Misspelt)?;
         if !digits::less(&t[from..to], &t[next..end]) {
             return Err(Fault::Misspelt); // out of order
         }
@@ -106,9 +100,7 @@ fn single(t: &[u8], e: usize, lo: u64, below: u64) -> Result<(u32, usize), Fault
     requires { below ≤ 32 }
     ensures { SetSaid true lo below t.now e result }
 {
-    let digits::Num::Good(v) = digits::number(t) else {
-        return Err(Fault::Misspelt);
-    };
+    let v = digits::number(t).ok_or(Fault::Misspelt)?;
     one_of(v, e, lo, below)
 }
 
@@ -142,10 +134,7 @@ fn short_list(u: &[u8], lo: u64, below: u64) -> Option<(u32, usize)>
     let mut from = 0;
     let mut mask = 0u32;
     while from < u.len() {
-        let item = numbers::short_number(u, from);
-        let numbers::Short::Is(v, to) = item else {
-            return None;
-        };
+        let (v, to) = numbers::short_number(u, from)?;
         let b = bit(v, lo, below);
         if b <= mask {
             return None;
@@ -170,10 +159,7 @@ fn any_list(s: &[u8], at: usize, one: bool, lo: u64, below: u64) -> Result<(u32,
     requires { (at ≤ length s.now) × (below ≤ 32) }
     ensures { SetIn one lo below s.now at result }
 {
-    let found = scan::value_at(s, at);
-    let scan::Token::At(b, e) = found else {
-        return Err(scan::refusal(found));
-    };
+    let (b, e) = scan::value_at(s, at)?;
     ascending_value(&s[b..e], e, one, lo, below)
 }
 
@@ -192,7 +178,7 @@ fn single_at(s: &[u8], at: usize, lo: u64, below: u64) -> Result<(u32, usize), F
     ensures { SetIn true lo below s.now at result }
 {
     match numbers::short_number(s, at) {
-        numbers::Short::Is(v, to) if scan::stops(s[to]) => one_of(v, to, lo, below),
+        Some((v, to)) if scan::stops(s[to]) => one_of(v, to, lo, below),
         _ => any_list(s, at, true, lo, below),
     }
 }
@@ -220,11 +206,8 @@ pub fn ascending_field(
     requires { (at ≤ length s.now) × (below ≤ 32) }
     ensures { SetAt one lo below key.now s.now at result }
 {
-    match scan::after(s, at, key) {
-        scan::Found::At(b) => ascending_at(s, b, one, lo, below),
-        scan::Found::Differs => Err(Fault::Form),
-        scan::Found::Broken => Err(Fault::Ended),
-    }
+    let b = scan::after(s, at, key)?;
+    ascending_at(s, b, one, lo, below)
 }
 
 // As `ascending_field`, behind a key of four bytes and the rest.
@@ -243,11 +226,8 @@ pub fn ascending_word(
     requires { (at ≤ length s.now) × (below ≤ 32) }
     ensures { SetAt one lo below (a ∷ b ∷ c ∷ d ∷ rest.now) s.now at result }
 {
-    match scan::after_word(s, at, a, b, c, d, rest) {
-        scan::Found::At(e) => ascending_at(s, e, one, lo, below),
-        scan::Found::Differs => Err(Fault::Form),
-        scan::Found::Broken => Err(Fault::Ended),
-    }
+    let from = scan::after_word(s, at, a, b, c, d, rest)?;
+    ascending_at(s, from, one, lo, below)
 }
 
 // ---- a call's variables
@@ -258,14 +238,13 @@ fn argument_value(w: &[u8], closed: bool, vars: u64) -> Option<Option<u8>>
     ensures { result ≡ argument_of closed vars w.now }
 {
     if scan::is_word(w, b"-") {
-        if closed {
-            return Some(Some(table::REMOVED));
-        }
-        return None;
+        return if closed {
+            Some(Some(table::REMOVED))
+        } else {
+            None
+        };
     }
-    let digits::Num::Good(v) = digits::number(w) else {
-        return None;
-    };
+    let v = digits::number(w)?;
     if v < vars {
         Some(Some(v as u8))
     } else {
@@ -328,15 +307,11 @@ fn passing(t: &[u8], e: usize, closed: bool, vars: u64) -> Result<(Args, usize),
     let mut args = Some(no_args());
     let mut from = 0;
     loop {
-        let Some((v, to)) = argument_at(t, from, closed, vars) else {
-            return Err(Fault::Misspelt);
-        };
+        let (v, to) = argument_at(t, from, closed, vars).ok_or(Fault::Misspelt)?;
         args = with(args, v);
         if t.len() <= to {
-            return match args {
-                Some(a) => Ok((a, e)),
-                None => Err(Fault::Reference),
-            };
+            let a = args.ok_or(Fault::Reference)?;
+            return Ok((a, e));
         }
         from = to + 1;
     }
@@ -358,9 +333,6 @@ pub fn arguments_field(s: &[u8], at: usize, closed: bool, vars: u64) -> Result<(
     requires { (at ≤ length s.now) × (vars ≤ 256) }
     ensures { PassedAt closed vars s.now at result }
 {
-    let found = scan::token_at(s, at, b" args=");
-    let scan::Token::At(b, e) = found else {
-        return Err(scan::refusal(found));
-    };
+    let (b, e) = scan::token_at(s, at, b" args=")?;
     arguments_value(&s[b..e], e, closed, vars)
 }

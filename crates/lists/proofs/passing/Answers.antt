@@ -5,17 +5,17 @@ use Rattle.lists.proofs.passing.Goals as goal
 pub loop-v-init : goal.loop-v-init
 loop-v-init c = search (rules, going_start)
 
-pub returns-in_default : goal.returns-in_default
-returns-in_default c = search (rules, going_stops)
+pub returns-in_err-v : goal.returns-in_err-v
+returns-in_err-v c = search (rules, going_stops c.loop-v.invariant c.argument_at.ensures c.in_err-v.ensures.value)
 
-pub returns-in-Some-args : goal.returns-in-Some-args
-returns-in-Some-args c = search (rules, going_end)
+pub returns-in_err-a : goal.returns-in_err-a
+returns-in_err-a c = search (rules, going_outside c.loop-v.invariant c.argument_at.ensures c.in_ok-v.ensures.value c.with-args.ensures c.if-t-to.true c.in_err-a.ensures.value)
 
-pub returns-in-None : goal.returns-in-None
-returns-in-None c = search (rules, going_outside)
+pub returns-then-t-to : goal.returns-then-t-to
+returns-then-t-to c = going_end c.loop-v.invariant c.argument_at.ensures c.in_ok-v.ensures.value c.with-args.ensures c.if-t-to.true c.in_ok-a.ensures.value
 
 pub loop-v-smaller : goal.loop-v-smaller
-loop-v-smaller c = search (rules, going_less)
+loop-v-smaller c = going_less c.loop-v.invariant c.argument_at.ensures c.in_ok-v.ensures.value c.with-args.ensures c.if-t-to.false
 
 pub loop-v-preserved : goal.loop-v-preserved
-loop-v-preserved c = search (rules, going_turn)
+loop-v-preserved c = going_turn c.loop-v.invariant c.argument_at.ensures c.in_ok-v.ensures.value c.with-args.ensures c.if-t-to.false
