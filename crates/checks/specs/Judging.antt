@@ -5,7 +5,7 @@ use Rattle.std.proofs.lemmas.Result.{err_from_is_err_and}
 use Rattle.std.proofs.Math.Option.{Option, none, some}
 use Rattle.text.specs.declared.Fault.{Fault}
 use Rattle.text.specs.Value.{or_else}
-use Rattle.targets.specs.Judged.{judged}
+pub use Rattle.targets.specs.Judged.{judged}
 
 -- what the exit of a `?` answers for the fault f
 abbrev pub Fails : Result (Unit {0}) Fault → Fault → Type 0
