@@ -11,7 +11,7 @@ pub fn minus(m: u32, n: usize) -> u32
     requires { n < 32 }
     ensures { result ≡ without m n }
 {
-    m ^ (m & (1 << (n as u32)))
+    m & !(1 << n)
 }
 
 // m, with n added if yes.
@@ -19,5 +19,5 @@ pub fn with(m: u32, n: usize, yes: bool) -> u32
     requires { n < 32 }
     ensures { result ≡ pick yes (bit_or m (1 * 2 ^ n)) m }
 {
-    if yes { m | (1 << (n as u32)) } else { m }
+    if yes { m | 1 << n } else { m }
 }
