@@ -1,11 +1,13 @@
 -- Masks that are made procedure by procedure, up to the table's counts: in each the nodes that pass a test. None passes where there is no node.
-use Rattle.std.specs.Prelude.{ℕ, ◌+◌, ◌<◌, ◌≤◌, ◌≡◌, Bool, false, List, length, set, replicate}
-use Rattle.std.proofs.Common.{arith, lt_of_lt_of_le, sym, ◌∙◌, inl, inr, length-set, get_or-set_other, pow_pos, pow_mono}
+use Rattle.std.specs.Prelude.{ℕ, ◌+◌, ◌<◌, ◌≤◌, ◌≡◌, Bool, false, List, length, get_or, take, set, replicate}
+use Rattle.std.proofs.Common.{arith, lt_of_lt_of_le, sym, ◌∙◌, ap, length-take, get_or-take, inl, inr, length-set, get_or-set_other, pow_pos, pow_mono}
 use Rattle.std.proofs.lemmas.List.{length-replicate}
 use Rattle.table.specs.Mask.{bit, mask_of}
 use Rattle.table.specs.MaskLaws.{mask_of_lt, bit_mask_of, bit_mask_of_above}
-use Rattle.table.specs.Table.{proc_at, node_at}
+use Rattle.table.specs.Table.{proc_at, node_at, node_in}
 use Rattle.table.specs.declared.Node.TheVariants.{Absent}
+use Rattle.table.specs.declared.Proc.{Proc}
+use Rattle.table.specs.declared.Slot.{Slot}
 use Rattle.table.specs.declared.Table.{Table}
 use Rattle.text.proofs.NumberLaws.{by_order}
 use Rattle.masks.specs.Bits.{bit_zero}
@@ -40,3 +42,7 @@ module _ {t : Table} {f : ℕ → ℕ → Bool} {p : ℕ} {r : List ℕ} (o : Re
   marked_right h none a n = by_order a p
       (λ l. rw (g.made a l) (by_order n (proc_at t a).nodes (bit_mask_of (proc_at t a).nodes n (f a)) (λ k. bit_mask_of_above (proc_at t a).nodes n (f a) k ∙ sym (none a n (o.beyond a n (inr k))))))
       (λ l. rw (g.rest a l) (bit_zero n ∙ sym (none a n (o.beyond a n (inl (omega arith))))))
+
+-- the nodes of a procedure, up to its count
+pub front_node : (q : Proc) (n : ℕ) → n < length (take q.nodes q.slots) → (get_or (take q.nodes q.slots) n (record { node = Absent })).node ≡ node_in q n
+front_node q n h = let z : n < q.nodes = omega (arith, length-take q.nodes q.slots) in ap (λ (s : Slot). s.node) (get_or-take q.nodes q.slots n _ z)

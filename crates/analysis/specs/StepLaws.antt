@@ -1,6 +1,6 @@
 -- A step from the lists that the code makes on the way.
 use Rattle.std.specs.Prelude.{ℕ, ◌+◌, ◌-◌, ◌*◌, ◌^◌, ◌<◌, ◌≡◌, List}
-use Rattle.std.proofs.Common.{sym, ◌∙◌, ap, subst, lt-ltb}
+use Rattle.std.proofs.Common.{sym, ◌∙◌, ap, subst}
 use Rattle.table.specs.Table.{proc_at, task_at}
 use Rattle.table.specs.declared.Node.{Node}
 use Rattle.table.specs.declared.Table.{Table}
@@ -26,18 +26,6 @@ once s i p l = grown_none _ 264 ∙ grown_twice l (p * 32 + s.to) (after_pass s 
 -- the step of a node with one target
 pub pass_is : {s : Pass} {l1 : List ℕ} (l : List ℕ) (x : Node) (p n i b : ℕ) → s ≡ pass_of x n → s.to < 32 → l1 ≡ grown l (p * 32 + s.to) (after_pass s i) → l1 ≡ step_with (flow_of x n i b) p l
 pass_is {s} l x p n i b e h f = f ∙ sym (once s i p l) ∙ ap (λ (y : Flow). step_with y p l) (ap (λ (y : Pass). pass_flow y i) e ∙ sym (pass_flow_lem x n i b (subst (λ (y : Pass). y.to < 32) e h)))
-
-pub entered_is : {l2 : List ℕ} (l l1 : List ℕ) (k m : ℕ) → l1 ≡ grown l (k * 32 + 0) m → l2 ≡ grown l1 (256 + k) m → l2 ≡ entered l k m
-unfolding entered
-entered_is l l1 k m e f = rw (← e) f
-
-pub passed_drop : {l1 : List ℕ} (l : List ℕ) (a m : ℕ) → a < 264 → l1 ≡ entered l (a - 256) m → l1 ≡ passed_on l a m
-unfolding passed_on
-passed_drop l a m h e = rw (lt-ltb a 264 h) e
-
-pub passed_blank : {l1 : List ℕ} (l : List ℕ) (a m : ℕ) → a ≡ 264 → l1 ≡ grown l 264 m → l1 ≡ passed_on l a m
-unfolding passed_on
-passed_blank l a m h e = rw h e
 
 pub top_is : {l1 : List ℕ} (t : Table) (l : List ℕ) (k m : ℕ) → m ≡ 2 ^ (proc_at t (task_at t k).top).params - 1 → l1 ≡ entered l (task_at t k).top m → l1 ≡ top_step t l k
 unfolding top_step

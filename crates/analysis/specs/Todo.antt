@@ -1,5 +1,6 @@
 -- Masks of what is still to be done: a step takes one number out of a mask, and adds again what has to be seen once more.
-use Rattle.std.specs.Prelude.{ℕ, ◌^◌, ◌<◌, ◌≡◌, refl, Bool, true, false, ◌⊎◌, ◌≢◌, List, length, set, eqb}
+use Rattle.std.specs.Prelude.{ℕ, ◌^◌, ◌<◌, ◌≡◌, refl, Bool, true, false, ◌⊎◌, ◌≢◌, Option, Some, None, MatchOption, List, length, set, eqb}
+use Rattle.std.specs.Bool.{then_some}
 use Rattle.std.proofs.Common.{arith, ◌∙◌, inl, inr, length-set, get_or-set_same, get_or-set_other, eqb-true}
 use Rattle.std.proofs.lemmas.Bool.{eqb-false}
 use Rattle.table.specs.Mask.{bit}
@@ -18,8 +19,20 @@ pub record Leads (p n : ℕ) (on : Bool) (w : List ℕ) : Type 0 where
 pub leads_low : {n : ℕ} {on : Bool} (p : ℕ) (w : List ℕ) → Masks 8 32 w → cell w p ≢ 0 → n ≡ low (cell w p) → Leads p n on w
 leads_low {n} p w g z e = record { low = omega arith; marked = λ y. rw e (low_bit (cell w p) (g.below p) z) }
 
-pub leads_yes : {p n : ℕ} {on : Bool} {w : List ℕ} → on ≡ true → Leads p n on w → Leads p n true w
-leads_yes e d = record { low = d.low; marked = λ y. d.marked e }
+-- the next node is to be seen, if there is one
+abbrev pub LeadsTo : ℕ → Option ℕ → List ℕ → Type 0
+LeadsTo p next w = (n : ℕ) → next ≡ Some n → Leads p n true w
+
+pub leads_to : {p n : ℕ} {w : List ℕ} (on : Bool) → Leads p n on w → LeadsTo p (then_some on n) w
+leads_to {p} {n} {w} true d k e = let z : n ≡ k = cc in rw (← z) d
+leads_to false d k e = cc
+
+pub leads_below : {p : ℕ} {next : Option ℕ} {w : List ℕ} → LeadsTo p next w → MatchOption next (Unit {0}) (λ n. n < 32)
+leads_below {p} {next} {w} d = go next d
+  where
+    go : (o : Option ℕ) → LeadsTo p o w → MatchOption o (Unit {0}) (λ n. n < 32)
+    go (Some n) d = (d n refl).low
+    go None d = tt
 
 -- w1 is w, with n taken out of its mask p
 pub record Took (w : List ℕ) (p n : ℕ) (w1 : List ℕ) : Type 0 where

@@ -1,7 +1,7 @@
 -- The worklist: a node that is not to be seen adds nothing to the cells. Once none is to be seen, the cells say what is dirty.
 use Prim.Native.Nat.{ℕ, ◌+◌, ◌*◌, ◌-◌, ◌^◌, ◌<◌, ◌≤◌}
 use Rattle.std.proofs.Common.{arith, lt_trans, add-one, sym, ◌∙◌, ap, subst, true≢false, inl, inr, get_or-set_other}
-use Rattle.std.specs.Prelude.{◌≡◌, refl, Bool, ◌⊎◌, ◌≢◌, length, replicate, ltb}
+use Rattle.std.specs.Prelude.{◌≡◌, refl, Bool, ◌⊎◌, ◌≢◌, Option, Some, None, length, replicate, ltb}
 use Rattle.std.proofs.Math.Bool.{true, false}
 use mathlib.Core.List.{List}
 use Rattle.std.specs.Int.Bits.{bit_or}
@@ -23,7 +23,7 @@ use Rattle.analysis.specs.Decides.{Decides}
 use Rattle.analysis.specs.Steps.{entered, passed_on, step_with, Held, Rests, top_step}
 use Rattle.analysis.specs.NodeLaws.{Places, flow_places, flow_small}
 use Rattle.analysis.specs.Decide.{Upto, begun, top_begun, step_good, decided}
-use Rattle.analysis.specs.Todo.{Leads, Took}
+use Rattle.analysis.specs.Todo.{Leads, LeadsTo, leads_to, Took}
 use Rattle.analysis.specs.Sources.{Reads, Receivers, flow_blank, flow_nothing}
 
 -- 265 cells, and 8 masks of nodes
@@ -115,9 +115,6 @@ blank_moves {r} {l} {l'} {w} {w'} m g s e f y i z = record {
   keeps = λ a b ha hb h. let k : bit b (bit_or (cell w a) (cell r a)) ≡ false = rw (z a ha) at h in
       (cases (bit b (cell w a)) (λ q. absurd (true≢false (sym (bit_or_l b (cell w a) (cell r a) q) ∙ k))) (λ q. q), rw e (grown_other l 264 m (a * 32 + b) (λ q. omega arith)), λ q. absurd (true≢false (sym (bit_or_r b (cell w a) (cell r a) q) ∙ k)));
 }
-
-pub same_moves : {r l l' w : List ℕ} {yes' : Bool} → Flag l l' yes' → yes' ≡ false → Moves r l w l' w
-same_moves {r} {l} {l'} {w} f y = rw (f.same y) (moves_refl r l w)
 
 -- ---- one node's step
 
@@ -275,20 +272,20 @@ module _ {q : Proc} {p : ℕ} {r l₀ w₀ l w w1 l' w' : List ℕ} (n : ℕ) (h
     less = inl fallen_next;
   }
 
--- along a chain from l₀ and w₀: the next node is n, if the chain goes on
-pub record Along (r : List ℕ) (q : Proc) (p : ℕ) (l₀ w₀ l w : List ℕ) (n : ℕ) (on : Bool) : Type 0 where
+-- along a chain from l₀ and w₀: the next node, if the chain goes on
+pub record Along (r : List ℕ) (q : Proc) (p : ℕ) (l₀ w₀ l w : List ℕ) (next : Option ℕ) : Type 0 where
   pub going : Going r q p l₀ w₀ l w
-  pub leads : Leads p n on w
-  pub fallen : on ≡ false → left_of l w < left_of l₀ w₀
+  pub leads : LeadsTo p next w
+  pub fallen : next ≡ None → left_of l w < left_of l₀ w₀
 
-pub along_start : (r : List ℕ) (q : Proc) {p n : ℕ} {l w : List ℕ} → Masks 265 32 l → Masks 8 32 w → Leads p n true w → Along r q p l w l w n true
-along_start r q {p} {n} {l} {w} g h d = record { going = going_start r q p l w g h; leads = d; fallen = λ e. absurd (true≢false e) }
+pub along_start : (r : List ℕ) (q : Proc) {p n : ℕ} {l w : List ℕ} → Masks 265 32 l → Masks 8 32 w → Leads p n true w → Along r q p l w l w (Some n)
+along_start r q {p} {n} {l} {w} g h d = record { going = going_start r q p l w g h; leads = leads_to true d; fallen = λ e. cc }
 
-pub along_next : {q : Proc} {p n' : ℕ} {on on' : Bool} {r l₀ w₀ l w w1 l' w' : List ℕ} (n : ℕ) → p < 8 → Along r q p l₀ w₀ l w n on → Took w p n w1 → l' ≡ stepped (node_in q n) p n l → Moves r l w1 l' w' → Leads p n' on' w' → Along r q p l₀ w₀ l' w' n' on'
+pub along_next : {q : Proc} {p : ℕ} {next next' : Option ℕ} {r l₀ w₀ l w w1 l' w' : List ℕ} (n : ℕ) → p < 8 → Along r q p l₀ w₀ l w next → Took w p n w1 → l' ≡ stepped (node_in q n) p n l → Moves r l w1 l' w' → LeadsTo p next' w' → Along r q p l₀ w₀ l' w' next'
 along_next n hp g c e m d = record { going = going_next n hp g.going c e m; leads = d; fallen = λ z. fallen_next n hp g.going c e m }
 
-pub along_end : {q : Proc} {p n : ℕ} {on : Bool} {r l₀ w₀ l w l' w' : List ℕ} → Going r q p l₀ w₀ l w → Along r q p l w l' w' n on → on ≡ false → Going r q p l₀ w₀ l' w'
-along_end {q} {p} {n} {on} {r} {l₀} {w₀} {l} {w} {l'} {w'} f g e = record { masks = g.going.masks; todo = g.going.todo; keeps = λ t o z rc k. g.going.keeps t o z rc (f.keeps t o z rc k); less = inl (go f.less) }
+pub along_end : {q : Proc} {p : ℕ} {next : Option ℕ} {r l₀ w₀ l w l' w' : List ℕ} → Going r q p l₀ w₀ l w → Along r q p l w l' w' next → next ≡ None → Going r q p l₀ w₀ l' w'
+along_end {q} {p} {next} {r} {l₀} {w₀} {l} {w} {l'} {w'} f g e = record { masks = g.going.masks; todo = g.going.todo; keeps = λ t o z rc k. g.going.keeps t o z rc (f.keeps t o z rc k); less = inl (go f.less) }
   where
     go : (left_of l w < left_of l₀ w₀) ⊎ ((l ≡ l₀) × (w ≡ w₀)) → left_of l' w' < left_of l₀ w₀
     go (inl x) = lt_trans (g.fallen e) x
@@ -305,8 +302,3 @@ going_end {q} {p} {r} {l} {w} {l'} {w'} g z = record { keeps = g.keeps; less = �
     go : cell w p ≢ 0 → (left_of l' w' < left_of l w) ⊎ ((l' ≡ l) × (w' ≡ w)) → left_of l' w' < left_of l w
     go f (inl x) = x
     go f (inr x) = absurd (f (ap (λ (y : List ℕ). cell y p) (sym x.1) ∙ z))
-
--- a procedure with a node that is to be seen, or none
-pub record Pending (w : List ℕ) (p : ℕ) : Type 0 where
-  pub some' : p < 8 → cell w p ≢ 0
-  pub none' : 8 ≤ p → (a : ℕ) → a < 8 → cell w a ≡ 0

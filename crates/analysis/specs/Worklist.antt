@@ -1,19 +1,15 @@
 -- Which nodes are to be seen after each step of the code: 8 masks of nodes, w; the cells are l before the step, and r are the receives.
-use Rattle.std.specs.Prelude.{ℕ, zero, suc, ◌+◌, ◌-◌, ◌*◌, ◌^◌, ◌≡◌, Bool, true, false, not, ◌≢◌, List, [], ◌∷◌, set, eqb, ltb}
+use Rattle.std.specs.Prelude.{ℕ, ◌+◌, ◌-◌, ◌*◌, ◌^◌, ◌≡◌, Bool, not, ◌≢◌, Option, Some, None, List, [], ◌∷◌, set, eqb, ltb, position}
+use Rattle.std.specs.Bool.{then_some}
 use Rattle.std.specs.Int.Bits.{bit_or}
 use Rattle.table.specs.Mask.{pick}
 use Rattle.table.specs.Table.{node_in}
 use Rattle.table.specs.declared.Proc.{Proc}
 use Rattle.masks.specs.Bits.{without}
-use Rattle.masks.specs.Cells.{cell, grown}
+use Rattle.masks.specs.Cells.{cell, grown, is_new}
 use Rattle.flow.specs.declared.Flow.{Flow}
 use Rattle.flow.specs.Flow.{low, flow_of}
-use Rattle.analysis.specs.declared.Next.{Next}
 use Rattle.analysis.specs.Steps.{step_with}
-
--- the mask m has something that is new in the cell a
-abbrev pub is_new : List ℕ → ℕ → ℕ → Bool
-is_new l a m = not (eqb (bit_or (cell l a) m) (cell l a))
 
 -- the mask m has come to node n of procedure p
 unfoldable pub todo_reached : List ℕ → List ℕ → ℕ → ℕ → ℕ → List ℕ
@@ -40,9 +36,9 @@ todo_stepped r f p l w =
     let l2 = grown l1 (p * 32 + f.second) f.out in
     todo_passed r l2 (todo_reached l1 (todo_reached l w p f.first f.out) p f.second f.out) f.extra f.add
 
--- its first target, which is to be seen if something is new there
-abbrev pub next_to : List ℕ → ℕ → ℕ → ℕ → Next
-next_to l p to m = record { on = is_new l (p * 32 + to) m; to = to }
+-- its first target, if it is to be seen: if something is new there
+abbrev pub next_to : List ℕ → ℕ → ℕ → ℕ → Option ℕ
+next_to l p to m = then_some (is_new l (p * 32 + to) m) to
 
 -- node n of procedure p is taken out
 abbrev pub todo_taken : List ℕ → ℕ → ℕ → List ℕ
@@ -54,23 +50,21 @@ todo_taken w p n = set w p (without (cell w p) n)
 abbrev pub flow_at : Proc → ℕ → ℕ → List ℕ → Flow
 flow_at q p n l = flow_of (node_in q n) n (cell l (p * 32 + n)) (cell l 264)
 
-abbrev pub next_at : Proc → ℕ → ℕ → List ℕ → Next
+abbrev pub next_at : Proc → ℕ → ℕ → List ℕ → Option ℕ
 next_at q p n l = next_to l p (flow_at q p n l).first (flow_at q p n l).out
 
--- From the cells l and the nodes w to l' and w': node n is seen, if so, and then its first target, if something was new there; where a chain ends
--- the lowest node that is to be seen comes next, until there is none.
-pub data Seen (r : List ℕ) (q : Proc) (p : ℕ) : Bool → ℕ → List ℕ → List ℕ → List ℕ → List ℕ → Type 0 where
-  none : {n : ℕ} {l w : List ℕ} → cell w p ≡ 0 → Seen r q p false n l w l w
-  lowest : {n : ℕ} {l w l' w' : List ℕ} → cell w p ≢ 0 → Seen r q p true (low (cell w p)) l w l' w' → Seen r q p false n l w l' w'
-  along : {n : ℕ} {l w l' w' : List ℕ} → Seen r q p (next_at q p n l).on (next_at q p n l).to (step_with (flow_at q p n l) p l) (todo_stepped r (flow_at q p n l) p l (todo_taken w p n)) l' w'
-      → Seen r q p true n l w l' w'
+-- From the cells l and the nodes w to l' and w': the next node is seen, if there is one, and then its first target, if something was new there;
+-- where a chain ends the lowest node that is to be seen comes next, until there is none.
+pub data Seen (r : List ℕ) (q : Proc) (p : ℕ) : Option ℕ → List ℕ → List ℕ → List ℕ → List ℕ → Type 0 where
+  none : {l w : List ℕ} → cell w p ≡ 0 → Seen r q p None l w l w
+  lowest : {l w l' w' : List ℕ} → cell w p ≢ 0 → Seen r q p (Some (low (cell w p))) l w l' w' → Seen r q p None l w l' w'
+  along : {n : ℕ} {l w l' w' : List ℕ} → Seen r q p (next_at q p n l) (step_with (flow_at q p n l) p l) (todo_stepped r (flow_at q p n l) p l (todo_taken w p n)) l' w'
+      → Seen r q p (Some n) l w l' w'
 
--- ---- the first procedure with a node that is to be seen, from p on among k, or the place after them
+-- a procedure's mask has a node
+abbrev pub is_pending : ℕ → Bool
+is_pending m = not (eqb m 0)
 
-unfoldable pub first_from : ℕ → ℕ → List ℕ → ℕ
-first_from zero p w = p
-first_from (suc k) p w = pick (eqb (cell w p) 0) (first_from k (suc p) w) p
-
--- of all, or 8
-abbrev pub pending_of : List ℕ → ℕ
-pending_of w = first_from 8 0 w
+-- the first procedure with a node that is to be seen
+abbrev pub pending_of : List ℕ → Option ℕ
+pending_of w = position is_pending w

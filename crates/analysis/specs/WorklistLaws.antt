@@ -1,44 +1,36 @@
 -- Laws of the nodes that are to be seen: each step of the code moves the cells and them, and where the code goes on is to be seen.
 use Prim.Native.Nat.{ℕ, zero, suc, ◌+◌, ◌-◌, ◌*◌, ◌^◌, ◌<◌, ◌≤◌}
 use native.Mathlib.Omega.{arith}
-use Rattle.std.proofs.Common.{one-mul, ◌∙◌, subst, length-set, get_or-set_same, get_or-set_other, ext_get_or, eq-eqb, ne_eqb, lt-ltb, le-ltb, ltb-true, ltb-false, eqb-true}
-use Rattle.std.proofs.Math.Numerals.{add-one}
-use Rattle.std.specs.Prelude.{◌≡◌, Bool, ◌≢◌, List, [], ◌∷◌, length, eqb, ltb}
+use Rattle.std.proofs.Common.{◌∙◌, subst, get_or-set_same, ext_get_or, eq-eqb, ltb-true, ltb-false, eqb-true}
+use Rattle.std.specs.Prelude.{◌≡◌, Bool, ◌≢◌, Option, Some, None, List, [], ◌∷◌, length, ltb}
+use Rattle.std.specs.List.{position_or_len}
+use Rattle.std.specs.Bool.{then_some}
 use Rattle.std.proofs.Math.Path.{refl, sym, ap}
 use Rattle.std.proofs.Math.Bool.{true, false}
-use Rattle.std.proofs.Math.ListN.{set}
 use Rattle.std.specs.Int.Bits.{bit_or, or_zero_r}
-use Rattle.std.proofs.lemmas.Bool.{eqb-false}
+use Rattle.std.proofs.lemmas.Bool.{eqb-false, not-true, not-false}
+use Rattle.std.proofs.lemmas.List.Quantifiers.{position-Some}
+use Rattle.std.proofs.lemmas.List.Sums.{fails_before_first}
 use Rattle.table.specs.Cases.{cases}
 use Rattle.table.specs.Mask.{pick}
 use Rattle.table.specs.Table.{node_in}
 use Rattle.table.specs.declared.Node.{Node}
 use Rattle.table.specs.declared.Proc.{Proc}
 use Rattle.masks.specs.Bits.{bit_one, or_twice}
-use Rattle.masks.specs.Cells.{cell, grown, Masks, Flag, grown_flag, grown_adds, Filled, set_more}
+use Rattle.masks.specs.Cells.{cell, grown, is_new, Masks, Flag, grown_flag, grown_adds, Filled}
 use Rattle.flow.specs.declared.Flow.{Flow}
 use Rattle.flow.specs.declared.Pass.{Pass}
 use Rattle.flow.specs.Flow.{low, flow_of, pass_of, after_pass}
 use Rattle.flow.specs.FlowLaws.{pass_flow, pass_flow_lem}
-use Rattle.analysis.specs.declared.Next.{Next}
 use Rattle.analysis.specs.NodeLaws.{Places, flow_places}
 use Rattle.analysis.specs.Steps.{entered, passed_on, step_with}
-use Rattle.analysis.specs.Todo.{Leads, Took, took, leads_yes}
-use Rattle.analysis.specs.Worklist.{is_new, todo_reached, woken, todo_blank, todo_passed, todo_stepped, next_to, todo_taken, flow_at, next_at, Seen, none, lowest, along, first_from, pending_of}
-use Rattle.analysis.specs.Work.{Sized, Moves, moves_refl, moves_trans, sized_after, reach_new, leads_on, drop_moves, blank_moves, stepped, left_of, next_less, Along, along_next, Pending}
+use Rattle.analysis.specs.Todo.{Leads, LeadsTo, leads_to, Took, took}
+use Rattle.analysis.specs.Worklist.{todo_reached, woken, todo_blank, todo_passed, todo_stepped, next_to, todo_taken, flow_at, next_at, Seen, none, lowest, along, is_pending, pending_of}
+use Rattle.analysis.specs.Work.{Sized, Moves, moves_refl, moves_trans, sized_after, reach_new, leads_on, drop_moves, blank_moves, stepped, left_of, next_less, Along, along_next}
 
 -- ---- something comes to a node
 
 module _ (l w : List ℕ) (p n m : ℕ) where
-  -- as the code notes it
-  pub reached_new : {yes' : Bool} {w' : List ℕ} → yes' ≡ is_new l (p * 32 + n) m → yes' ≡ true → w' ≡ set w p (pick yes' (bit_or (cell w p) (1 * 2 ^ n)) (cell w p)) → w' ≡ todo_reached l w p n m
-  unfolding todo_reached grown
-  reached_new {yes'} e y z = rw (← e, y) (rw y at (z ∙ ap (λ (x : ℕ). set w p (pick yes' (bit_or (cell w p) x) (cell w p))) (one-mul (2 ^ n))))
-
-  pub reached_same : {yes' : Bool} → yes' ≡ is_new l (p * 32 + n) m → yes' ≡ false → w ≡ todo_reached l w p n m
-  unfolding todo_reached
-  reached_same e y = rw (← e, y)
-
   module _ (hp : p < 8) (hn : n < 32) (s : Sized l w) where
     flag : Flag l (grown l (p * 32 + n) m) (is_new l (p * 32 + n) m)
     flag = grown_flag l (p * 32 + n) m (omega (arith, s.0))
@@ -54,12 +46,6 @@ module _ (l w : List ℕ) (p n m : ℕ) where
     pub reached_leads : Leads p n (is_new l (p * 32 + n) m) (todo_reached l w p n m)
     unfolding todo_reached
     reached_leads = record { low = hn; marked = λ y. rw y (grown_adds w p (2 ^ n) n (omega (arith, s.1)) (bit_one n)) }
-
-  pub reached_as : {w' : List ℕ} {o : ℕ} → w' ≡ todo_reached l w p n o → o ≡ m → w' ≡ todo_reached l w p n m
-  reached_as e z = rw z at e
-
-  pub next_as : {on : Bool} {o : ℕ} → on ≡ is_new l (p * 32 + n) o → o ≡ m → ◌≡◌ {A = Next} (record { on = on; to = n }) (next_to l p n m)
-  next_as e z = rw (e, z)
 
 pub reached_sized : {l' w' : List ℕ} (l w : List ℕ) (p n m : ℕ) → p < 8 → n < 32 → Sized l w → l' ≡ grown l (p * 32 + n) m → w' ≡ todo_reached l w p n m → Sized l' w'
 reached_sized l w p n m hp hn s e z = rw (e, z) (sized_after s (reached_moves l w p n m hp hn s []))
@@ -80,38 +66,18 @@ woken_cell (x ∷ w) [] (suc a) h = sym (or_zero_r (cell w a))
 woken_cell (x ∷ w) (y ∷ r) zero h = refl
 woken_cell (x ∷ w) (y ∷ r) (suc a) h = woken_cell w r a (omega arith)
 
+-- of the nodes w₀ those below i are woken
 pub record Waking (r w₀ w : List ℕ) (i : ℕ) : Type 0 where
-  pub low : i ≤ 8
   pub size : length w ≡ 8
   pub before : Filled (λ a. bit_or (cell w₀ a) (cell r a)) i w
   pub after : (a : ℕ) → i ≤ a → cell w a ≡ cell w₀ a
 
-pub waking_start : (r w : List ℕ) → length w ≡ 8 → Waking r w w 0
-waking_start r w s = record { low = omega arith; size = s; before = λ a h. absurd (omega arith); after = λ a h. refl }
-
-pub waking_next : {r w₀ w : List ℕ} {i : ℕ} → i < 8 → Waking r w₀ w i → Waking r w₀ (set w i (bit_or (cell w i) (cell r i))) (i + 1)
-waking_next {r} {w₀} {w} {i} h k = record {
-  low = omega arith;
-  size = length-set w i _ ∙ k.size;
-  before = set_more 0 (λ a. bit_or (cell w₀ a) (cell r a)) i _ w (omega (arith, k.size)) (ap (λ (x : ℕ). bit_or x (cell r i)) (k.after i (omega arith))) k.before;
-  after = λ a j. get_or-set_other w i a (bit_or (cell w i) (cell r i)) 0 (λ q. omega arith) ∙ k.after a (omega arith);
-}
-
 pub waking_end : {r w₀ w : List ℕ} {i : ℕ} → length w₀ ≡ 8 → Waking r w₀ w i → 8 ≤ i → w ≡ woken w₀ r
-waking_end {r} {w₀} {w} {i} s k h =
-    ext_get_or 0 w (woken w₀ r) (k.size ∙ sym (woken_size w₀ r ∙ s)) (λ a j. k.before a (omega (arith, k.size, k.low)) ∙ sym (woken_cell w₀ r a (omega (arith, k.size))))
+waking_end {r} {w₀} {w} {i} s k h = ext_get_or 0 w (woken w₀ r) (k.size ∙ sym (woken_size w₀ r ∙ s)) (λ a j. k.before a (omega (arith, k.size)) ∙ sym (woken_cell w₀ r a (omega (arith, k.size, s))))
 
 -- ---- blank queues, and what a node adds
 
 module _ (r l w : List ℕ) (m : ℕ) where
-  pub blank_new : {yes' : Bool} {w' : List ℕ} → yes' ≡ is_new l 264 m → yes' ≡ true → w' ≡ woken w r → w' ≡ todo_blank r l w m
-  unfolding todo_blank
-  blank_new e y z = rw (← e, y) z
-
-  pub blank_same : {yes' : Bool} → yes' ≡ is_new l 264 m → yes' ≡ false → w ≡ todo_blank r l w m
-  unfolding todo_blank
-  blank_same e y = rw (← e, y)
-
   blanked_moves : Sized l w → Masks 8 32 r → Moves r l w (grown l 264 m) (todo_blank r l w m)
   unfolding todo_blank
   blanked_moves s g = go (is_new l 264 m) (grown_flag l 264 m (omega (arith, s.0)))
@@ -119,14 +85,6 @@ module _ (r l w : List ℕ) (m : ℕ) where
       go : (y : Bool) → Flag l (grown l 264 m) y → Moves r l w (grown l 264 m) (pick y (woken w r) w)
       go true f = blank_moves m g s.1 refl f refl (woken_size w r ∙ s.1) (λ a h. woken_cell w r a (omega (arith, s.1)))
       go false f = rw (f.same refl) (moves_refl r l w)
-
-  pub todo_drop : {w' : List ℕ} (a : ℕ) → a < 264 → w' ≡ todo_reached l w (a - 256) 0 m → w' ≡ todo_passed r l w a m
-  unfolding todo_passed
-  todo_drop a h e = rw (lt-ltb a 264 h) e
-
-  pub todo_blank_lem : {w' : List ℕ} (a : ℕ) → 264 ≤ a → w' ≡ todo_blank r l w m → w' ≡ todo_passed r l w a m
-  unfolding todo_passed
-  todo_blank_lem a h e = rw (le-ltb a 264 h) e
 
 entered_moves : (r l w : List ℕ) (k m : ℕ) → k < 8 → Sized l w → Moves r l w (entered l k m) (todo_reached l w k 0 m)
 unfolding entered
@@ -171,9 +129,9 @@ module _ (r l w : List ℕ) (f : Flow) (p : ℕ) (k : Places f) (hp : p < 8) (s 
 pub visited_moves : {l w l' w' r : List ℕ} (x : Node) (p n : ℕ) → p < 8 → n < 32 → Sized l w → Masks 8 32 r → l' ≡ stepped x p n l → w' ≡ todo_stepped r (flow_of x n (cell l (p * 32 + n)) (cell l 264)) p l w → Moves r l w l' w'
 visited_moves {l} {w} {l'} {w'} {r} x p n hp hn s g e z = rw (e, z) (stepped_moves r l w _ p (flow_places x n _ _ hn) hp s g)
 
-pub visited_leads : {w' : List ℕ} {y : Next} (r l w : List ℕ) (x : Node) (p n : ℕ) → p < 8 → n < 32 → Sized l w → Masks 8 32 r → w' ≡ todo_stepped r (flow_of x n (cell l (p * 32 + n)) (cell l 264)) p l w
-    → y ≡ next_to l p (flow_of x n (cell l (p * 32 + n)) (cell l 264)).first (flow_of x n (cell l (p * 32 + n)) (cell l 264)).out → Leads p y.to y.on w'
-visited_leads r l w x p n hp hn s g z e = rw (z, e) (stepped_leads r l w _ p (flow_places x n _ _ hn) hp s g)
+pub visited_leads : {w' : List ℕ} {y : Option ℕ} (r l w : List ℕ) (x : Node) (p n : ℕ) → p < 8 → n < 32 → Sized l w → Masks 8 32 r → w' ≡ todo_stepped r (flow_of x n (cell l (p * 32 + n)) (cell l 264)) p l w
+    → y ≡ next_to l p (flow_of x n (cell l (p * 32 + n)) (cell l 264)).first (flow_of x n (cell l (p * 32 + n)) (cell l 264)).out → LeadsTo p y w'
+visited_leads r l w x p n hp hn s g z e = rw (z, e) (leads_to _ (stepped_leads r l w _ p (flow_places x n _ _ hn) hp s g))
 
 pub todo_is : {f : Flow} {w3 : List ℕ} (r l l1 l2 w w1 w2 : List ℕ) (x : Node) (p n i b : ℕ) → f ≡ flow_of x n i b → l1 ≡ grown l (p * 32 + f.first) f.out → l2 ≡ grown l1 (p * 32 + f.second) f.out
     → w1 ≡ todo_reached l w p f.first f.out → w2 ≡ todo_reached l1 w1 p f.second f.out → w3 ≡ todo_passed r l2 w2 f.extra f.add → w3 ≡ todo_stepped r (flow_of x n i b) p l w
@@ -181,7 +139,7 @@ unfolding todo_stepped
 todo_is r l l1 l2 w w1 w2 x p n i b e u v a c d = rw (← e, ← u, ← v, ← a, ← c) d
 
 pub next_is : {f : Flow} {on : Bool} (l : List ℕ) (x : Node) (p n i b : ℕ) → f ≡ flow_of x n i b → on ≡ is_new l (p * 32 + f.first) f.out
-    → ◌≡◌ {A = Next} (record { on = on; to = f.first }) (next_to l p (flow_of x n i b).first (flow_of x n i b).out)
+    → then_some on f.first ≡ next_to l p (flow_of x n i b).first (flow_of x n i b).out
 next_is l x p n i b e z = rw (← e, z)
 
 -- a node with one target
@@ -203,37 +161,30 @@ module _ {s : Pass} (l : List ℕ) (x : Node) (p n i b : ℕ) (e : s ≡ pass_of
   pub pass_todo : {w' : List ℕ} (r w : List ℕ) → p < 8 → length l ≡ 265 → w' ≡ todo_reached l w p s.to (after_pass s i) → w' ≡ todo_stepped r (flow_of x n i b) p l w
   pass_todo r w hp z d = d ∙ sym (once_todo r l w s i p hp h z) ∙ ap (λ (y : Flow). todo_stepped r y p l w) same_flow
 
-  pub pass_next : {y : Next} → y ≡ next_to l p s.to (after_pass s i) → y ≡ next_to l p (flow_of x n i b).first (flow_of x n i b).out
+  pub pass_next : {y : Option ℕ} → y ≡ next_to l p s.to (after_pass s i) → y ≡ next_to l p (flow_of x n i b).first (flow_of x n i b).out
   pass_next d = d ∙ ap (λ (f : Flow). next_to l p f.first f.out) same_flow
 
 -- ---- the nodes of one procedure
 
-pub taken_size : {w1 : List ℕ} (w : List ℕ) (p n : ℕ) → w1 ≡ todo_taken w p n → length w ≡ 8 → length w1 ≡ 8
-taken_size w p n e s = ap length e ∙ length-set w p _ ∙ s
-
-module _ {q : Proc} {p : ℕ} {r l₀ w₀ l w w1 l' w' : List ℕ} {on : Bool} (n : ℕ) (hp : p < 8) (gr : Masks 8 32 r) (g : Along r q p l₀ w₀ l w n on) (h : on ≡ true) (t : w1 ≡ todo_taken w p n)
+module _ {q : Proc} {p : ℕ} {r l₀ w₀ l w w1 l' w' : List ℕ} {next : Option ℕ} (n : ℕ) (hp : p < 8) (gr : Masks 8 32 r) (g : Along r q p l₀ w₀ l w next) (h : next ≡ Some n) (t : w1 ≡ todo_taken w p n)
     (e : l' ≡ stepped (node_in q n) p n l) (z : w' ≡ todo_stepped r (flow_at q p n l) p l w1) where
   seen_took : Took w p n w1
-  seen_took = took p n hp g.going.todo (leads_yes h g.leads) t
+  seen_took = took p n hp g.going.todo (g.leads n h) t
 
   seen_sized : Sized l w1
   seen_sized = (g.going.masks.size, seen_took.small.size)
 
   seen_moves : Moves r l w1 l' w'
-  seen_moves = visited_moves (node_in q n) p n hp g.leads.low seen_sized gr e z
+  seen_moves = visited_moves (node_in q n) p n hp (g.leads n h).low seen_sized gr e z
 
   pub seen_less : left_of l' w' < left_of l w
   seen_less = next_less q n hp g.going.masks seen_took e seen_moves
 
-  pub seen_along : {y : Next} → y ≡ next_at q p n l → Along r q p l₀ w₀ l' w' y.to y.on
-  seen_along d = along_next n hp g seen_took e seen_moves (visited_leads r l w1 (node_in q n) p n hp g.leads.low seen_sized gr z d)
-
-any_node : {r : List ℕ} {q : Proc} {p n k : ℕ} {l w l' w' : List ℕ} → Seen r q p false n l w l' w' → Seen r q p false k l w l' w'
-any_node (none h) = none h
-any_node (lowest h d) = lowest h d
+  pub seen_along : {y : Option ℕ} → y ≡ next_at q p n l → Along r q p l₀ w₀ l' w' y
+  seen_along d = along_next n hp g seen_took e seen_moves (visited_leads r l w1 (node_in q n) p n hp (g.leads n h).low seen_sized gr z d)
 
 -- the cells and the nodes at the end are one
-pub seen_same : {r : List ℕ} {q : Proc} {p n : ℕ} {on : Bool} {l w l1 w1 l2 w2 : List ℕ} → Seen r q p on n l w l1 w1 → Seen r q p on n l w l2 w2 → (l1 ≡ l2) × (w1 ≡ w2)
+pub seen_same : {r : List ℕ} {q : Proc} {p : ℕ} {next : Option ℕ} {l w l1 w1 l2 w2 : List ℕ} → Seen r q p next l w l1 w1 → Seen r q p next l w l2 w2 → (l1 ≡ l2) × (w1 ≡ w2)
 seen_same (none h) (none k) = (refl, refl)
 seen_same (none h) (lowest k e) = absurd (k h)
 seen_same (lowest h d) (none k) = absurd (h k)
@@ -241,63 +192,30 @@ seen_same (lowest h d) (lowest k e) = seen_same d e
 seen_same (along d) (along e) = seen_same d e
 
 -- what is left to see from l and w ends where all ends from l₀ and w₀
-pub record Toward (r : List ℕ) (q : Proc) (p : ℕ) (l₀ w₀ : List ℕ) (on : Bool) (n : ℕ) (l w : List ℕ) : Type 0 where
-  pub ends : (l' w' : List ℕ) → Seen r q p on n l w l' w' → Seen r q p false 0 l₀ w₀ l' w'
+pub record Toward (r : List ℕ) (q : Proc) (p : ℕ) (l₀ w₀ : List ℕ) (next : Option ℕ) (l w : List ℕ) : Type 0 where
+  pub ends : (l' w' : List ℕ) → Seen r q p next l w l' w' → Seen r q p None l₀ w₀ l' w'
 
-pub toward_start : (r : List ℕ) (q : Proc) (p : ℕ) (l w : List ℕ) → Toward r q p l w false 0 l w
-toward_start r q p l w = record { ends = λ l' w' d. d }
+pub toward_lowest : (r : List ℕ) (q : Proc) {p n : ℕ} (l w : List ℕ) → cell w p ≢ 0 → n ≡ low (cell w p) → Toward r q p l w (Some n) l w
+toward_lowest r q {p} {n} l w h e = record { ends = λ l' w' d. lowest h (subst (λ (k : ℕ). Seen r q p (Some k) l w l' w') e d) }
 
-pub toward_lowest : (r : List ℕ) (q : Proc) {p n : ℕ} (l w : List ℕ) → cell w p ≢ 0 → n ≡ low (cell w p) → Toward r q p l w true n l w
-toward_lowest r q {p} {n} l w h e = record { ends = λ l' w' d. lowest h (subst (λ (k : ℕ). Seen r q p true k l w l' w') e d) }
-
-pub toward_along : {r : List ℕ} {q : Proc} {p : ℕ} {l₀ w₀ l w l1 w1 w2 : List ℕ} {on : Bool} {y : Next} (n : ℕ) → Toward r q p l₀ w₀ on n l w → on ≡ true → w1 ≡ todo_taken w p n → l1 ≡ stepped (node_in q n) p n l
-    → w2 ≡ todo_stepped r (flow_at q p n l) p l w1 → y ≡ next_at q p n l → Toward r q p l₀ w₀ y.on y.to l1 w2
+pub toward_along : {r : List ℕ} {q : Proc} {p : ℕ} {l₀ w₀ l w l1 w1 w2 : List ℕ} {next y : Option ℕ} (n : ℕ) → Toward r q p l₀ w₀ next l w → next ≡ Some n → w1 ≡ todo_taken w p n → l1 ≡ stepped (node_in q n) p n l
+    → w2 ≡ todo_stepped r (flow_at q p n l) p l w1 → y ≡ next_at q p n l → Toward r q p l₀ w₀ y l1 w2
 toward_along {r} {q} {p} {l₀} {w₀} {l} {w} n g h t e z y =
-    let g' : Toward r q p l₀ w₀ true n l w = rw h at g in
+    let g' : Toward r q p l₀ w₀ (Some n) l w = rw h at g in
     rw (e, z, t, y) (record { ends = λ l' w' d. g'.ends l' w' (along d) })
 
-pub toward_end : {r : List ℕ} {q : Proc} {p n : ℕ} {on : Bool} {l₀ w₀ l w l1 w1 : List ℕ} → Toward r q p l₀ w₀ false 0 l w → Toward r q p l w on n l1 w1 → on ≡ false → Toward r q p l₀ w₀ false 0 l1 w1
-toward_end {r} {q} {p} {n} {on} {l₀} {w₀} {l} {w} {l1} {w1} g f h = let f' : Toward r q p l w false n l1 w1 = rw h at f in record { ends = λ l' w' d. g.ends l' w' (f'.ends l' w' (any_node d)) }
+pub toward_end : {r : List ℕ} {q : Proc} {p : ℕ} {next : Option ℕ} {l₀ w₀ l w l1 w1 : List ℕ} → Toward r q p l₀ w₀ None l w → Toward r q p l w next l1 w1 → next ≡ None → Toward r q p l₀ w₀ None l1 w1
+toward_end {r} {q} {p} {next} {l₀} {w₀} {l} {w} {l1} {w1} g f h = let f' : Toward r q p l w None l1 w1 = rw h at f in record { ends = λ l' w' d. g.ends l' w' (f'.ends l' w' d) }
 
-pub toward_done : {r : List ℕ} {q : Proc} {p : ℕ} {l₀ w₀ l w : List ℕ} → Toward r q p l₀ w₀ false 0 l w → cell w p ≡ 0 → Seen r q p false 0 l₀ w₀ l w
+pub toward_done : {r : List ℕ} {q : Proc} {p : ℕ} {l₀ w₀ l w : List ℕ} → Toward r q p l₀ w₀ None l w → cell w p ≡ 0 → Seen r q p None l₀ w₀ l w
 toward_done {r} {q} {p} {l₀} {w₀} {l} {w} g h = g.ends l w (none h)
 
 -- ---- the first procedure with a node that is to be seen
 
-module _ (w : List ℕ) (p : ℕ) where
-  eight : {k : ℕ} → 8 - p ≡ k → first_from (8 - p) p w ≡ first_from k p w
-  eight e = ap (λ (j : ℕ). first_from j p w) e
+pub pending_some : (w : List ℕ) (p : ℕ) → length w ≡ 8 → Some p ≡ pending_of w → (p < 8) × (cell w p ≢ 0)
+pending_some w p s e = let z = position-Some is_pending w p 0 (sym e) in (omega (arith, z.0, s), eqb-false (cell w p) 0 (not-true _ z.1))
 
-  pub first_here : p < 8 → cell w p ≢ 0 → first_from (8 - p) p w ≡ pending_of w → p ≡ pending_of w
-  unfolding first_from
-  first_here h z e =
-      let k : first_from (8 - p) p w ≡ first_from (suc (7 - p)) p w = eight {k = suc (7 - p)} (omega arith) in
-      let y : first_from (suc (7 - p)) p w ≡ p = rw (ne_eqb (cell w p) 0 z) in
-      sym (k ∙ y) ∙ e
-
-  pub first_next : p < 8 → cell w p ≡ 0 → first_from (8 - p) p w ≡ pending_of w → first_from (8 - (p + 1)) (p + 1) w ≡ pending_of w
-  unfolding first_from
-  first_next h z e =
-      let k : first_from (8 - p) p w ≡ first_from (suc (7 - p)) p w = eight {k = suc (7 - p)} (omega arith) in
-      let y : first_from (suc (7 - p)) p w ≡ first_from (7 - p) (suc p) w = rw z in
-      let j : 8 - (p + 1) ≡ 7 - p = omega arith in
-      rw (j, add-one p) (sym (k ∙ y) ∙ e)
-
-  pub first_none : 8 ≤ p → p ≤ 8 → first_from (8 - p) p w ≡ pending_of w → p ≡ pending_of w
-  unfolding first_from
-  first_none h g e = let k : first_from (8 - p) p w ≡ p = eight {k = 0} (omega arith) in sym k ∙ e
-
-abbrev Right : ℕ → ℕ → List ℕ → ℕ → Type 0
-Right k p w q = (q < p + k → cell w q ≢ 0) × (p + k ≤ q → (a : ℕ) → p ≤ a → a < p + k → cell w a ≡ 0)
-
-right_next : (k p : ℕ) (w : List ℕ) (q : ℕ) → Right k (suc p) w q → (b : Bool) → eqb (cell w p) 0 ≡ b → Right (suc k) p w (pick b q p)
-right_next k p w q g true e = (λ h. g.0 (omega arith), λ h a i j. cases (eqb a p) (λ u. let z : a ≡ p = eqb-true a p u in rw z (eqb-true (cell w p) 0 e)) (λ u. let z = eqb-false a p u in g.1 (omega arith) a (omega arith) (omega arith)))
-right_next k p w q g false e = (λ h. eqb-false (cell w p) 0 e, λ h. absurd (omega arith))
-
-first_right : (k p : ℕ) (w : List ℕ) → Right k p w (first_from k p w)
-unfolding first_from
-first_right zero p w = (λ h. absurd (omega arith), λ h a i j. absurd (omega arith))
-first_right (suc k) p w = right_next k p w (first_from k (suc p) w) (first_right k (suc p) w) (eqb (cell w p) 0) refl
-
-pub pending_right : (w : List ℕ) {p : ℕ} → p ≡ pending_of w → Pending w p
-pending_right w e = let z = first_right 8 0 w in rw e (record { some' = λ h. z.0 h; none' = λ h a i. z.1 h a (omega arith) i })
+pub pending_none : (w : List ℕ) → None ≡ pending_of w → (a : ℕ) → a < length w → cell w a ≡ 0
+pending_none w e a h = cases (ltb (position_or_len is_pending w) (length w))
+    (λ y. let z : ◌≡◌ {A = Option ℕ} None (Some (position_or_len is_pending w)) = rw y at e in cc)
+    (λ y. eqb-true (cell w a) 0 (not-false _ (fails_before_first is_pending w a 0 (omega (arith, ltb-false _ _ y)))))

@@ -2,59 +2,46 @@
 
 #![tactic(auto)]
 
-ghost use Rattle.std.specs.Prelude.{◌≡◌, false, ◌<◌, ◌≤◌, ◌^◌, ◌+◌, ◌-◌, ◌*◌, length};
+ghost use Rattle.std.specs.Prelude.{◌≡◌, None, MatchOption, ◌<◌, ◌≤◌, ◌^◌, ◌+◌, ◌-◌, ◌*◌, length};
 ghost use Rattle.table.specs.Mask.{mask_of};
 ghost use Rattle.table.specs.Table.{node_in};
-ghost use Rattle.masks.specs.Cells.{cell, grown, Masks};
+ghost use Rattle.masks.specs.Cells.{cell, grown, is_new, Masks};
 ghost use Rattle.flow.specs.Flow.{flow_of, pass_of, after_pass};
 ghost use Rattle.analysis.specs.Ready.{Ready};
 ghost use Rattle.analysis.specs.Decides.{Decides, KeptMasks};
 ghost use Rattle.analysis.specs.Steps.{entered, passed_on, step_with, kept_in};
 ghost use Rattle.analysis.specs.Sources.{is_read, is_recv, read_in, recv_in};
-ghost use Rattle.analysis.specs.Plans.{Tells, stored_from, pass_at, Planned};
-ghost use Rattle.analysis.specs.Worklist.{is_new, todo_reached, woken, todo_blank, todo_passed, todo_stepped, next_to, todo_taken, Seen, pending_of};
+ghost use Rattle.analysis.specs.Plans.{Tells, stored_from, Planned};
+ghost use Rattle.analysis.specs.Worklist.{todo_reached, woken, todo_blank, todo_passed, todo_stepped, next_to, todo_taken, Seen, pending_of};
 ghost use Rattle.analysis.specs.Work.{Sized, Works};
 
 use flow::Pass;
 use table::{Node, Proc, Table};
 
-// The mask m is added to the cell a; the answer says whether something was new.
-fn grow(cells: &mut [u32; 265], a: usize, m: u32) -> bool
-    requires { (a < 265) × (length cells.old ≡ 265) }
-    ensures list { cells.new ≡ grown cells.old a m }
-    ensures new { result ≡ is_new cells.old a m }
-{
-    let old = cells[a];
-    let new = old | m;
-    cells[a] = new;
-    new != old
-}
-
 // The mask m is added to the cell of node n of procedure p. If something was new, which is the answer, the node is to be seen.
+#[tactic(auto, unfolding(masks::specs::Cells::grown, crate::specs::Worklist::todo_reached))]
 fn reach(cells: &mut [u32; 265], todo: &mut [u32; 8], p: usize, n: usize, m: u32) -> bool
     requires { (p < 8) × ((n < 32) × Sized cells.old todo.old) }
     ensures list { cells.new ≡ grown cells.old (p * 32 + n) m }
     ensures todo { todo.new ≡ todo_reached cells.old todo.old p n m }
     ensures new { result ≡ is_new cells.old (p * 32 + n) m }
 {
-    let at = p * 32 + n;
-    let yes = grow(cells, at, m);
-    if yes {
-        let w = todo[p];
-        todo[p] = masks::with(w, n, yes);
-        return yes;
+    let new = masks::grow(cells, p * 32 + n, m);
+    if new {
+        todo[p] |= 1 << n;
     }
-    yes
+    new
 }
 
 // The parameters m of procedure k are dropped.
+#[tactic(auto, unfolding(crate::specs::Steps::entered))]
 fn enter(cells: &mut [u32; 265], todo: &mut [u32; 8], k: usize, m: u32)
     requires { (k < 8) × Sized cells.old todo.old }
     ensures list { cells.new ≡ entered cells.old k m }
     ensures todo { todo.new ≡ todo_reached cells.old todo.old k 0 m }
 {
     reach(cells, todo, k, 0, m);
-    grow(cells, 256 + k, m);
+    masks::grow(cells, 256 + k, m);
 }
 
 // The nodes of recvs are to be seen.
@@ -62,64 +49,49 @@ fn wake(todo: &mut [u32; 8], recvs: &[u32; 8])
     requires { length todo.old ≡ 8 }
     ensures { todo.new ≡ woken todo.old recvs.now }
 {
-    let mut i: usize = 0;
-    while i < 8 {
-        let w = todo[i];
-        let r = recvs[i];
-        todo[i] = w | r;
-        i += 1;
+    for (i, w) in todo.iter_mut().enumerate() {
+        *w |= recvs[i];
     }
 }
 
 // The queues m are blank.
+#[tactic(auto, unfolding(crate::specs::Worklist::todo_blank))]
 fn blank(cells: &mut [u32; 265], todo: &mut [u32; 8], recvs: &[u32; 8], m: u32)
     requires { Sized cells.old todo.old }
     ensures list { cells.new ≡ grown cells.old 264 m }
     ensures todo { todo.new ≡ todo_blank recvs.now cells.old todo.old m }
 {
-    let yes = grow(cells, 264, m);
-    if yes {
+    if masks::grow(cells, 264, m) {
         wake(todo, recvs);
-        return;
     }
 }
 
 // What a node adds to the cell a: dropped parameters, or blank queues.
+#[tactic(auto, unfolding(crate::specs::Steps::passed_on, crate::specs::Worklist::todo_passed))]
 fn pass_on(cells: &mut [u32; 265], todo: &mut [u32; 8], recvs: &[u32; 8], a: usize, m: u32)
     requires { (256 ≤ a) × ((a < 265) × Sized cells.old todo.old) }
     ensures list { cells.new ≡ passed_on cells.old a m }
     ensures todo { todo.new ≡ todo_passed recvs.now cells.old todo.old a m }
 {
     if a < 264 {
-        enter(cells, todo, a - 256, m);
-        return;
+        enter(cells, todo, a - 256, m)
+    } else {
+        blank(cells, todo, recvs, m)
     }
-    blank(cells, todo, recvs, m);
 }
 
-// The first target of a node, and whether it is to be seen.
-#[derive(Clone, Copy)]
-struct Next {
-    on: bool,
-    to: usize,
-}
-
-// A node with one target: what is dirty before it goes there.
-fn pass(s: Pass, p: usize, n: usize, cells: &mut [u32; 265], todo: &mut [u32; 8]) -> Next
+// A node with one target: what is dirty before it goes there. The answer is the target, if it is to be seen.
+fn pass(s: Pass, p: usize, n: usize, cells: &mut [u32; 265], todo: &mut [u32; 8]) -> Option<usize>
     requires { (p < 8) × ((n < 32) × ((s.to < 32) × Sized cells.old todo.old)) }
     ensures list { cells.new ≡ grown cells.old (p * 32 + s.to) (after_pass s (cell cells.old (p * 32 + n))) }
     ensures todo { todo.new ≡ todo_reached cells.old todo.old p s.to (after_pass s (cell cells.old (p * 32 + n))) }
     ensures next { result ≡ next_to cells.old p s.to (after_pass s (cell cells.old (p * 32 + n))) }
 {
-    let at = p * 32 + n;
-    let i = cells[at];
-    let o = flow::after_pass(s, i);
-    let to = s.to;
-    let on = reach(cells, todo, p, to, o);
-    Next { on, to }
+    let o = flow::after_pass(s, cells[p * 32 + n]);
+    reach(cells, todo, p, s.to, o).then_some(s.to)
 }
 
-// Any node: what is dirty before it goes where the node leads.
+// Any node: what is dirty before it goes where the node leads. The answer is the first target, if it is to be seen.
 fn spread(
     x: Node,
     p: usize,
@@ -127,25 +99,17 @@ fn spread(
     cells: &mut [u32; 265],
     todo: &mut [u32; 8],
     recvs: &[u32; 8],
-) -> Next
+) -> Option<usize>
     requires { (p < 8) × ((n < 32) × Sized cells.old todo.old) }
     ensures list { cells.new ≡ step_with (flow_of x n (cell cells.old (p * 32 + n)) (cell cells.old 264)) p cells.old }
     ensures todo { todo.new ≡ todo_stepped recvs.now (flow_of x n (cell cells.old (p * 32 + n)) (cell cells.old 264)) p cells.old todo.old }
     ensures next { result ≡ next_to cells.old p (flow_of x n (cell cells.old (p * 32 + n)) (cell cells.old 264)).first (flow_of x n (cell cells.old (p * 32 + n)) (cell cells.old 264)).out }
 {
-    let at = p * 32 + n;
-    let i = cells[at];
-    let b = cells[264];
-    let f = flow::flow_of(x, n, i, b);
-    let o = f.out;
-    let first = f.first;
-    let second = f.second;
-    let extra = f.extra;
-    let add = f.add;
-    let on = reach(cells, todo, p, first, o);
-    reach(cells, todo, p, second, o);
-    pass_on(cells, todo, recvs, extra, add);
-    Next { on, to: first }
+    let f = flow::flow_of(x, n, cells[p * 32 + n], cells[264]);
+    let on = reach(cells, todo, p, f.first, f.out);
+    reach(cells, todo, p, f.second, f.out);
+    pass_on(cells, todo, recvs, f.extra, f.add);
+    on.then_some(f.first)
 }
 
 // One node, of which s says what it does if it has one target; with 32 for the target s says nothing.
@@ -157,16 +121,17 @@ fn visit(
     cells: &mut [u32; 265],
     todo: &mut [u32; 8],
     recvs: &[u32; 8],
-) -> Next
+) -> Option<usize>
     requires { (p < 8) × ((n < 32) × (Sized cells.old todo.old × Tells x n s)) }
     ensures list { cells.new ≡ step_with (flow_of x n (cell cells.old (p * 32 + n)) (cell cells.old 264)) p cells.old }
     ensures todo { todo.new ≡ todo_stepped recvs.now (flow_of x n (cell cells.old (p * 32 + n)) (cell cells.old 264)) p cells.old todo.old }
     ensures next { result ≡ next_to cells.old p (flow_of x n (cell cells.old (p * 32 + n)) (cell cells.old 264)).first (flow_of x n (cell cells.old (p * 32 + n)) (cell cells.old 264)).out }
 {
     if s.to < 32 {
-        return pass(s, p, n, cells, todo);
+        pass(s, p, n, cells, todo)
+    } else {
+        spread(x, p, n, cells, todo, recvs)
     }
-    spread(x, p, n, cells, todo, recvs)
 }
 
 // Node n of procedure p is taken out of those to be seen.
@@ -174,65 +139,37 @@ fn take(p: usize, n: usize, todo: &mut [u32; 8])
     requires { (p < 8) × (n < 32) }
     ensures { todo.new ≡ todo_taken todo.old p n }
 {
-    let m = todo[p];
-    todo[p] = masks::minus(m, n);
-}
-
-// What the node at place `at` does, if it has one target.
-fn pass_at(uses: &[u32; 256], sets: &[u32; 256], tos: &[u8; 256], at: usize) -> Pass
-    requires { (at < 256) × (cell tos.now at ≤ 32) }
-    ensures { result ≡ pass_at uses.now sets.now tos.now at }
-{
-    Pass {
-        uses: uses[at],
-        sets: sets[at],
-        to: tos[at] as usize,
-    }
+    todo[p] = masks::minus(todo[p], n);
 }
 
 // The nodes of procedure p, until none is to be seen: along each chain as far as it leads.
 fn proc_work(
     q: Proc,
     p: usize,
-    uses: &[u32; 256],
-    sets: &[u32; 256],
-    tos: &[u8; 256],
+    plans: &[Pass; 256],
     cells: &mut [u32; 265],
     todo: &mut [u32; 8],
     recvs: &[u32; 8],
 )
-    requires { (p < 8) × (Masks 265 32 cells.old × (Masks 8 32 todo.old × (Masks 8 32 recvs.now × Planned q p uses.now sets.now tos.now))) }
-    ensures seen { Seen recvs.now q p false 0 cells.old todo.old cells.new todo.new }
+    requires { (p < 8) × (Masks 265 32 cells.old × (Masks 8 32 todo.old × (Masks 8 32 recvs.now × Planned q p plans.now))) }
+    ensures seen { Seen recvs.now q p None cells.old todo.old cells.new todo.new }
     ensures works { Works recvs.now q p cells.old todo.old cells.new todo.new }
 {
     while todo[p] != 0 {
-        let m = todo[p];
-        let mut n = flow::target(m);
-        let mut on = true;
-        while on {
+        let mut next = Some(flow::target(todo[p]));
+        while let Some(n) = next {
             take(p, n, todo);
-            let y = q.slots[n];
-            let x = y.node;
-            let s = pass_at(uses, sets, tos, p * 32 + n);
-            let f = visit(x, s, p, n, cells, todo, recvs);
-            n = f.to;
-            on = f.on;
+            next = visit(q.slots[n].node, plans[p * 32 + n], p, n, cells, todo, recvs);
         }
     }
 }
 
-// The first procedure with a node that is to be seen, or 8.
-fn pending(todo: &[u32; 8]) -> usize
-    ensures { result ≡ pending_of todo.now }
+// The first procedure with a node that is to be seen.
+fn pending(todo: &[u32; 8]) -> Option<usize>
+    ensures first { result ≡ pending_of todo.now }
+    ensures low { MatchOption result (Unit {0}) (λ p. p < 8) }
 {
-    let mut p: usize = 0;
-    while p < 8 {
-        if todo[p] != 0 {
-            return p;
-        }
-        p += 1;
-    }
-    p
+    todo.iter().position(|m| *m != 0)
 }
 
 // The numbers below k.
@@ -240,34 +177,23 @@ fn low_bits(k: u8) -> u32
     requires { k ≤ 4 }
     ensures { result ≡ 2 ^ k - 1 }
 {
-    (1 << (k as u32)) - 1
+    (1 << k) - 1
 }
 
 // After a source a variable can be dirty though none is dirty before it: a read,
+#[tactic(auto, unfolding(table::specs::Table::parts))]
 fn is_read(x: Node) -> bool
     ensures { result ≡ is_read x }
 {
-    if let Node::Read { var: _, to: _ } = x {
-        true
-    } else {
-        false
-    }
+    matches!(x, Node::Read { .. })
 }
 
 // or a receive, if its queue is blank.
+#[tactic(auto, unfolding(table::specs::Table::parts))]
 fn is_recv(x: Node) -> bool
     ensures { result ≡ is_recv x }
 {
-    if let Node::Recv {
-        queue: _,
-        var: _,
-        to: _,
-    } = x
-    {
-        true
-    } else {
-        false
-    }
+    matches!(x, Node::Recv { .. })
 }
 
 // The sources of a procedure.
@@ -277,39 +203,21 @@ struct Sources {
     recvs: u32,
 }
 
-// What each node of procedure p does, if it has one target: the fields of its `Pass`, each in an array for all procedures. The answer is
-// the sources.
-fn plan(
-    q: Proc,
-    p: usize,
-    uses: &mut [u32; 256],
-    sets: &mut [u32; 256],
-    tos: &mut [u8; 256],
-) -> Sources
+// What each node of procedure p does, if it has one target, in the place of the node among those of all procedures. The answer is the
+// sources.
+fn plan(q: Proc, p: usize, plans: &mut [Pass; 256]) -> Sources
     requires { (p < 8) × (q.nodes ≤ 32) }
-    ensures uses { uses.new ≡ stored_from (p * 32) (λ n. (pass_of (node_in q n) n).uses) q.nodes uses.old }
-    ensures sets { sets.new ≡ stored_from (p * 32) (λ n. (pass_of (node_in q n) n).sets) q.nodes sets.old }
-    ensures tos { tos.new ≡ stored_from (p * 32) (λ n. (pass_of (node_in q n) n).to) q.nodes tos.old }
+    ensures plans { plans.new ≡ stored_from (p * 32) (λ n. pass_of (node_in q n) n) q.nodes plans.old }
     ensures reads { result.reads ≡ mask_of q.nodes (read_in q) }
     ensures recvs { result.recvs ≡ mask_of q.nodes (recv_in q) }
 {
-    let mut reads: u32 = 0;
-    let mut recvs: u32 = 0;
-    let nodes = q.nodes as usize;
-    let mut n: usize = 0;
-    while n < nodes {
-        let y = q.slots[n];
-        let x = y.node;
-        let read = is_read(x);
-        let recv = is_recv(x);
-        reads = masks::with(reads, n, read);
-        recvs = masks::with(recvs, n, recv);
-        let s = flow::pass_of(x, n);
-        let at = p * 32 + n;
-        uses[at] = s.uses;
-        sets[at] = s.sets;
-        tos[at] = s.to as u8;
-        n += 1;
+    let mut reads = 0;
+    let mut recvs = 0;
+    for (n, slot) in q.slots[..q.nodes as usize].iter().enumerate() {
+        let x = slot.node;
+        reads = masks::with(reads, n, is_read(x));
+        recvs = masks::with(recvs, n, is_recv(x));
+        plans[p * 32 + n] = flow::pass_of(x, n);
     }
     Sources { reads, recvs }
 }
@@ -319,36 +227,25 @@ pub fn dirty_cells(t: Table) -> [u32; 265]
     requires { Ready t }
     ensures { Decides t result }
 {
-    let mut recvs = [0u32; 8];
-    let mut todo = [0u32; 8];
-    let mut uses = [0u32; 256];
-    let mut sets = [0u32; 256];
-    let mut tos = [32u8; 256];
-    let procs = t.procs as usize;
-    let mut p: usize = 0;
-    while p < procs {
-        let q = t.proc[p];
-        let s = plan(q, p, &mut uses, &mut sets, &mut tos);
+    let mut recvs = [0; 8];
+    let mut todo = [0; 8];
+    let mut plans = [Pass {
+        uses: 0,
+        sets: 0,
+        to: 32,
+    }; 256];
+    for p in 0..t.procs as usize {
+        let s = plan(t.proc[p], p, &mut plans);
         recvs[p] = s.recvs;
         todo[p] = s.reads;
-        p += 1;
     }
-    let mut cells = [0u32; 265];
-    let tasks = t.tasks as usize;
-    let mut k: usize = 0;
-    while k < tasks {
-        let w = t.task[k];
-        let top = w.top as usize;
-        let q = t.proc[top];
-        let m = low_bits(q.params);
-        enter(&mut cells, &mut todo, top, m);
-        k += 1;
+    let mut cells = [0; 265];
+    for k in 0..t.tasks as usize {
+        let top = t.task[k].top as usize;
+        enter(&mut cells, &mut todo, top, low_bits(t.proc[top].params));
     }
-    p = pending(&todo);
-    while p < 8 {
-        let q = t.proc[p];
-        proc_work(q, p, &uses, &sets, &tos, &mut cells, &mut todo, &recvs);
-        p = pending(&todo);
+    while let Some(p) = pending(&todo) {
+        proc_work(t.proc[p], p, &plans, &mut cells, &mut todo, &recvs);
     }
     cells
 }
@@ -358,17 +255,9 @@ fn kept_mask(q: Proc, base: usize, cells: &[u32; 265]) -> u32
     requires { (base ≤ 224) × (q.nodes ≤ 32) }
     ensures { result ≡ mask_of q.nodes (kept_in q base cells.now) }
 {
-    let mut m: u32 = 0;
-    let nodes = q.nodes as usize;
-    let mut n: usize = 0;
-    while n < nodes {
-        let s = q.slots[n];
-        let x = s.node;
-        let at = base + n;
-        let i = cells[at];
-        let yes = flow::kept_node(x, i);
-        m = masks::with(m, n, yes);
-        n += 1;
+    let mut m = 0;
+    for (n, slot) in q.slots[..q.nodes as usize].iter().enumerate() {
+        m = masks::with(m, n, flow::kept_node(slot.node, cells[base + n]));
     }
     m
 }
@@ -379,13 +268,9 @@ pub fn kept_masks(t: Table) -> [u32; 8]
     ensures { KeptMasks t result }
 {
     let cells = dirty_cells(t);
-    let mut r = [0u32; 8];
-    let procs = t.procs as usize;
-    let mut p: usize = 0;
-    while p < procs {
-        let q = t.proc[p];
-        r[p] = kept_mask(q, p * 32, &cells);
-        p += 1;
+    let mut r = [0; 8];
+    for p in 0..t.procs as usize {
+        r[p] = kept_mask(t.proc[p], p * 32, &cells);
     }
     r
 }

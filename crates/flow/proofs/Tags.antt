@@ -8,11 +8,11 @@ use mir.Val.{has_key}
 use types.Run.{OneOf, miss}
 use denote.Enum.Declared.{tag_of}
 use borrow.Author.Tests.{not-true}
-use Rattle.table.specs.Table.{Keeping, always, if_clean, never, absent, keeping, act, parts}
+use Rattle.table.specs.Table.{keeping, act, parts}
 use Rattle.table.specs.declared.Node.{Node}
 use Rattle.table.specs.declared.Node.TheVariants.{Absent, Start, Set, Test, Read, Call, Wait, Signal, Send, Recv, Assert, Out, Return}
 use Rattle.table.specs.contracts.Node.{the_type}
-use Rattle.flow.specs.Flow.{is_never, receives_by, is_either, is_plain, kept_with}
+use Rattle.flow.specs.Flow.{is_never, receives_by, is_either}
 
 -- the number of its kind, in the order of the declaration
 abbrev pub kind_of : Node → ℕ
@@ -22,41 +22,26 @@ kind_of x = tag_of the_type x
 abbrev pub but : ℕ → List ℕ
 but k = let l : List ℕ = 0 ∷ 1 ∷ 2 ∷ 3 ∷ 4 ∷ 5 ∷ 6 ∷ 7 ∷ 8 ∷ 9 ∷ 10 ∷ 11 ∷ 12 ∷ [] in take k l ++ drop (suc k) l
 
--- those that only pass on what is dirty, and those that are always kept
-abbrev plain_kinds : List ℕ
-plain_kinds = 0 ∷ 1 ∷ 6 ∷ 7 ∷ 10 ∷ 11 ∷ 12 ∷ []
-
-abbrev kept_kinds : List ℕ
-kept_kinds = 1 ∷ 5 ∷ 6 ∷ 7 ∷ 8 ∷ 9 ∷ 10 ∷ 11 ∷ 12 ∷ []
-
-abbrev is_always : Keeping → Bool
-is_always always = true
-is_always if_clean = false
-is_always never = false
-is_always absent = false
-
 record Told (x : Node) : Type 0 where
-  plain : is_plain x ≡ has_key plain_kinds (kind_of x)
-  kept : is_always (keeping x) ≡ has_key kept_kinds (kind_of x)
   no_test : not (is_either (parts x).exit) ≡ has_key (but 3) (kind_of x)
   no_read : not (is_never (keeping x)) ≡ has_key (but 4) (kind_of x)
   no_recv : not (receives_by (act x)) ≡ has_key (but 9) (kind_of x)
 
 told : (x : Node) → Told x
 unfolding parts
-told Absent = record { plain = refl; kept = refl; no_test = refl; no_read = refl; no_recv = refl }
-told (Start to) = record { plain = refl; kept = refl; no_test = refl; no_read = refl; no_recv = refl }
-told (Set v o a b to) = record { plain = refl; kept = refl; no_test = refl; no_read = refl; no_recv = refl }
-told (Test o a b y n) = record { plain = refl; kept = refl; no_test = refl; no_read = refl; no_recv = refl }
-told (Read v to) = record { plain = refl; kept = refl; no_test = refl; no_read = refl; no_recv = refl }
-told (Call q xs to) = record { plain = refl; kept = refl; no_test = refl; no_read = refl; no_recv = refl }
-told (Wait s to) = record { plain = refl; kept = refl; no_test = refl; no_read = refl; no_recv = refl }
-told (Signal s to) = record { plain = refl; kept = refl; no_test = refl; no_read = refl; no_recv = refl }
-told (Send q v to) = record { plain = refl; kept = refl; no_test = refl; no_read = refl; no_recv = refl }
-told (Recv q v to) = record { plain = refl; kept = refl; no_test = refl; no_read = refl; no_recv = refl }
-told (Assert v to) = record { plain = refl; kept = refl; no_test = refl; no_read = refl; no_recv = refl }
-told (Out v to) = record { plain = refl; kept = refl; no_test = refl; no_read = refl; no_recv = refl }
-told Return = record { plain = refl; kept = refl; no_test = refl; no_read = refl; no_recv = refl }
+told Absent = record { no_test = refl; no_read = refl; no_recv = refl }
+told (Start to) = record { no_test = refl; no_read = refl; no_recv = refl }
+told (Set v o a b to) = record { no_test = refl; no_read = refl; no_recv = refl }
+told (Test o a b y n) = record { no_test = refl; no_read = refl; no_recv = refl }
+told (Read v to) = record { no_test = refl; no_read = refl; no_recv = refl }
+told (Call q xs to) = record { no_test = refl; no_read = refl; no_recv = refl }
+told (Wait s to) = record { no_test = refl; no_read = refl; no_recv = refl }
+told (Signal s to) = record { no_test = refl; no_read = refl; no_recv = refl }
+told (Send q v to) = record { no_test = refl; no_read = refl; no_recv = refl }
+told (Recv q v to) = record { no_test = refl; no_read = refl; no_recv = refl }
+told (Assert v to) = record { no_test = refl; no_read = refl; no_recv = refl }
+told (Out v to) = record { no_test = refl; no_read = refl; no_recv = refl }
+told Return = record { no_test = refl; no_read = refl; no_recv = refl }
 
 has : (ks : List ℕ) (k : ℕ) → OneOf ks k → has_key ks k ≡ true
 has ks k h = go (has_key ks k) refl
@@ -64,18 +49,6 @@ has ks k h = go (has_key ks k) refl
     go : (b : Bool) → has_key ks k ≡ b → b ≡ true
     go true e = refl
     go false e = absurd (miss ks k (rw e tt) h)
-
-pub plain_rest : (x : Node) → OneOf (0 ∷ 1 ∷ 6 ∷ 7 ∷ 10 ∷ 11 ∷ 12 ∷ []) (kind_of x) → is_plain x ≡ true
-plain_rest x h = (told x).plain ∙ has plain_kinds (kind_of x) h
-
-pub kept_rest : (x : Node) (i : ℕ) → OneOf (1 ∷ 5 ∷ 6 ∷ 7 ∷ 8 ∷ 9 ∷ 10 ∷ 11 ∷ 12 ∷ []) (kind_of x) → true ≡ kept_with x i
-kept_rest x i h = rw (go (keeping x) ((told x).kept ∙ has kept_kinds (kind_of x) h))
-  where
-    go : (k : Keeping) → is_always k ≡ true → k ≡ always
-    go always e = refl
-    go if_clean e = cc
-    go never e = cc
-    go absent e = cc
 
 pub no_test : (x : Node) → OneOf (but 3) (kind_of x) → not (is_either (parts x).exit) ≡ true
 no_test x h = (told x).no_test ∙ has (but 3) (kind_of x) h

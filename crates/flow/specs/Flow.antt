@@ -169,17 +169,9 @@ is_either ends = false
 is_either (by m) = false
 is_either (either y z) = true
 
-abbrev pub is_none : Option ℕ → Bool
-is_none none = true
-is_none (some v) = false
-
 -- it passes on what is dirty, by its sets and uses
 abbrev pub passes : Node → Bool
 passes x = goes_on (act x) && not (is_never (keeping x))
-
--- it passes on what is dirty, as it is, to one target
-abbrev pub is_plain : Node → Bool
-is_plain x = is_none (variable_set x) && (not (is_either (parts x).exit) && passes x)
 
 abbrev pub pass_by : Exit → ℕ → Option ℕ → List ℕ → Pass
 pass_by ends n s us = plain_pass n

@@ -1,6 +1,6 @@
 -- The flow of a node from the values that the code computes on the way.
-use Rattle.std.specs.Prelude.{ℕ, ◌+◌, ◌%◌, ◌^◌, ◌<◌, ◌≤◌, ◌≡◌, refl, ◌&&◌, Bool, not, ◌||◌, ◌⊎◌, ◌≢◌, List, [], ◌∷◌, ◌++◌, eqb}
-use Rattle.std.proofs.Common.{arith, lt_of_le_of_lt, mod-eq_of_lt, sym, ◌∙◌, ap, subst, inl, inr, pow_pos, lt-ltb, le-ltb, eq-eqb, ne_eqb}
+use Rattle.std.specs.Prelude.{ℕ, ◌%◌, ◌^◌, ◌<◌, ◌≤◌, ◌≡◌, refl, Bool, not, ◌||◌, ◌⊎◌, ◌≢◌, List, [], ◌∷◌, ◌++◌, eqb}
+use Rattle.std.proofs.Common.{arith, lt_of_le_of_lt, mod-eq_of_lt, sym, ◌∙◌, ap, subst, inl, inr, pow_pos, eq-eqb, ne_eqb}
 use Rattle.std.proofs.Math.Bool.{true, false}
 use Rattle.std.proofs.lemmas.Bool.{false≢true}
 use Rattle.std.proofs.Math.Option.{Option, none, some}
@@ -8,17 +8,16 @@ use Rattle.std.specs.Int.Bits.{bit_and, bit_or, bit_xor, and_zero_r, or_zero_l, 
 use Rattle.std.proofs.lemmas.Nat.{and_le_r, or_lt}
 use Rattle.std.proofs.Math.Pow.{pow-lt}
 use Rattle.table.specs.Cases.{cases}
-use Rattle.table.specs.Mask.{pick, bit}
+use Rattle.table.specs.Mask.{bit}
 use Rattle.table.specs.Table.{operand_uses, Exit, ends, by, either, Act, alone, waits, signals, sends, receives, calls, returns, parts, uses, variable_set, keeping, act}
 use Rattle.table.specs.declared.Operand.{Operand}
 use Rattle.table.specs.declared.Operand.TheVariants.{Var, Const}
-use Rattle.table.specs.declared.Args.{Args}
 use Rattle.table.specs.declared.Node.{Node}
 use Rattle.table.specs.MaskLaws.{bit_ext}
 use Rattle.masks.specs.Bits.{bit_zero, bit_one, bit_one_out, bit_or_out, bit_or_l, bit_or_r, bit_and_out, bit_and_in, least}
 use Rattle.flow.specs.declared.Flow.{Flow}
 use Rattle.flow.specs.declared.Pass.{Pass}
-use Rattle.flow.specs.Flow.{low, any_of, after_set, one_flow, setting_flow, arg_bit, passed_bits, call_flow, sent_bit, send_flow, plain_flow, is_never, from_blank, set_dirty, first_to, second_to, after_any, out_by, add_by, flow_of, uses_of, plain_pass, mask_in, goes_on, is_either, is_none, passes, is_plain, pass_by, pass_of, after_pass}
+use Rattle.flow.specs.Flow.{low, any_of, after_set, is_never, from_blank, first_to, second_to, after_any, out_by, add_by, flow_of, uses_of, plain_pass, mask_in, goes_on, is_either, passes, pass_by, pass_of, after_pass}
 
 pub low_bit : (m : ℕ) → m < 2 ^ 32 → m ≢ 0 → bit (low m) m ≡ true
 low_bit m h z = let i = least 32 m h z in rw (mod-eq_of_lt i.0) i.1
@@ -28,56 +27,6 @@ low_bit m h z = let i = least 32 m h z in rw (mod-eq_of_lt i.0) i.1
 pub or_false : (a : Bool) → a || false ≡ a
 or_false true = refl
 or_false false = refl
-
-any_append : (us vs : List ℕ) (i : ℕ) → any_of us i || any_of vs i ≡ any_of (us ++ vs) i
-any_append [] vs i = refl
-any_append (u ∷ us) vs i = rw (← any_append us vs i) (assoc (bit (u % 32) i))
-  where
-    assoc : (a : Bool) → (a || any_of us i) || any_of vs i ≡ a || (any_of us i || any_of vs i)
-    assoc true = refl
-    assoc false = refl
-
-pub both_dirty : (a b : Operand) (i : ℕ) (x y : Bool) {r : Bool} → x ≡ any_of (operand_uses a) i → y ≡ any_of (operand_uses b) i → r ≡ x || y → r ≡ any_of (operand_uses a ++ operand_uses b) i
-both_dirty a b i x y e f g = rw (← any_append (operand_uses a) (operand_uses b) i, ← e, ← f) g
-
--- ---- arguments
-
-pub arg_yes : (i len k a : ℕ) (h : Bool) {r : ℕ} → k < len → h ≡ bit (a % 32) i → h ≡ true → r ≡ 2 ^ (k % 32) → r ≡ arg_bit i len k a
-unfolding arg_bit
-arg_yes i len k a h l e f g = rw (lt-ltb k len l, sym e ∙ f) g
-
-pub arg_clean : (i len k a : ℕ) (h : Bool) → h ≡ bit (a % 32) i → h ≡ false → 0 ≡ arg_bit i len k a
-unfolding arg_bit
-arg_clean i len k a h e f = rw (sym e ∙ f, and_false)
-  where
-    and_false : (x : Bool) → x && false ≡ false
-    and_false true = refl
-    and_false false = refl
-
-pub arg_none : (i len k a : ℕ) → len ≤ k → 0 ≡ arg_bit i len k a
-unfolding arg_bit
-arg_none i len k a l = rw (le-ltb k len l)
-
--- ---- sends
-
-pub sent_yes : (i q v : ℕ) (h : Bool) {r : ℕ} → h ≡ bit (v % 32) i → h ≡ true → r ≡ 2 ^ (q % 32) → r ≡ sent_bit i q v
-unfolding sent_bit
-sent_yes i q v h e f g = rw (sym e ∙ f) g
-
-pub sent_no : (i q v : ℕ) (h : Bool) → h ≡ bit (v % 32) i → h ≡ false → 0 ≡ sent_bit i q v
-unfolding sent_bit
-sent_no i q v h e f = rw (sym e ∙ f)
-
--- ---- flows
-
-pub setting_is : (v to i : ℕ) (d : Bool) (m o : ℕ) {r : Flow} → m ≡ 2 ^ (v % 32) → o ≡ after_set i d m → r ≡ one_flow to o 264 0 → r ≡ setting_flow v to i d
-setting_is v to i d m o e f g = rw (← e, ← f) g
-
-pub call_is : (q : ℕ) (xs : Args) (to i m : ℕ) {r : Flow} → m ≡ passed_bits i xs → r ≡ one_flow to i (256 + q % 8) m → r ≡ call_flow q xs to i
-call_is q xs to i m e g = rw (← e) g
-
-pub send_is : (q v to i m : ℕ) {r : Flow} → m ≡ sent_bit i q v → r ≡ one_flow to i 264 m → r ≡ send_flow q v to i
-send_is q v to i m e g = rw (← e) g
 
 -- ---- a node with one target
 
@@ -187,34 +136,3 @@ pass_low x n h = cases (passes x) (λ e. rw e (by_exit (parts x).exit (variable_
     by_exit (by m) none = omega arith
     by_exit (by m) (some v) = omega arith
     by_exit (either y z) s = omega arith
-
--- ---- a plain node
-
-pub plain_pass_lem : (x : Node) (n : ℕ) → is_plain x ≡ true → plain_pass (first_to n (parts x).exit) ≡ pass_of x n
-unfolding pass_of
-plain_pass_lem x n h = go (variable_set x) (parts x).exit (passes x) h
-  where
-    go : (s : Option ℕ) (e : Exit) (y : Bool) → is_none s && (not (is_either e) && y) ≡ true → plain_pass (first_to n e) ≡ pick y (pass_by e n s (uses x)) (plain_pass 32)
-    go none ends true h = refl
-    go none (by m) true h = refl
-    go none (either y z) w h = absurd (false≢true h)
-    go none ends false h = absurd (false≢true h)
-    go none (by m) false h = absurd (false≢true h)
-    go (some v) e y h = absurd (false≢true h)
-
-and_both : (a b : Bool) → a && b ≡ true → (a ≡ true) × (b ≡ true)
-and_both true b h = (refl, h)
-and_both false b h = absurd (false≢true h)
-
-pub plain_flow_lem : (x : Node) (n i b : ℕ) → is_plain x ≡ true → plain_flow (first_to n (parts x).exit) i ≡ flow_of x n i b
-unfolding flow_of
-plain_flow_lem x n i b h =
-    let p = and_both (is_none (variable_set x)) _ h in
-    let q = and_both (not (is_either (parts x).exit)) _ p.1 in
-    rw (on_adds i b (act x) (and_both (goes_on (act x)) _ q.1).0).0 (go (variable_set x) (parts x).exit p.0 q.0)
-  where
-    go : (s : Option ℕ) (e : Exit) → is_none s ≡ true → not (is_either e) ≡ true → plain_flow (first_to n e) i ≡ record { first = first_to n e; second = second_to n e; out = out_by e i (after_any s i (set_dirty x i b)); extra = 264; add = 0 }
-    go none ends h k = refl
-    go none (by m) h k = refl
-    go none (either y z) h k = absurd (false≢true k)
-    go (some v) e h k = absurd (false≢true h)

@@ -2,7 +2,7 @@
 
 #![tactic(auto)]
 
-ghost use Rattle.std.specs.Prelude.{◌≡◌, true, not, ◌||◌, ◌++◌, ◌<◌, ◌^◌, ◌%◌};
+ghost use Rattle.std.specs.Prelude.{◌≡◌, ◌++◌, ◌^◌, ◌%◌};
 ghost use Rattle.table.specs.Mask.{bit};
 ghost use Rattle.table.specs.Table.{operand_uses, parts};
 ghost use Rattle.flow.specs.Flow.{low, any_of, after_set, one_flow, plain_flow, setting_flow, test_flow, arg_bit, passed_bits, call_flow, sent_bit, send_flow, first_to, flow_of, uses_of, plain_pass, set_pass, pass_of, after_pass, kept_with};
@@ -21,24 +21,25 @@ pub struct Flow {
 }
 
 // Whether k is in m.
+#[tactic(auto, unfolding(table::specs::Mask::bit))]
 pub fn has(m: u32, k: u8) -> bool
     ensures { result ≡ bit (k % 32) m }
 {
-    (m >> ((k % 32) as u32)) % 2 == 1
+    (m >> (k % 32)) % 2 == 1
 }
 
 // The mask of k alone.
 fn only(k: u8) -> u32
     ensures { result ≡ 2 ^ (k % 32) }
 {
-    1 << ((k % 32) as u32)
+    1 << (k % 32)
 }
 
 // The one target of an open arc.
 pub fn target(to: u32) -> usize
     ensures { result ≡ low to }
 {
-    (u32::trailing_zeros(to) % 32) as usize
+    (to.trailing_zeros() % 32) as usize
 }
 
 fn operand_dirty(o: Operand, i: u32) -> bool
@@ -54,15 +55,7 @@ fn operand_dirty(o: Operand, i: u32) -> bool
 fn operands_dirty(a: Operand, b: Operand, i: u32) -> bool
     ensures { result ≡ any_of (operand_uses a ++ operand_uses b) i }
 {
-    let x = operand_dirty(a, i);
-    let y = operand_dirty(b, i);
-    either(x, y)
-}
-
-pub fn either(a: bool, b: bool) -> bool
-    ensures { result ≡ a || b }
-{
-    if a { true } else { b }
+    operand_dirty(a, i) || operand_dirty(b, i)
 }
 
 // The variables that are dirty after a node that sets the variable of m.
@@ -89,9 +82,7 @@ fn one_flow(to: u32, out: u32, extra: usize, add: u32) -> Flow
 fn setting_flow(v: u8, to: u32, i: u32, dirty: bool) -> Flow
     ensures { result ≡ setting_flow v to i dirty }
 {
-    let m = only(v);
-    let o = after_set(i, dirty, m);
-    one_flow(to, o, 264, 0)
+    one_flow(to, after_set(i, dirty, only(v)), 264, 0)
 }
 
 fn test_flow(yes: u32, no: u32, i: u32) -> Flow
@@ -109,17 +100,14 @@ fn test_flow(yes: u32, no: u32, i: u32) -> Flow
 }
 
 // The parameter k is dropped if the k-th of len arguments is dirty.
+#[tactic(auto, unfolding(crate::specs::Flow::arg_bit))]
 fn arg_bit(i: u32, len: u8, k: u8, a: u8) -> u32
     ensures { result ≡ arg_bit i len k a }
 {
-    if k < len {
-        if has(i, a) {
-            return only(k);
-        }
-    }
-    0
+    if k < len && has(i, a) { only(k) } else { 0 }
 }
 
+#[tactic(auto, unfolding(crate::specs::Flow::passed_bits))]
 fn passed_bits(i: u32, xs: Args) -> u32
     ensures { result ≡ passed_bits i xs }
 {
@@ -133,70 +121,41 @@ fn passed_bits(i: u32, xs: Args) -> u32
 fn call_flow(callee: u8, xs: Args, to: u32, i: u32) -> Flow
     ensures { result ≡ call_flow callee xs to i }
 {
-    let m = passed_bits(i, xs);
-    let k = (callee % 8) as usize;
-    one_flow(to, i, 256 + k, m)
+    one_flow(to, i, 256 + (callee % 8) as usize, passed_bits(i, xs))
 }
 
 // The queue q is blank if the variable v is dirty.
+#[tactic(auto, unfolding(crate::specs::Flow::sent_bit))]
 fn sent_bit(i: u32, q: u8, v: u8) -> u32
     ensures { result ≡ sent_bit i q v }
 {
-    if has(i, v) {
-        return only(q);
-    }
-    0
+    if has(i, v) { only(q) } else { 0 }
 }
 
 fn send_flow(q: u8, v: u8, to: u32, i: u32) -> Flow
     ensures { result ≡ send_flow q v to i }
 {
-    let m = sent_bit(i, q, v);
-    one_flow(to, i, 264, m)
+    one_flow(to, i, 264, sent_bit(i, q, v))
 }
 
 // The first target of a node; one without an arc, at place n, stays where it is.
+#[tactic(auto, unfolding(table::specs::Table::parts))]
 pub fn first_of(x: Node, n: usize) -> usize
     ensures { result ≡ first_to n (parts x).exit }
 {
     match x {
-        Node::Absent => n,
-        Node::Start { to } => target(to),
-        Node::Set {
-            var: _,
-            op: _,
-            a: _,
-            b: _,
-            to,
-        } => target(to),
-        Node::Test {
-            op: _,
-            a: _,
-            b: _,
-            yes,
-            no: _,
-        } => target(yes),
-        Node::Read { var: _, to } => target(to),
-        Node::Call {
-            callee: _,
-            args: _,
-            to,
-        } => target(to),
-        Node::Wait { sem: _, to } => target(to),
-        Node::Signal { sem: _, to } => target(to),
-        Node::Send {
-            queue: _,
-            var: _,
-            to,
-        } => target(to),
-        Node::Recv {
-            queue: _,
-            var: _,
-            to,
-        } => target(to),
-        Node::Assert { var: _, to } => target(to),
-        Node::Out { var: _, to } => target(to),
-        Node::Return => n,
+        Node::Absent | Node::Return => n,
+        Node::Test { yes, .. } => target(yes),
+        Node::Start { to }
+        | Node::Set { to, .. }
+        | Node::Read { to, .. }
+        | Node::Call { to, .. }
+        | Node::Wait { to, .. }
+        | Node::Signal { to, .. }
+        | Node::Send { to, .. }
+        | Node::Recv { to, .. }
+        | Node::Assert { to, .. }
+        | Node::Out { to, .. } => target(to),
     }
 }
 
@@ -214,27 +173,22 @@ fn plain_flow(k: usize, i: u32) -> Flow
 }
 
 // The node x at place n. i: the variables that are dirty before it; b: the blank queues.
+#[tactic(auto, unfolding(table::specs::Table::parts, crate::specs::Flow::flow_of))]
 pub fn flow_of(x: Node, n: usize, i: u32, b: u32) -> Flow
     ensures { result ≡ flow_of x n i b }
 {
     match x {
         Node::Set {
             var,
-            op: _,
             a,
             b: c,
             to,
+            ..
         } => {
             let dirty = operands_dirty(a, c, i);
             setting_flow(var, to, i, dirty)
         }
-        Node::Test {
-            op: _,
-            a: _,
-            b: _,
-            yes,
-            no,
-        } => test_flow(yes, no, i),
+        Node::Test { yes, no, .. } => test_flow(yes, no, i),
         Node::Read { var, to } => setting_flow(var, to, i, true),
         Node::Call { callee, args, to } => call_flow(callee, args, to, i),
         Node::Send { queue, var, to } => send_flow(queue, var, to, i),
@@ -242,10 +196,7 @@ pub fn flow_of(x: Node, n: usize, i: u32, b: u32) -> Flow
             let blank = has(b, queue);
             setting_flow(var, to, i, blank)
         }
-        _ => {
-            let k = first_of(x, n);
-            plain_flow(k, i)
-        }
+        _ => plain_flow(first_of(x, n), i),
     }
 }
 
@@ -279,59 +230,32 @@ fn plain_pass(to: usize) -> Pass
     }
 }
 
+#[tactic(auto, using(crate::specs::FlowLaws::mask_both))]
 fn set_pass(var: u8, a: Operand, b: Operand, to: u32) -> Pass
     ensures { result ≡ set_pass var a b to }
 {
     let x = operand_uses(a);
     let y = operand_uses(b);
-    let m = only(var);
-    let k = target(to);
     Pass {
         uses: x | y,
-        sets: m,
-        to: k,
+        sets: only(var),
+        to: target(to),
     }
 }
 
 // The node x at place n.
+#[tactic(auto, unfolding(table::specs::Table::parts, crate::specs::Flow::pass_of))]
 pub fn pass_of(x: Node, n: usize) -> Pass
     ensures { result ≡ pass_of x n }
 {
     match x {
-        Node::Set {
-            var,
-            op: _,
-            a,
-            b,
-            to,
-        } => set_pass(var, a, b, to),
-        Node::Test {
-            op: _,
-            a: _,
-            b: _,
-            yes: _,
-            no: _,
-        } => plain_pass(32),
-        Node::Read { var: _, to: _ } => plain_pass(32),
-        Node::Call {
-            callee: _,
-            args: _,
-            to: _,
-        } => plain_pass(32),
-        Node::Send {
-            queue: _,
-            var: _,
-            to: _,
-        } => plain_pass(32),
-        Node::Recv {
-            queue: _,
-            var: _,
-            to: _,
-        } => plain_pass(32),
-        _ => {
-            let k = first_of(x, n);
-            plain_pass(k)
-        }
+        Node::Set { var, a, b, to, .. } => set_pass(var, a, b, to),
+        Node::Test { .. }
+        | Node::Read { .. }
+        | Node::Call { .. }
+        | Node::Send { .. }
+        | Node::Recv { .. } => plain_pass(32),
+        _ => plain_pass(first_of(x, n)),
     }
 }
 
@@ -342,34 +266,14 @@ pub fn after_pass(s: Pass, i: u32) -> u32
     after_set(i, i & s.uses != 0, s.sets)
 }
 
-// Whether a `set` or a `test` has no dirty use.
-fn operands_clean(a: Operand, b: Operand, i: u32) -> bool
-    ensures { result ≡ not (any_of (operand_uses a ++ operand_uses b) i) }
-{
-    !operands_dirty(a, b, i)
-}
-
 // Whether the node is kept. i: the variables that are dirty before it.
+#[tactic(auto, unfolding(table::specs::Table::parts))]
 pub fn kept_node(x: Node, i: u32) -> bool
     ensures { result ≡ kept_with x i }
 {
     match x {
-        Node::Absent => false,
-        Node::Set {
-            var: _,
-            op: _,
-            a,
-            b,
-            to: _,
-        } => operands_clean(a, b, i),
-        Node::Test {
-            op: _,
-            a,
-            b,
-            yes: _,
-            no: _,
-        } => operands_clean(a, b, i),
-        Node::Read { var: _, to: _ } => false,
+        Node::Absent | Node::Read { .. } => false,
+        Node::Set { a, b, .. } | Node::Test { a, b, .. } => !operands_dirty(a, b, i),
         _ => true,
     }
 }

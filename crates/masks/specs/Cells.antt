@@ -21,6 +21,10 @@ sum (x ∷ l) = x + sum l
 unfoldable pub grown : List ℕ → ℕ → ℕ → List ℕ
 grown l a m = set l a (bit_or (cell l a) m)
 
+-- whether m has something that the cell a has not
+abbrev pub is_new : List ℕ → ℕ → ℕ → Bool
+is_new l a m = not (eqb (bit_or (cell l a) m) (cell l a))
+
 pub sum_set : (l : List ℕ) (a v : ℕ) → a < length l → sum (set l a v) + cell l a ≡ sum l + v
 unfolding sum
 sum_set [] a v h = absurd (omega arith)
@@ -62,7 +66,7 @@ pub record Flag (l l' : List ℕ) (new : Bool) : Type 0 where
   pub same : new ≡ false → l' ≡ l
 
 -- the flag as code computes it
-pub grown_flag : (l : List ℕ) (a m : ℕ) → a < length l → Flag l (grown l a m) (not (eqb (bit_or (cell l a) m) (cell l a)))
+pub grown_flag : (l : List ℕ) (a m : ℕ) → a < length l → Flag l (grown l a m) (is_new l a m)
 unfolding grown
 grown_flag l a m i = record { grows = grown_grows l a m; more = more; same = same }
   where

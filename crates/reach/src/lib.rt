@@ -9,23 +9,11 @@ ghost use Rattle.masks.specs.Bits.{without};
 ghost use Rattle.masks.specs.Cells.{grown, Flag};
 ghost use Rattle.reach.specs.Reach.{joined, noted, Own, Gone, last_of, Reaches};
 
-// The mask m is added to the cell a; the answer says whether something was new.
-fn grow(cells: &mut [u32; 32], a: usize, m: u32) -> bool
-    requires { (a < 32) × (length cells.old ≡ 32) }
-    ensures list { cells.new ≡ grown cells.old a m }
-    ensures flag { Flag cells.old cells.new result }
-{
-    let old = cells[a];
-    let new = old | m;
-    cells[a] = new;
-    new != old
-}
-
 // The first of the two targets of a node.
 fn first(e: u32) -> usize
     ensures { result ≡ e / 32 % 32 }
 {
-    ((e / 32) % 32) as usize
+    (e / 32 % 32) as usize
 }
 
 // The second.
@@ -37,15 +25,14 @@ fn second(e: u32) -> usize
 
 // A node that is not kept reaches what its two targets reach.
 fn step(ends: &[u32; 32], i: usize, cells: &mut [u32; 32]) -> bool
-    requires { (i < 32) × (length cells.old ≡ 32) }
+    requires { i < 32 }
     ensures list { cells.new ≡ joined ends.now cells.old i }
     ensures flag { Flag cells.old cells.new result }
 {
-    let e = ends[i];
-    let f = first(e);
-    let s = second(e);
+    let f = first(ends[i]);
+    let s = second(ends[i]);
     let m = cells[f] | cells[s];
-    grow(cells, i, m)
+    masks::grow(cells, i, m)
 }
 
 // Before the first step: a kept node reaches itself.
@@ -53,32 +40,26 @@ fn own(kept: u32) -> [u32; 32]
     ensures { Own kept result }
 {
     let mut cells = [0u32; 32];
-    let mut i: usize = 0;
-    while i < 32 {
-        cells[i] = kept & (1 << (i as u32));
-        i += 1;
+    for (i, cell) in cells.iter_mut().enumerate() {
+        *cell = kept & (1 << i);
     }
     cells
 }
 
 // Node n is noted at its two targets.
 fn note(ends: &[u32; 32], n: usize, from: &mut [u32; 32])
-    requires { (n < 32) × (length from.old ≡ 32) }
+    requires { n < 32 }
     ensures { from.new ≡ noted ends.now from.old n }
 {
-    let e = ends[n];
-    let f = first(e);
-    let s = second(e);
-    let m = 1 << (n as u32);
-    grow(from, f, m);
-    grow(from, s, m);
+    masks::grow(from, first(ends[n]), 1 << n);
+    masks::grow(from, second(ends[n]), 1 << n);
 }
 
 // The last of the nodes m, if it has one.
 fn last(m: u32) -> usize
     ensures { result ≡ last_of m }
 {
-    (31 - u32::leading_zeros(m) % 32) as usize
+    (31 - m.leading_zeros() % 32) as usize
 }
 
 // What is to be seen after node i: those of m, too, if something was new there.
@@ -104,16 +85,14 @@ pub fn reach(kept: u32, gone: u32, ends: &[u32; 32]) -> [u32; 32]
     while left != 0 {
         let n = last(left);
         let again = step(ends, n, &mut cells);
-        let k = from[n];
-        todo = next(todo, n, again, k);
+        todo = next(todo, n, again, from[n]);
         note(ends, n, &mut from);
         left = masks::minus(left, n);
     }
     while todo != 0 {
         let i = last(todo);
         let fresh = step(ends, i, &mut cells);
-        let m = from[i];
-        todo = next(todo, i, fresh, m);
+        todo = next(todo, i, fresh, from[i]);
     }
     cells
 }

@@ -11,47 +11,23 @@ ghost use Rattle.reached.specs.Reached.{is_reached, target_mask, waiting};
 use table::{Node, Proc};
 
 // The targets of all arcs of a node.
+#[tactic(auto, unfolding(table::specs::Table::parts))]
 fn targets(x: Node) -> u32
     ensures { result ≡ target_mask (parts x).exit }
 {
     match x {
-        Node::Absent => 0,
-        Node::Start { to } => to,
-        Node::Set {
-            var: _,
-            op: _,
-            a: _,
-            b: _,
-            to,
-        } => to,
-        Node::Test {
-            op: _,
-            a: _,
-            b: _,
-            yes,
-            no,
-        } => yes | no,
-        Node::Read { var: _, to } => to,
-        Node::Call {
-            callee: _,
-            args: _,
-            to: behind,
-        } => behind,
-        Node::Wait { sem: _, to } => to,
-        Node::Signal { sem: _, to } => to,
-        Node::Send {
-            queue: _,
-            var: _,
-            to,
-        } => to,
-        Node::Recv {
-            queue: _,
-            var: _,
-            to,
-        } => to,
-        Node::Assert { var: _, to } => to,
-        Node::Out { var: _, to } => to,
-        Node::Return => 0,
+        Node::Absent | Node::Return => 0,
+        Node::Test { yes, no, .. } => yes | no,
+        Node::Start { to }
+        | Node::Set { to, .. }
+        | Node::Read { to, .. }
+        | Node::Call { to, .. }
+        | Node::Wait { to, .. }
+        | Node::Signal { to, .. }
+        | Node::Send { to, .. }
+        | Node::Recv { to, .. }
+        | Node::Assert { to, .. }
+        | Node::Out { to, .. } => to,
     }
 }
 
@@ -59,7 +35,7 @@ fn targets(x: Node) -> u32
 fn next(seen: u32, done: u32) -> usize
     ensures { result ≡ count_trailing_zeros 32 (waiting seen done) % 32 }
 {
-    (u32::trailing_zeros(seen ^ (seen & done)) % 32) as usize
+    ((seen ^ (seen & done)).trailing_zeros() % 32) as usize
 }
 
 // The nodes that are reached, as a mask. Of the nodes seen so far, those in done have had their arcs followed.
@@ -70,10 +46,7 @@ pub fn nodes(q: Proc) -> u32
     let mut done: u32 = 0;
     while done != seen {
         let n = next(seen, done);
-        let s = q.slots[n];
-        let x = s.node;
-        let m = targets(x);
-        seen = seen | m;
+        seen |= targets(q.slots[n].node);
         done = masks::with(done, n, true);
     }
     seen

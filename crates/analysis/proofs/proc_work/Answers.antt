@@ -1,30 +1,31 @@
-use Rattle.analysis.specs.Todo.{leads_low}
+use Rattle.analysis.specs.Todo.{leads_low, leads_below}
 use Rattle.analysis.specs.Work.{along_start, along_end, going_end}
 use Rattle.analysis.specs.WorklistLaws.{seen_less, seen_along, toward_lowest, toward_along, toward_end, toward_done}
 use Rattle.analysis.proofs.proc_work.Goals as goal
 
-pub loop-on-init : goal.loop-on-init
-loop-on-init c = let h = c.loop-todo in
+pub loop-next-init : goal.loop-next-init
+loop-next-init c = let h = c.loop-todo in
     let z = c.loop-todo-test.true in
-    (along_start _ _ h.invariant.0.masks h.invariant.0.todo (leads_low c.args.p h.todo h.invariant.0.todo z c.target-n.ensures), toward_lowest _ _ _ _ z c.target-n.ensures)
+    let d = leads_low c.args.p h.todo h.invariant.going.todo z c.target.ensures in
+    record { low = d.low; along = along_start _ _ h.invariant.going.masks h.invariant.going.todo d; toward = toward_lowest _ _ _ _ z c.target.ensures }
+
+pub loop-next-smaller : goal.loop-next-smaller
+loop-next-smaller c = let b = c.requires in
+    let f = c.visit-next.ensures in
+    seen_less c.in-Some.n b.0 b.1.1.1.0 c.loop-next.invariant.along c.in-Some.is c.take.ensures f.list f.todo
+
+pub loop-next-preserved : goal.loop-next-preserved
+loop-next-preserved c = let b = c.requires in
+    let h = c.loop-next.invariant in
+    let t = c.take.ensures in
+    let f = c.visit-next.ensures in
+    let a = seen_along c.in-Some.n b.0 b.1.1.1.0 h.along c.in-Some.is t f.list f.todo f.next in
+    record { low = leads_below a.leads; along = a; toward = toward_along c.in-Some.n h.toward c.in-Some.is t f.list f.todo f.next }
 
 pub loop-todo-preserved : goal.loop-todo-preserved
 loop-todo-preserved c = let h = c.loop-todo.invariant in
-    let e = c.loop-on-test.false in
-    (along_end h.0 c.loop-on.invariant.0 e, toward_end h.1 c.loop-on.invariant.1 e)
-
-pub loop-on-smaller : goal.loop-on-smaller
-loop-on-smaller c = let b = c.requires in
-    let h = c.loop-on in
-    seen_less h.n b.0 b.1.1.1.0 h.invariant.0 c.loop-on-test.true c.take.ensures c.visit-f.ensures.list c.visit-f.ensures.todo
-
-pub loop-on-preserved : goal.loop-on-preserved
-loop-on-preserved c = let b = c.requires in
-    let h = c.loop-on in
-    let z = c.loop-on-test.true in
-    let t = c.take.ensures in
-    let f = c.visit-f.ensures in
-    (seen_along h.n b.0 b.1.1.1.0 h.invariant.0 z t f.list f.todo f.next, toward_along h.n h.invariant.1 z t f.list f.todo f.next)
+    let e = c.in_default.is in
+    record { going = along_end h.going c.loop-next.invariant.along e; toward = toward_end h.toward c.loop-next.invariant.toward e }
 
 pub returns : goal.returns
-returns c = let h = c.loop-todo.invariant in record { seen = toward_done h.1 c.loop-todo-test.false; works = going_end h.0 c.loop-todo-test.false }
+returns c = let h = c.loop-todo.invariant in record { seen = toward_done h.toward c.loop-todo-test.false; works = going_end h.going c.loop-todo-test.false }

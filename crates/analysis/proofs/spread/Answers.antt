@@ -1,3 +1,4 @@
+use Rattle.std.proofs.Common.{◌∙◌}
 use Rattle.analysis.specs.StepLaws.{places, step_is}
 use Rattle.analysis.specs.WorklistLaws.{reached_sized, todo_is, next_is}
 use Rattle.analysis.proofs.spread.Goals as goal
@@ -25,5 +26,5 @@ returns c = let b = c.args in
     record {
       list = step_is _ _ _ _ b.p _ _ _ f e.list d.list c.pass_on.ensures.list;
       todo = todo_is b.recvs.now _ _ _ _ _ _ _ b.p _ _ _ f e.list d.list e.todo d.todo c.pass_on.ensures.todo;
-      next = next_is b.cells.now _ b.p _ _ _ f e.new;
+      next = c.then_some.ensures ∙ next_is b.cells.now _ b.p _ _ _ f e.new;
     }
