@@ -6,6 +6,7 @@ use Rattle.std.proofs.Math.Bool.{true, false}
 use Rattle.std.proofs.Math.Option.{Option, none, some}
 use Rattle.std.proofs.Math.ListN.{get_or-append, get_or-eq_default}
 use Rattle.std.proofs.Math.Seq.{get_or-append_seam}
+use Rattle.std.specs.Bool.{then_some}
 use borrow.Author.Tests.{lt-ltb, le-ltb, ne_eqb, eq-eqb}
 use Rattle.table.specs.Cases.{cases}
 use Rattle.table.specs.Mask.{pick}
@@ -27,13 +28,9 @@ use Rattle.lists.specs.Passing.{argument_for, argument_of, ending, argument_from
 
 -- ---- one variable
 module _ (c : Bool) (n : ℕ) (w : List ℕ) {x : Bool} (p : x ≡ same (bytes "-") w) where
-  pub argument_removed : x ≡ true → c ≡ true → Some (Some 255) ≡ argument_of c n w
+  pub argument_dash : {r : Maybe (Maybe ℕ)} → x ≡ true → r ≡ then_some c (Some 255) → r ≡ argument_of c n w
   unfolding argument_of
-  argument_removed h k = rw (← p, h, k)
-
-  pub argument_open : x ≡ true → c ≡ false → None ≡ argument_of c n w
-  unfolding argument_of
-  argument_open h k = rw (← p, h, k)
+  argument_dash h q = rw (q, ← p, h) (cases c (λ e. rw e) (λ e. rw e))
 
   module _ (h : x ≡ false) where
     pub argument_bad : None ≡ number_of w → None ≡ argument_of c n w
