@@ -1,11 +1,11 @@
 -- Laws of a list's items: each says what a step of the code shows.
-use Rattle.std.specs.Prelude.{ℕ, suc, ◌+◌, ◌-◌, ◌*◌, ◌%◌, ◌^◌, ◌≤◌, ◌<◌, ◌≡◌, refl, Bool, true, false, ◌&&◌, List, [], ◌∷◌, ltb, leb, eqb, length, take, drop, Option, Some, None, Ok, Err, ok_or, cond}
-use Rattle.std.proofs.Common.{sym, ◌∙◌, arith, one-mul, shl_exact, length-drop, drop-drop, take_all, ltb-false}
+use Rattle.std.specs.Prelude.{ℕ, suc, ◌+◌, ◌-◌, ◌^◌, ◌≤◌, ◌<◌, ◌≡◌, refl, Bool, true, false, ◌&&◌, List, [], ◌∷◌, ltb, leb, eqb, length, take, drop, Option, Some, None, Ok, Err, ok_or, cond}
+use Rattle.std.proofs.Common.{sym, ◌∙◌, arith, length-drop, drop-drop, take_all, ltb-false}
 use Rattle.std.proofs.Math.Option.{none}
 use Rattle.std.specs.List.{position_or_len}
 use Rattle.std.proofs.lemmas.List.Recursion.{is_position_or_len}
 use Rattle.std.proofs.lemmas.Option.{same_Some}
-use borrow.Author.Tests.{lt-ltb, le-ltb, le-leb, lt-leb}
+use borrow.Author.Tests.{lt-ltb, le-ltb}
 use Rattle.table.specs.Cases.{cases}
 use Rattle.table.specs.Mask.{pick}
 use Rattle.text.specs.declared.Fault.{Fault}
@@ -86,17 +86,6 @@ comma_split {t} {from} {to} c =
         (λ l. le-ltb (to - from) (length (drop from t)) (simp length-drop (omega (arith, c.from_on, c.within))) ∙ sym (le-ltb to (length t) l))
 
 -- ---- a number's bit
-pub bit_low : (lo n v : ℕ) → v < lo → 0 ≡ bit_of lo n v
-bit_low lo n v h = rw (lt-leb lo v h)
-
-pub bit_high : (lo n v : ℕ) → lo ≤ v → n ≤ v → 0 ≡ bit_of lo n v
-bit_high lo n v h k = rw (le-leb lo v h, le-ltb v n k)
-
-pub bit_is : (lo n v : ℕ) → n ≤ 32 → lo ≤ v → v < n → (1 * 2 ^ v) % 4294967296 ≡ bit_of lo n v
-bit_is lo n v u h k =
-    let e : (1 * 2 ^ v) % 2 ^ 32 ≡ 1 * 2 ^ v = shl_exact 1 v 32 (omega arith) (omega arith) in
-    e ∙ one-mul (2 ^ v) ∙ rw (le-leb lo v h, lt-ltb v n k)
-
 -- a number that is capped is as far outside as it is
 pub bit_capped : (lo n x v : ℕ) → capped x ≡ v → n ≤ 32 → bit_of lo n v ≡ bit_of lo n x
 bit_capped lo n x v c u =

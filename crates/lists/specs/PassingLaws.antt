@@ -111,9 +111,6 @@ argument_read c n t from q h = rw q (go c (next_comma t from) (comma_here t from
     go c to m (some (some v)) e = is c m (pick (ltb v n) (Some v) None) (record { name = some v; says = e; allowed = or_true c; known = refl })
 
 -- ---- one variable more
-pub pushed_first : (a : Args) (v : ℕ) {l : ℕ} → l ≡ min a.len 4 + 1 → a.len ≡ 0 → record { len = l; a0 = v; a1 = a.a1; a2 = a.a2; a3 = a.a3 } ≡ pushed_of a v
-pushed_first a v i h = rw (i, h)
-
 -- one place of one variable more
 place_is : (xs : List (Option ℕ)) (y : Option ℕ) (i : ℕ) → i < 5 → pick (eqb (min (length xs) 5) i) (variable_of y) (arg_of xs i) ≡ arg_of (xs ++ (y ∷ [])) i
 place_is xs y i h =
