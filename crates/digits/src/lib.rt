@@ -25,8 +25,8 @@ fn push(v: u64, b: u8) -> u64
     requires { (v ≤ 4294967296) × (48 ≤ b) × (b ≤ 57) }
     ensures { result ≡ capped (v * 10 + (b - 48)) }
 {
-    let w = v * 10 + ((b - b'0') as u64);
-    if 4294967296 < w { 4294967296 } else { w }
+    let w = v * 10 + u64::from(b - b'0');
+    w.min(4294967296)
 }
 
 // The number that digits say, or 2^32 for any that is larger.
@@ -67,7 +67,7 @@ fn joined(a: u8, b: u8, c: u8, d: u8) -> u64
     requires { (a ≤ 9) × (b ≤ 9) × (c ≤ 9) × (d ≤ 9) }
     ensures { result ≡ a * 1000 + b * 100 + c * 10 + d }
 {
-    (a as u64) * 1000 + (b as u64) * 100 + (c as u64) * 10 + (d as u64)
+    u64::from(a) * 1000 + u64::from(b) * 100 + u64::from(c) * 10 + u64::from(d)
 }
 
 // Four digits more, if there are four. All are read before one is judged, so that they can be judged at once.
@@ -122,7 +122,7 @@ pub fn digits_at(s: &[u8], at: usize) -> Lead
         if 429496729 <= v {
             return further_digits(s, i, v);
         }
-        v = v * 10 + (d as u64);
+        v = v * 10 + u64::from(d);
     }
     Lead {
         value: v,

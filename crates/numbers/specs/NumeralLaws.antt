@@ -1,6 +1,7 @@
 -- Laws of the number that a value spells: each says what a step of the code shows.
-use Rattle.std.specs.Prelude.{ℕ, suc, ◌+◌, ◌-◌, ◌*◌, ◌≤◌, ◌<◌, ◌≡◌, ◌⊎◌, Bool, false, Option, Some, None, Ok, Err, List, [], ◌∷◌, length, take, drop, leb, eqb}
+use Rattle.std.specs.Prelude.{ℕ, suc, ◌+◌, ◌-◌, ◌*◌, ◌≤◌, ◌<◌, ◌≡◌, ◌⊎◌, Bool, false, Option, Some, None, Result, Ok, Err, List, [], ◌∷◌, length, take, drop, leb, eqb}
 use Rattle.std.proofs.Math.Path.{refl, sym, ap}
+use Rattle.std.specs.Option.{ok_or}
 use Rattle.std.proofs.lemmas.Option.{same_Some, some_pair_parts}
 use Rattle.std.proofs.Math.Logic.{inl, inr}
 use Rattle.std.proofs.Common.{◌∙◌, length-drop, drop-cons, get_or-take, get_or-drop, length-take-le, add-zero, add-one, Fits}
@@ -9,7 +10,8 @@ use native.Mathlib.Omega.{arith}
 use Rattle.std.proofs.Math.ListN.{get_or}
 use Rattle.std.specs.Int.{w64}
 use borrow.Author.Tests.{le-leb, lt-leb, leb-true, eq-eqb, ne_eqb, eqb-true}
-use Rattle.text.specs.declared.Fault.TheVariants.{Misspelt, Ended}
+use Rattle.text.specs.declared.Fault.{Fault}
+use Rattle.text.specs.declared.Fault.TheVariants.{Misspelt}
 use Rattle.text.proofs.NumberLaws.{digit_fact, spelt_all}
 use Rattle.text.specs.Number.{is_digit, all_digits, spelt, value, value_from}
 use Rattle.text.specs.Line.{stops}
@@ -18,9 +20,9 @@ use Rattle.digits.specs.Read.{digit_of, capped, digits_of, number_of, lead_of}
 use Rattle.digits.specs.LeadLaws.{digit_plus, digit_yes, digit_no, lead_at}
 use Rattle.digits.specs.ReadLaws.{number_none, number_zero, number_digits}
 use Rattle.digits.specs.NumeralLaws.{pick_good}
-use Rattle.scan.specs.Place.{RunEnd}
+use Rattle.scan.specs.Place.{RunEnd, ValueAt}
 use Rattle.numbers.specs.Numerals.{DigitsTo, NumeralTo, NumeralAt, short_of, before_space, short_value_of}
-use Rattle.scan.specs.PlaceLaws.{running_start, running_digits, run_stops}
+use Rattle.scan.specs.PlaceLaws.{running_start, running_digits, run_stops, value_run, value_broken}
 use Rattle.table.specs.Cases.{cases}
 
 -- digits up to the end of a value
@@ -59,16 +61,23 @@ module _ {s : List ℕ} {at e v : ℕ} (m : DigitsTo s at e v) where
       go l (inl k) = inl (first l ∙ k.0, omega (arith, sized, k.1))
       go l (inr k) = inr (λ q. k (sym (first l) ∙ q))
 
-module _ {s : List ℕ} {at e : ℕ} (m : RunEnd s at e) where
-  pub any_over : length s ≤ e → NumeralAt s at (Err Ended)
-  any_over h = record { is = inr (refl, (e, m, h)) }
+-- any value
+pub any_ended : {s : List ℕ} {at : ℕ} {f : Fault} → ValueAt s at (Err f) → at ≤ length s → NumeralAt s at (Err f)
+any_ended {s} m h = let z = value_broken h m in record { is = inr (z.0, (length s, z.1, omega arith)) }
 
-  module _ (h : e < length s) where
-    pub any_bad : None ≡ number_of (take (e - at) (drop at s)) → NumeralAt s at (Err Misspelt)
-    any_bad q = record { is = inl (refl, (e, record { run = m; inside = h; same = q })) }
+module _ {s : List ℕ} {at b e : ℕ} (m : ValueAt s at (Ok (b, e))) where
+  whole : (w : Option ℕ) → w ≡ number_of (take (e - b) (drop b s)) → NumeralTo s at e w
+  whole w q = let z = value_run m in record { run = z.1; inside = m.within.1; same = rw z.0 at q }
 
-    pub any_is : {v : ℕ} → Some v ≡ number_of (take (e - at) (drop at s)) → NumeralAt s at (Ok (v, e))
-    any_is q = record { is = record { run = m; inside = h; same = q } }
+  module _ {w : Option ℕ} (q : w ≡ number_of (take (e - b) (drop b s))) where
+    pub any_misspelt : {f : Fault} → w ≡ None → ◌≡◌ {A = Result ℕ Fault} (Err f) (ok_or w Misspelt) → NumeralAt s at (Err f)
+    any_misspelt {f} n k =
+        let z : ◌≡◌ {A = Result ℕ Fault} (Err f) (Err Misspelt) = rw n at k in
+        let g : f ≡ Misspelt = cc in
+        record { is = inl (g, (e, whole None (sym n ∙ q))) }
+
+    pub any_is : {v : ℕ} → w ≡ Some v → NumeralAt s at (Ok (v, e))
+    any_is {v} n = record { is = whole (Some v) (sym n ∙ q) }
 
 -- ---- one or two digits
 module _ (u : List ℕ) (at : ℕ) where

@@ -1,10 +1,10 @@
 -- What the readers of numbers answer at a place.
-use Rattle.std.specs.Prelude.{ℕ, ◌+◌, ◌-◌, ◌*◌, ◌≤◌, ◌<◌, ◌≡◌, ◌⊎◌, cond, List, Option, Some, None, Result, Ok, Err, leb, eqb, length, take, drop, get_or}
+use Rattle.std.specs.Prelude.{ℕ, ◌+◌, ◌-◌, ◌*◌, ◌≤◌, ◌<◌, ◌≡◌, ◌⊎◌, cond, List, Option, Some, None, Ok, Err, leb, eqb, length, take, drop, get_or}
 use Rattle.text.specs.declared.Fault.{Fault}
 use Rattle.text.specs.declared.Fault.TheVariants.{Misspelt, Ended}
 use Rattle.text.specs.Number.{is_digit}
 use Rattle.digits.specs.Read.{digits_of, number_of}
-use Rattle.scan.specs.Place.{RunEnd}
+use Rattle.scan.specs.Place.{Answer, RunEnd}
 
 -- ---- the number that a value spells
 
@@ -23,11 +23,11 @@ pub record NumeralTo (s : List ℕ) (at e : ℕ) (w : Option ℕ) : Type 0 where
 abbrev pub NumeralFault : List ℕ → ℕ → Fault → Type 0
 NumeralFault s at f = ((f ≡ Misspelt) × ((e : ℕ) × NumeralTo s at e None)) ⊎ ((f ≡ Ended) × ((e : ℕ) × RunEnd s at e × (length s ≤ e)))
 
-abbrev pub NumeralIs : List ℕ → ℕ → Result (ℕ × ℕ) Fault → Type 0
+abbrev pub NumeralIs : List ℕ → ℕ → Answer ℕ → Type 0
 NumeralIs s at (Ok p) = NumeralTo s at p.1 (Some p.0)
 NumeralIs s at (Err f) = NumeralFault s at f
 
-pub record NumeralAt (s : List ℕ) (at : ℕ) (r : Result (ℕ × ℕ) Fault) : Type 0 where
+pub record NumeralAt (s : List ℕ) (at : ℕ) (r : Answer ℕ) : Type 0 where
   pub is : NumeralIs s at r
 
 -- ---- numbers of one or two digits

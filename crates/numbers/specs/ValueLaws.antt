@@ -1,5 +1,5 @@
 -- Laws of the readers of values: each says what a step of the code shows.
-use Rattle.std.specs.Prelude.{ℕ, ◌-◌, ◌≤◌, ◌<◌, ◌≡◌, refl, Option, Some, None, Result, Ok, Err, List, Bool, true, false, ◌&&◌, ◌⊎◌, ltb, leb, length, take, drop}
+use Rattle.std.specs.Prelude.{ℕ, ◌-◌, ◌≤◌, ◌<◌, ◌≡◌, refl, Option, Some, None, Ok, Err, List, Bool, true, false, ◌&&◌, ◌⊎◌, ltb, leb, length, take, drop}
 use Rattle.std.proofs.Common.{◌∙◌, inl, inr, arith}
 use borrow.Author.Tests.{lt-ltb, le-ltb, le-leb, lt-leb}
 use Rattle.text.specs.declared.Fault.{Fault}
@@ -10,7 +10,7 @@ use Rattle.text.specs.Value.{number, said, unsaid, check}
 use Rattle.text.specs.Line.{Outcome, took, refused}
 use Rattle.digits.specs.Read.{number_of, capped}
 use Rattle.digits.specs.NumeralLaws.{spelt_bad, spelt_good}
-use Rattle.scan.specs.Place.{AfterKey, RunEnd}
+use Rattle.scan.specs.Place.{Answer, AfterKey, RunEnd}
 use Rattle.numbers.specs.Numerals.{NumeralFault, NumeralAt}
 use Rattle.scan.specs.PlaceLaws.{value_ends, value_over, field_found, field_refused}
 use Rattle.numbers.specs.Answer.{NumberEnds, NumberWithin, NumberSaid, within_of, NumberIn, NumberAt, mapped}
@@ -78,21 +78,21 @@ module _ (lo n : ℕ) (f : Fault) (v e : ℕ) where
       (λ k. rw (← is_low k) (number_low t e lo n f d refl u k))
       (λ k. by_order v n (λ g. rw (← is_good k g) (number_good t e lo n f d refl u k g)) (λ g. rw (← is_high g) (number_high t e lo n f d refl u g)))
 
-number_to : {s : List ℕ} {at lo n : ℕ} {f : Fault} {e : ℕ} {r : Result (ℕ × ℕ) Fault} → RunEnd s at e → e < length s
+number_to : {s : List ℕ} {at lo n : ℕ} {f : Fault} {e : ℕ} {r : Answer ℕ} → RunEnd s at e → e < length s
     → NumberSaid lo n f (take (e - at) (drop at s)) e r → NumberIn lo n f s at r
 number_to {s} {at} {lo} {n} {f} {e} {r} u h d =
     record { same = λ l. d.same l s ∙ (value_ends u h).same (number lo n f) l; within = reach r d.ends h }
   where
-    reach : (r : Result (ℕ × ℕ) Fault) → NumberEnds lo n e r → e < length s → NumberWithin lo n s r
+    reach : (r : Answer ℕ) → NumberEnds lo n e r → e < length s → NumberWithin lo n s r
     reach (Ok p) h g = (rw h.0 g, h.1, h.2)
     reach (Err f) h g = tt
 
 module _ {s : List ℕ} {at v e : ℕ} (m : NumeralAt s at (Ok (v, e))) where
-  pub number_wide : {lo n : ℕ} {f : Fault} {r : Result (ℕ × ℕ) Fault} → n ≤ 4294967296 → r ≡ within_of lo n f v e → NumberIn lo n f s at r
+  pub number_wide : {lo n : ℕ} {f : Fault} {r : Answer ℕ} → n ≤ 4294967296 → r ≡ within_of lo n f v e → NumberIn lo n f s at r
   number_wide {lo} {n} {f} u d = rw d (number_to m.is.run m.is.inside (within_said lo n f v e (take (e - at) (drop at s)) m.is.same u))
 
   -- a number of a byte
-  pub number_is : {lo n : ℕ} {f : Fault} {r : Result (ℕ × ℕ) Fault} → n ≤ 256 → r ≡ within_of lo n f v e → NumberIn lo n f s at r
+  pub number_is : {lo n : ℕ} {f : Fault} {r : Answer ℕ} → n ≤ 256 → r ≡ within_of lo n f v e → NumberIn lo n f s at r
   number_is u d = number_wide (omega arith) d
 
 module _ {s : List ℕ} {at : ℕ} {g : Fault} (m : NumeralAt s at (Err g)) where
@@ -104,7 +104,7 @@ module _ {s : List ℕ} {at : ℕ} {g : Fault} (m : NumeralAt s at (Err g)) wher
       go (inr i) = rw i.0 (record { same = λ l. (value_over i.1.1 i.1.2).same (number lo n f) l; within = tt })
 
 module _ {key s : List ℕ} {at b : ℕ} (m : AfterKey key s at (Ok b)) where
-  pub number_found : {lo n : ℕ} {f : Fault} {r : Result (ℕ × ℕ) Fault} → NumberIn lo n f s b r → NumberAt lo n f key s at r
+  pub number_found : {lo n : ℕ} {f : Fault} {r : Answer ℕ} → NumberIn lo n f s b r → NumberAt lo n f key s at r
   number_found {lo} {n} {f} u = record { same = λ l. u.same l ∙ field_found m (number lo n f) l; within = u.within }
 
 module _ {key s : List ℕ} {at : ℕ} {g : Fault} (m : AfterKey key s at (Err g)) where

@@ -27,13 +27,8 @@ fn any_numeral(s: &[u8], at: usize) -> Result<(u64, usize), Fault>
     requires { at ≤ length s.now }
     ensures { NumeralAt s.now at result }
 {
-    let e = scan::run(s, at);
-    if s.len() <= e {
-        return Err(Fault::Ended);
-    }
-    let Some(v) = digits::number(&s[at..e]) else {
-        return Err(Fault::Misspelt);
-    };
+    let (b, e) = scan::value_at(s, at)?;
+    let v = digits::number(&s[b..e]).ok_or(Fault::Misspelt)?;
     Ok((v, e))
 }
 
@@ -64,12 +59,12 @@ pub fn short_number(u: &[u8], at: usize) -> Option<(u64, usize)>
     }
     let b = digits::digit(u[at + 1]);
     if 9 < b {
-        return Some((a as u64, at + 1));
+        return Some((u64::from(a), at + 1));
     }
     if a == 0 {
         return None;
     }
-    Some(((a as u64) * 10 + (b as u64), at + 2))
+    Some((u64::from(a) * 10 + u64::from(b), at + 2))
 }
 
 // A short number that a space ends.
@@ -87,7 +82,7 @@ pub fn value_number(s: &[u8], at: usize) -> Result<(u64, usize), Fault>
     ensures { NumeralAt s.now at result }
 {
     match short_value(s, at) {
-        Some((v, e)) => Ok((v, e)),
+        Some(short) => Ok(short),
         None => numeral_at(s, at),
     }
 }

@@ -1,5 +1,5 @@
 -- Laws of the readers of operands and variables: each says what a step of the code shows.
-use Rattle.std.specs.Prelude.{ℕ, zero, suc, ◌+◌, ◌-◌, ◌≤◌, ◌<◌, ◌≡◌, Some, None, Result, Ok, Err, List, [], ◌∷◌, Bool, true, false, ℤ, pos, negsuc, ◌-ℤ◌, ltb, leb, eqb, length, drop, get_or}
+use Rattle.std.specs.Prelude.{ℕ, zero, suc, ◌+◌, ◌-◌, ◌≤◌, ◌<◌, ◌≡◌, Some, None, Ok, Err, List, [], ◌∷◌, Bool, true, false, ℤ, pos, negsuc, ◌-ℤ◌, ltb, leb, eqb, length, drop, get_or}
 use Rattle.std.proofs.Math.Path.{refl}
 use Rattle.std.proofs.Math.Logic.{inl, inr}
 use Rattle.std.proofs.Common.{sym, ◌∙◌, ap, arith, zero-add, add-zero, add-one, drop_of_length-le, length-drop, drop-cons, drop-drop, to_z, of_z, SFits}
@@ -20,11 +20,11 @@ use Rattle.text.specs.Value.{operand, variable, numeral, as_var, as_const, as_ne
 use Rattle.text.specs.Format.{variable_of}
 use Rattle.digits.specs.Read.{capped, number_of}
 use Rattle.digits.specs.NumeralLaws.{spelt_good, numeral_bad, numeral_good}
-use Rattle.scan.specs.Place.{AfterKey, RunEnd, ValueAt}
+use Rattle.scan.specs.Place.{Answer, Within, AfterKey, RunEnd, ValueAt}
 use Rattle.numbers.specs.Numerals.{NumeralTo, NumeralFault, NumeralAt, short_value_of}
 use Rattle.numbers.specs.NumeralLaws.{short_whole}
 use Rattle.scan.specs.PlaceLaws.{count_more, value_ends, field_found, field_refused}
-use Rattle.operands.specs.Answer.{OperandEnds, OperandWithin, operand_answer, OperandJudged, skip, operand_kind, Judged, value_as, OperandAs, OperandIn, OperandAt, VariableEnds, VariableWithin, VariableSaid, VariableIn, VariableAt}
+use Rattle.operands.specs.Answer.{OperandEnds, OperandWithin, operand_answer, OperandJudged, skip, operand_kind, Judged, value_as, OperandAs, OperandIn, OperandAt, VariableEnds, VariableSaid, VariableIn, VariableAt}
 use Rattle.numbers.specs.Answer.{mapped}
 
 -- ---- signed numbers
@@ -76,7 +76,7 @@ module _ (n : ℕ) {x : ℕ} (e : ℕ) where
       more k y h = rw (y, lt-leb k 2147483647 h)
 
 -- by the first byte
-module _ (b n x e : ℕ) {r : Result (Operand × ℕ) Fault} where
+module _ (b n x e : ℕ) {r : Answer Operand} where
   pub any_named : b ≡ 118 → r ≡ operand_answer n (as_var (some x)) e → r ≡ operand_answer n (operand_kind b (some x)) e
   any_named h a = rw h a
 
@@ -124,12 +124,12 @@ module _ (t : List ℕ) (n e : ℕ) {x : ℕ} (d : Some x ≡ number_of t) where
       (λ l. sym (negative_high n {x = x} e (omega (arith, read_as))) ∙ negative_high n {x = value t} e l)
       (λ l. let y : value t ≡ x = omega (arith, read_as) in rw y))
 
-of_capped : {kind : Option ℕ → Option Operand} {n x e : ℕ} {r : Result (Operand × ℕ) Fault}
+of_capped : {kind : Option ℕ → Option Operand} {n x e : ℕ} {r : Answer Operand}
     → ((t : List ℕ) → Some x ≡ number_of t → operand_answer n (kind (some x)) e ≡ operand_answer n (kind (numeral t)) e)
     → r ≡ operand_answer n (kind (some x)) e → Judged kind n x e r
 of_capped {kind} {n} {x} {e} k q = record { is = λ t d. rw (q, k t d) (judged_answer n (kind (numeral t)) e) }
 
-module _ {n x e : ℕ} {r : Result (Operand × ℕ) Fault} where
+module _ {n x e : ℕ} {r : Answer Operand} where
   pub judged_named : n ≤ 256 → r ≡ operand_answer n (as_var (some x)) e → Judged as_var n x e r
   judged_named u q = of_capped (λ t d. capped_var t n e d u) q
 
@@ -155,12 +155,12 @@ value_to {s} {at} kind n {e} u h l =
     rw (z, lt-ltb (e - at) (length (drop at s)) k, drop-drop (e - at) at s, d)
 
 module _ {s : List ℕ} {at x e : ℕ} (m : NumeralAt s at (Ok (x, e))) where
-  as_is : {kind : Option ℕ → Option Operand} {n : ℕ} {r : Result (Operand × ℕ) Fault} → Judged kind n x e r → OperandAs kind n s at r
+  as_is : {kind : Option ℕ → Option Operand} {n : ℕ} {r : Answer Operand} → Judged kind n x e r → OperandAs kind n s at r
   as_is {kind} {n} {r} j =
       let d = j.is (take (e - at) (drop at s)) m.is.same in
       record { same = λ l. d.same l s ∙ value_to kind n m.is.run m.is.inside l; within = reach r d.ends m.is.inside }
     where
-      reach : (r : Result (Operand × ℕ) Fault) → OperandEnds n e r → e < length s → OperandWithin n s r
+      reach : (r : Answer Operand) → OperandEnds n e r → e < length s → OperandWithin n s r
       reach (Ok p) h g = (rw h.0 g, h.1)
       reach (Err f) h g = tt
 
@@ -192,11 +192,11 @@ module _ (s : List ℕ) (at : ℕ) (h : at < length s) where
   rest : drop at s ≡ get_or s at 0 ∷ drop (at + 1) s
   rest = rw (add-one at) (drop-cons s at 0 h)
 
-  pub operand_named : {n : ℕ} {r : Result (Operand × ℕ) Fault} → get_or s at 0 ≡ 118 → OperandAs as_var n s (at + 1) r → OperandIn n s at r
+  pub operand_named : {n : ℕ} {r : Answer Operand} → get_or s at 0 ≡ 118 → OperandAs as_var n s (at + 1) r → OperandIn n s at r
   unfolding said_operand
   operand_named {n} q a = record { same = λ l. a.same l ∙ rw (rest, q) (behind 118 (drop (at + 1) s) as_var n l refl (λ t. refl)); within = a.within }
 
-  operand_minus : {n : ℕ} {r : Result (Operand × ℕ) Fault} → get_or s at 0 ≡ 45 → OperandAs as_negative n s (at + 1) r → OperandIn n s at r
+  operand_minus : {n : ℕ} {r : Answer Operand} → get_or s at 0 ≡ 45 → OperandAs as_negative n s (at + 1) r → OperandIn n s at r
   unfolding said_operand
   operand_minus {n} q a = record { same = λ l. a.same l ∙ rw (rest, q) (behind 45 (drop (at + 1) s) as_negative n l refl (λ t. refl)); within = a.within }
 
@@ -205,7 +205,7 @@ unfolding said_operand spelt
 plain_said b s zero h g = refl
 plain_said b s (suc k) h g = rw (ne_eqb b 118 h, ne_eqb b 45 g)
 
-operand_plain : {n : ℕ} {s : List ℕ} {at : ℕ} {r : Result (Operand × ℕ) Fault} → at < length s → (get_or s at 0 ≡ 118 → ⊥) → (get_or s at 0 ≡ 45 → ⊥)
+operand_plain : {n : ℕ} {s : List ℕ} {at : ℕ} {r : Answer Operand} → at < length s → (get_or s at 0 ≡ 118 → ⊥) → (get_or s at 0 ≡ 45 → ⊥)
     → OperandAs as_const n s at r → OperandIn n s at r
 unfolding said
 operand_plain {n} {s} {at} h p g a =
@@ -214,7 +214,7 @@ operand_plain {n} {s} {at} h p g a =
     record { same = λ l. rw d at (a.same l); within = a.within }
 
 -- by the first byte
-operand_by : {n : ℕ} (s : List ℕ) (at b : ℕ) {r : Result (Operand × ℕ) Fault} → at < length s → b ≡ get_or s at 0 → OperandAs (operand_kind b) n s (at + skip b) r → OperandIn n s at r
+operand_by : {n : ℕ} (s : List ℕ) (at b : ℕ) {r : Answer Operand} → at < length s → b ≡ get_or s at 0 → OperandAs (operand_kind b) n s (at + skip b) r → OperandIn n s at r
 operand_by {n} s at b {r} h q a =
     cases (eqb b 118)
     (λ e. operand_named s at h (sym q ∙ eqb-true b 118 e) (rw e at a))
@@ -226,7 +226,7 @@ operand_kind_none : (b : ℕ) → operand_kind b none ≡ none
 operand_kind_none b = cases (eqb b 118) (λ e. rw e) (λ e. cases (eqb b 45) (λ f. rw (e, f)) (λ f. rw (e, f)))
 
 module _ {s : List ℕ} {from x e : ℕ} (m : NumeralAt s from (Ok (x, e))) where
-  pub by_is : {at b n : ℕ} {r : Result (Operand × ℕ) Fault} → at < length s → b ≡ get_or s at 0 → from ≡ at + skip b → n ≤ 256
+  pub by_is : {at b n : ℕ} {r : Answer Operand} → at < length s → b ≡ get_or s at 0 → from ≡ at + skip b → n ≤ 256
       → r ≡ operand_answer n (operand_kind b (some x)) e → OperandIn n s at r
   by_is {at} {b} h q k u j = operand_by s at b h q (rw k at (as_is m (judged_any b u j)))
 
@@ -238,7 +238,7 @@ module _ {s : List ℕ} {from : ℕ} {f : Fault} (m : NumeralAt s from (Err f)) 
 
 -- the number behind `v`
 module _ {s : List ℕ} {at x e : ℕ} (m : NumeralAt s at (Ok (x, e))) where
-  pub named_is : {n : ℕ} {r : Result (Operand × ℕ) Fault} → n ≤ 256 → r ≡ operand_answer n (as_var (some x)) e → OperandAs as_var n s at r
+  pub named_is : {n : ℕ} {r : Answer Operand} → n ≤ 256 → r ≡ operand_answer n (as_var (some x)) e → OperandAs as_var n s at r
   named_is u j = as_is m (judged_named u j)
 
 module _ {s : List ℕ} {at : ℕ} {f : Fault} (m : NumeralAt s at (Err f)) where
@@ -264,7 +264,7 @@ unfolding run
 operand_none n {s} h = record { same = λ l. rw (drop_of_length-le s h); within = tt }
 
 module _ {key s : List ℕ} {at b : ℕ} (m : AfterKey key s at (Ok b)) where
-  pub operand_found : {n : ℕ} {r : Result (Operand × ℕ) Fault} → OperandIn n s b r → OperandAt n key s at r
+  pub operand_found : {n : ℕ} {r : Answer Operand} → OperandIn n s b r → OperandAt n key s at r
   operand_found {n} u = record { same = λ l. u.same l ∙ field_found m (operand n) l; within = u.within }
 
 module _ {key s : List ℕ} {at : ℕ} {f : Fault} (m : AfterKey key s at (Err f)) where
@@ -302,11 +302,11 @@ module _ {s : List ℕ} {at : ℕ} {f : Fault} (m : ValueAt s at (Err f)) where
   variable_refused c n = record { same = λ l. ap (mapped variable_of) (m.same (variable c n) l); within = tt }
 
 module _ {s : List ℕ} {at b e : ℕ} (m : ValueAt s at (Ok (b, e))) where
-  pub variable_step : {c : Bool} {n : ℕ} {r : Result (ℕ × ℕ) Fault} → VariableSaid c n (take (e - b) (drop b s)) e r → VariableIn c n s at r
+  pub variable_step : {c : Bool} {n : ℕ} {r : Answer ℕ} → VariableSaid c n (take (e - b) (drop b s)) e r → VariableIn c n s at r
   variable_step {c} {n} {r} d =
       record { same = λ l. d.same l s ∙ ap (mapped variable_of) (m.same (variable c n) l); within = reach r d.ends }
     where
-      reach : (r : Result (ℕ × ℕ) Fault) → VariableEnds e r → VariableWithin s r
+      reach : (r : Answer ℕ) → VariableEnds e r → Within s r
       reach (Ok p) h = rw h m.within.1
       reach (Err f) h = tt
 
@@ -335,7 +335,7 @@ module _ {s : List ℕ} {at v e : ℕ} (m : Some (v, e) ≡ short_value_of s at)
     short_undeclared g = variable_step between (variable_high whole.same refl (not_minus _ whole.same) u g)
 
 module _ {s : List ℕ} {at b : ℕ} (m : AfterKey (bytes " var=") s at (Ok b)) where
-  pub variable_found : {c : Bool} {n : ℕ} {r : Result (ℕ × ℕ) Fault} → VariableIn c n s b r → VariableAt c n s at r
+  pub variable_found : {c : Bool} {n : ℕ} {r : Answer ℕ} → VariableIn c n s b r → VariableAt c n s at r
   variable_found {c} {n} u = record { same = λ l. u.same l ∙ ap (mapped variable_of) (field_found m (variable c n) l); within = u.within }
 
 module _ {s : List ℕ} {at : ℕ} {f : Fault} (m : AfterKey (bytes " var=") s at (Err f)) where

@@ -6,6 +6,21 @@ use Rattle.text.specs.declared.Fault.TheVariants.{Form, Ended}
 use Rattle.text.specs.Value.{ValueKind, Of, said}
 use Rattle.text.specs.Line.{Outcome, took, refused, After, at as stands, differs, broken, after, run as count, judged, value_of, field_of, feed as end_of}
 
+-- ---- a value and the place after it, or the fault
+
+abbrev pub Answer : Type 0 → Type 0
+Answer A = Result (A × ℕ) Fault
+
+-- the outcome of reading a text from a line on
+abbrev pub answer_in : {A : Type 0} → ℕ → List ℕ → Answer A → Outcome A
+answer_in l s (Ok p) = took p.0 l (drop p.1 s)
+answer_in l s (Err f) = refused f l
+
+-- the place is within the text
+abbrev pub Within : {A : Type 0} → List ℕ → Answer A → Type 0
+Within s (Ok p) = p.1 < length s
+Within s (Err f) = Unit {0}
+
 -- ---- a key
 
 -- the text at the place reached, or the fault

@@ -1,12 +1,12 @@
 -- Laws of keys and places: each says what a step of the code shows.
-use Rattle.std.specs.Prelude.{ℕ, zero, suc, ◌+◌, ◌-◌, ◌*◌, ◌≤◌, ◌<◌, ◌≡◌, ◌⊎◌, refl, List, [], ◌∷◌, ◌++◌, Result, Ok, Err, true, false, eqb, take, drop, get_or}
+use Rattle.std.specs.Prelude.{ℕ, zero, suc, ◌+◌, ◌-◌, ◌*◌, ◌≤◌, ◌<◌, ◌≡◌, ◌⊎◌, refl, List, [], ◌∷◌, ◌++◌, Result, Ok, Err, true, false, eqb, take, drop, get_or, ltb}
 use Rattle.std.proofs.Common.{sym, ◌∙◌, ap, add-zero, zero-add, drop_of_length-le}
 use Rattle.std.proofs.Math.Logic.{inl, inr}
 use native.Mathlib.Omega.{arith}
 use Rattle.std.proofs.Math.Numerals.{add-one}
 use Rattle.std.proofs.Math.ListN.{length, length-drop}
 use Rattle.std.proofs.Math.Seq.{drop-cons, drop-drop}
-use borrow.Author.Tests.{lt-ltb, le-ltb, eq-eqb, ne_eqb, eqb-true, eqb-false}
+use borrow.Author.Tests.{lt-ltb, le-ltb, eq-eqb, ne_eqb, eqb-true, eqb-false, ltb-false}
 use Rattle.table.specs.Cases.{cases}
 use Rattle.table.specs.Mask.{pick}
 use Rattle.text.specs.declared.Fault.{Fault}
@@ -64,10 +64,6 @@ module _ {key s : List ℕ} {at j : ℕ} (m : Matching key s at j) where
   matching_end k = let e : j ≡ length key = omega (arith, m.key_within) in rw e at (stand k)
 
 -- ---- four bytes of a key as one number
-pub quad_at : (s : List ℕ) (at : ℕ) {r : ℕ} → r ≡ quad_number (get_or s at 0) (get_or s (at + 1) 0) (get_or s (at + 2) 0) (get_or s (at + 3) 0)
-    → Bytes (get_or s at 0) (get_or s (at + 1) 0) (get_or s (at + 2) 0) (get_or s (at + 3) 0) → QuadAt s at r
-quad_at s at e b = record { same = e; bytes = b }
-
 lowest : (a x b y : ℕ) → a < 256 → x < 256 → a + b * 256 ≡ x + y * 256 → (a ≡ x) × (b ≡ y)
 lowest a x b y h k e =
     let z : b ≡ y = by_order b y (λ l. absurd (omega arith)) (λ l. by_order y b (λ g. absurd (omega arith)) (λ g. omega arith)) in
@@ -300,25 +296,44 @@ module _ {key s : List ℕ} {at : ℕ} {f : Fault} (m : AfterKey key s at (Err f
         within = tt;
       }
 
+ok_pair : {x y u v : ℕ} → ◌≡◌ {A = Result (ℕ × ℕ) Fault} (Ok (x, y)) (Ok (u, v)) → (x ≡ u) × (y ≡ v)
+ok_pair e = let p : ◌≡◌ {A = ℕ × ℕ} _ _ = cc in (ap (λ (p : ℕ × ℕ). p.0) p, ap (λ (p : ℕ × ℕ). p.1) p)
+
 module _ {s : List ℕ} {at b e : ℕ} (m : ValueAt s at (Ok (b, e))) where
   pub value_within : (b ≤ e) × (e < length s)
   value_within = m.within
 
-  pub value_to : e ≤ length s
-  value_to = omega (arith, value_within.1)
+  -- the value is what runs from the place
+  pub value_run : (b ≡ at) × RunEnd s at e
+  unfolding value_token
+  value_run =
+      cases (ltb (at + count (drop at s)) (length s))
+      (λ h.
+      let p = ok_pair (rw h at m.is) in
+      let l : (b ≤ e) × (e < length s) = value_within in
+      (p.0, record { same = p.1; from = omega arith; within = omega arith }))
+      (λ h. absurd (let z : ◌≡◌ {A = Result (ℕ × ℕ) Fault} (Ok (b, e)) (Err Ended) = rw h at m.is in cc))
 
-  pub value_from : b ≤ e
-  value_from = value_within.0
+count_short : (t : List ℕ) → count t ≤ length t
+unfolding count
+count_short [] = omega arith
+count_short (b ∷ t) = cases (stops b) (λ h. rw (count_none b t h) (omega arith)) (λ h. rw (count_more b t h) (omega (arith, count_short t)))
+
+-- or it runs to the text's end
+pub value_broken : {s : List ℕ} {at : ℕ} {f : Fault} → at ≤ length s → ValueAt s at (Err f) → (f ≡ Ended) × RunEnd s at (length s)
+unfolding value_token
+value_broken {s} {at} {f} h m =
+    cases (ltb (at + count (drop at s)) (length s))
+    (λ k. absurd (let z : ◌≡◌ {A = Result (ℕ × ℕ) Fault} (Err f) (Ok (at, at + count (drop at s))) = rw k at m.is in cc))
+    (λ k.
+    let z : ◌≡◌ {A = Result (ℕ × ℕ) Fault} (Err f) (Err Ended) = rw k at m.is in
+    let l = ltb-false (at + count (drop at s)) (length s) k in
+    let n = count_short (drop at s) in
+    (cc, record { same = omega (arith, l, n, length-drop at s); from = h; within = omega arith }))
 
 module _ {key s : List ℕ} {at b e : ℕ} (m : TokenAt key s at (Ok (b, e))) where
   pub token_within : (b ≤ e) × (e < length s)
   token_within = m.within
-
-  pub token_to : e ≤ length s
-  token_to = omega (arith, token_within.1)
-
-  pub token_from : b ≤ e
-  token_from = token_within.0
 
 -- ---- the end of a line
 module _ {s : List ℕ} {at : ℕ} where

@@ -31,7 +31,7 @@ pub fn quad_of(a: u8, b: u8, c: u8, d: u8) -> u32
     ensures is { result ≡ quad_number a b c d }
     ensures bytes { Bytes a b c d }
 {
-    (a as u32) + (b as u32) * 256 + (c as u32) * 65536 + (d as u32) * 16777216
+    u32::from_le_bytes([a, b, c, d])
 }
 
 // The four bytes at a place as one number.
