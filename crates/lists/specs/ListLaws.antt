@@ -15,12 +15,12 @@ use Rattle.text.specs.Line.{refused, judged}
 use Rattle.text.specs.Format.{elem, set_of}
 use Rattle.digits.specs.Read.{number_of}
 use Rattle.digits.specs.NumeralLaws.{spelt_bad, spelt_good}
-use Rattle.scan.specs.Place.{AfterKey, ValueAt}
+use Rattle.scan.specs.Place.{Answer, Within, AfterKey, ValueAt}
 use Rattle.scan.specs.PlaceLaws.{value_within, field_found, field_refused}
 use Rattle.numbers.specs.Answer.{mapped}
 use Rattle.lists.specs.Items.{up_to, more, inside, bit_of}
 use Rattle.lists.specs.ItemLaws.{ok_some, err_none, split_first, bit_capped}
-use Rattle.lists.specs.Sets.{Answer, Ends, Within, Judged, ValueIn, FieldAt, SetJudged, SetSaid, single_of}
+use Rattle.lists.specs.Sets.{Ends, Judged, ValueIn, FieldAt, SetJudged, SetSaid, single_of}
 use Rattle.lists.specs.TotalLaws.{total, total_is, mask_none}
 use Rattle.lists.specs.SetLaws.{bit_inside}
 use Rattle.table.specs.Cases.{cases}
@@ -131,7 +131,7 @@ list_rising t h p k a = rw h (rw (← p, k) a)
 
 -- ---- from a list to its place, and to its field
 ends_within : {A : Type 0} (s : List ℕ) (e : ℕ) (r : Answer A) → Ends e r → e < length s → Within s r
-ends_within s e (Ok (v, p)) h w = rw h w
+ends_within s e (Ok p) h w = rw h w
 ends_within s e (Err f) h w = tt
 
 module _ {B : Type 0} (k : ValueKind) (g : Of k → B) {s : List ℕ} {at : ℕ} where

@@ -21,9 +21,9 @@ use Rattle.text.specs.Format.{variable_of, arg_of, args_of}
 use Rattle.digits.specs.Read.{number_of}
 use Rattle.digits.specs.NumeralLaws.{spelt_good, numeral_bad, numeral_good}
 use Rattle.numbers.specs.Answer.{mapped}
+use Rattle.scan.specs.Place.{Answer, answer_in}
 use Rattle.lists.specs.Items.{next_comma, CommaAt, more, part}
 use Rattle.lists.specs.ItemLaws.{ok_some, err_none, comma_split, comma_here}
-use Rattle.lists.specs.Sets.{Answer, answer_in}
 use Rattle.lists.specs.Passing.{argument_for, argument_of, ending, argument_from, pushed_of, with_of, PassedJudged, PassedSaid}
 
 -- ---- one variable

@@ -143,11 +143,11 @@ stands_value k {s} {w} {at} {e} {v} m q =
 
 pub kind_stands : {s : List ℕ} {at : ℕ} {f : NodeKind × ℕ} → Stands kind_word s at (Some f) → KindIn s at (Ok f)
 unfolding said
-kind_stands {f = (k, e)} w = record { read = λ c j. stands_value (kind c j) w (kind_said k) }
+kind_stands {f = f} w = record { read = λ c j. stands_value (kind c j) w (kind_said f.0) }
 
 pub op_stands : {s : List ℕ} {at : ℕ} {f : Op × ℕ} → Stands op_word s at (Some f) → OpIn s at (Ok f)
 unfolding said
-op_stands {f = (o, e)} w = record { read = λ x. stands_value (operation x) w (op_said o) }
+op_stands {f = f} w = record { read = λ x. stands_value (operation x) w (op_said f.0) }
 
 -- ---- what is checked
 pub check_start : (c : Bool) {j : ℕ} → j ≡ 0 → Ok tt ≡ verdict_of (kind_fault c j start)
