@@ -15,12 +15,12 @@ use Rattle.text.specs.Line.{refused, judged}
 use Rattle.text.specs.Format.{elem, set_of}
 use Rattle.digits.specs.Read.{number_of}
 use Rattle.digits.specs.NumeralLaws.{spelt_bad, spelt_good}
-use Rattle.scan.specs.Place.{AfterKey, ValueAt, TokenAt}
-use Rattle.scan.specs.PlaceLaws.{value_within, token_within, field_found, field_refused}
+use Rattle.scan.specs.Place.{Answer, Within, AfterKey, ValueAt}
+use Rattle.scan.specs.PlaceLaws.{value_within, field_found, field_refused}
 use Rattle.numbers.specs.Answer.{mapped}
 use Rattle.lists.specs.Items.{up_to, more, inside, bit_of}
 use Rattle.lists.specs.ItemLaws.{ok_some, err_none, split_first, bit_capped}
-use Rattle.lists.specs.Sets.{Answer, Ends, Within, Judged, ValueIn, FieldAt, SetJudged, SetSaid, single_of, SetIn}
+use Rattle.lists.specs.Sets.{Ends, Judged, ValueIn, FieldAt, SetJudged, SetSaid, single_of}
 use Rattle.lists.specs.TotalLaws.{total, total_is, mask_none}
 use Rattle.lists.specs.SetLaws.{bit_inside}
 use Rattle.table.specs.Cases.{cases}
@@ -118,9 +118,6 @@ pub single_one : (lo n : ℕ) (t : List ℕ) {v e : ℕ} {w : Maybe ℕ} {r : An
 single_one lo n t {v} {e} {w} d h u q = one_value lo n t v e (sym (ok_some w Misspelt h) ∙ d) u q
 
 -- ---- a list
-pub list_single : {one : Bool} {lo n : ℕ} (t : List ℕ) {e : ℕ} {r : Answer ℕ} → one ≡ true → SetSaid true lo n t e r → SetSaid one lo n t e r
-list_single t h a = rw h a
-
 pub list_none : {one : Bool} (lo n : ℕ) (t : List ℕ) (e : ℕ) {x : Bool} → one ≡ false → x ≡ same (bytes "none") t → x ≡ true → SetSaid one lo n t e (Ok (0, e))
 unfolding said check ascends every elem
 list_none lo n t e h p k =
@@ -134,30 +131,15 @@ list_rising t h p k a = rw h (rw (← p, k) a)
 
 -- ---- from a list to its place, and to its field
 ends_within : {A : Type 0} (s : List ℕ) (e : ℕ) (r : Answer A) → Ends e r → e < length s → Within s r
-ends_within s e (Ok (v, p)) h w = rw h w
+ends_within s e (Ok p) h w = rw h w
 ends_within s e (Err f) h w = tt
 
 module _ {B : Type 0} (k : ValueKind) (g : Of k → B) {s : List ℕ} {at : ℕ} where
-  pub value_stops : {f : Fault} → ValueAt s at (Err f) → ValueIn k g s at (Err f)
-  value_stops m = record { same = λ l. ap (mapped g) (m.same k l); within = tt }
-
   pub value_judged : {b e : ℕ} {r : Answer B} → ValueAt s at (Ok (b, e)) → Judged k g (said k (take (e - b) (drop b s))) e r → ValueIn k g s at r
   value_judged {e = e} {r = r} m d = record { same = λ l. d.same l s ∙ ap (mapped g) (m.same k l); within = ends_within s e r d.ends (value_within m).1 }
-
-  pub token_stops : {key : List ℕ} {f : Fault} → TokenAt key s at (Err f) → FieldAt k g key s at (Err f)
-  token_stops m = record { same = λ l. ap (mapped g) (m.same k l); within = tt }
-
-  pub token_judged : {key : List ℕ} {b e : ℕ} {r : Answer B} → TokenAt key s at (Ok (b, e)) → Judged k g (said k (take (e - b) (drop b s))) e r → FieldAt k g key s at r
-  token_judged {e = e} {r = r} m d = record { same = λ l. d.same l s ∙ ap (mapped g) (m.same k l); within = ends_within s e r d.ends (token_within m).1 }
 
   pub field_missing : {key : List ℕ} {f : Fault} → AfterKey key s at (Err f) → FieldAt k g key s at (Err f)
   field_missing a = record { same = λ l. ap (mapped g) (field_refused a k l); within = tt }
 
   pub field_value : {key : List ℕ} {b : ℕ} {r : Answer B} → AfterKey key s at (Ok b) → ValueIn k g s b r → FieldAt k g key s at r
   field_value a m = record { same = λ l. m.same l ∙ ap (mapped g) (field_found a k l); within = m.within }
-
-pub set_one : {one : Bool} {lo n : ℕ} {s : List ℕ} {at : ℕ} {r : Answer ℕ} → one ≡ true → SetIn true lo n s at r → SetIn one lo n s at r
-set_one h a = rw h a
-
-pub set_many : {one : Bool} {lo n : ℕ} {s : List ℕ} {at : ℕ} {r : Answer ℕ} → one ≡ false → SetIn false lo n s at r → SetIn one lo n s at r
-set_many h a = rw h a

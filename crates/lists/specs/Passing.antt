@@ -7,8 +7,9 @@ use Rattle.table.specs.declared.Args.{Args}
 use Rattle.text.specs.Number.{bytes}
 use Rattle.text.specs.Value.{arguments, said_variable, said}
 use Rattle.text.specs.Format.{args_of}
+use Rattle.scan.specs.Place.{Answer}
 use Rattle.lists.specs.Items.{next_comma, part}
-use Rattle.lists.specs.Sets.{Answer, Judged, FieldAt}
+use Rattle.lists.specs.Sets.{Judged, FieldAt}
 
 -- ---- one variable
 

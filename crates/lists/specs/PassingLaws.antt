@@ -6,6 +6,7 @@ use Rattle.std.proofs.Math.Bool.{true, false}
 use Rattle.std.proofs.Math.Option.{Option, none, some}
 use Rattle.std.proofs.Math.ListN.{get_or-append, get_or-eq_default}
 use Rattle.std.proofs.Math.Seq.{get_or-append_seam}
+use Rattle.std.specs.Bool.{then_some}
 use borrow.Author.Tests.{lt-ltb, le-ltb, ne_eqb, eq-eqb}
 use Rattle.table.specs.Cases.{cases}
 use Rattle.table.specs.Mask.{pick}
@@ -20,20 +21,16 @@ use Rattle.text.specs.Format.{variable_of, arg_of, args_of}
 use Rattle.digits.specs.Read.{number_of}
 use Rattle.digits.specs.NumeralLaws.{spelt_good, numeral_bad, numeral_good}
 use Rattle.numbers.specs.Answer.{mapped}
+use Rattle.scan.specs.Place.{Answer, answer_in}
 use Rattle.lists.specs.Items.{next_comma, CommaAt, more, part}
 use Rattle.lists.specs.ItemLaws.{ok_some, err_none, comma_split, comma_here}
-use Rattle.lists.specs.Sets.{Answer, answer_in}
 use Rattle.lists.specs.Passing.{argument_for, argument_of, ending, argument_from, pushed_of, with_of, PassedJudged, PassedSaid}
 
 -- ---- one variable
 module _ (c : Bool) (n : ℕ) (w : List ℕ) {x : Bool} (p : x ≡ same (bytes "-") w) where
-  pub argument_removed : x ≡ true → c ≡ true → Some (Some 255) ≡ argument_of c n w
+  pub argument_dash : {r : Maybe (Maybe ℕ)} → x ≡ true → r ≡ then_some c (Some 255) → r ≡ argument_of c n w
   unfolding argument_of
-  argument_removed h k = rw (← p, h, k)
-
-  pub argument_open : x ≡ true → c ≡ false → None ≡ argument_of c n w
-  unfolding argument_of
-  argument_open h k = rw (← p, h, k)
+  argument_dash h q = rw (q, ← p, h) (cases c (λ e. rw e) (λ e. rw e))
 
   module _ (h : x ≡ false) where
     pub argument_bad : None ≡ number_of w → None ≡ argument_of c n w
@@ -114,9 +111,6 @@ argument_read c n t from q h = rw q (go c (next_comma t from) (comma_here t from
     go c to m (some (some v)) e = is c m (pick (ltb v n) (Some v) None) (record { name = some v; says = e; allowed = or_true c; known = refl })
 
 -- ---- one variable more
-pub pushed_first : (a : Args) (v : ℕ) {l : ℕ} → l ≡ min a.len 4 + 1 → a.len ≡ 0 → record { len = l; a0 = v; a1 = a.a1; a2 = a.a2; a3 = a.a3 } ≡ pushed_of a v
-pushed_first a v i h = rw (i, h)
-
 -- one place of one variable more
 place_is : (xs : List (Option ℕ)) (y : Option ℕ) (i : ℕ) → i < 5 → pick (eqb (min (length xs) 5) i) (variable_of y) (arg_of xs i) ≡ arg_of (xs ++ (y ∷ [])) i
 place_is xs y i h =

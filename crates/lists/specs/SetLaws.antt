@@ -17,9 +17,10 @@ use Rattle.text.specs.Value.{ascending, numeral, split, followed, each, ascends,
 use Rattle.text.specs.Line.{judged}
 use Rattle.text.specs.Format.{set_of}
 use Rattle.numbers.specs.Answer.{mapped}
+use Rattle.scan.specs.Place.{Answer, answer_in}
 use Rattle.lists.specs.Items.{more, inside, bit_of, part, item_of}
 use Rattle.lists.specs.ItemLaws.{err_none, Itemized, ItemAt, item_next}
-use Rattle.lists.specs.Sets.{Answer, answer_in, SetJudged}
+use Rattle.lists.specs.Sets.{SetJudged}
 use Rattle.lists.specs.TotalLaws.{total, total_first, within_first, total_is}
 
 -- the answer where the items up to x made m, all of them inside or not, and the others say o

@@ -1,33 +1,22 @@
 -- What the readers of lists answer.
-use Rattle.std.specs.Prelude.{ℕ, ◌^◌, ◌<◌, ◌≡◌, Bool, List, length, drop, Result, Ok, Err}
+use Rattle.std.specs.Prelude.{ℕ, ◌^◌, ◌≡◌, Bool, List, drop, Ok, Err}
 use Rattle.std.proofs.Math.Option.{Option}
 use Rattle.table.specs.Mask.{pick}
-use Rattle.text.specs.declared.Fault.{Fault}
 use Rattle.text.specs.declared.Fault.TheVariants.{Reference}
 use Rattle.text.specs.Value.{ValueKind, Of, ascending, said}
-use Rattle.text.specs.Line.{Outcome, took, refused, judged, value_of, field_of}
+use Rattle.text.specs.Line.{judged, value_of, field_of}
 use Rattle.text.specs.Format.{set_of}
+use Rattle.scan.specs.Place.{Answer, answer_in, Within}
 use Rattle.numbers.specs.Answer.{mapped}
 use Rattle.lists.specs.Items.{inside}
 
--- ---- a value and the place after it, or the fault
-abbrev pub Answer : Type 0 → Type 0
-Answer A = Result (A × ℕ) Fault
+-- ---- what g makes of a list
 
--- the outcome of reading a text from a line on
-abbrev pub answer_in : {A : Type 0} → ℕ → List ℕ → Answer A → Outcome A
-answer_in l s (Ok (v, e)) = took v l (drop e s)
-answer_in l s (Err f) = refused f l
-
+-- the place after it is the one given
 abbrev pub Ends : {A : Type 0} → ℕ → Answer A → Type 0
-Ends e (Ok (v, q)) = q ≡ e
+Ends e (Ok p) = p.1 ≡ e
 Ends e (Err f) = Unit {0}
 
-abbrev pub Within : {A : Type 0} → List ℕ → Answer A → Type 0
-Within s (Ok (v, e)) = e < length s
-Within s (Err f) = Unit {0}
-
--- ---- what g makes of a list
 module _ {B : Type 0} (k : ValueKind) (g : Of k → B) where
   -- of what bytes that end at a place say
   pub record Judged (o : Option (Of k)) (e : ℕ) (r : Answer B) : Type 0 where

@@ -2,25 +2,26 @@
 use Prim.Native.Nat.{ℕ, zero, suc, ◌+◌, ◌-◌, ◌^◌, ◌≤◌, ◌<◌}
 use Rattle.std.specs.Prelude.{◌≡◌, Bool, true, false, ◌&&◌, not, List, [], ◌∷◌, ltb, leb, eqb, drop, Option, Some, None, Ok}
 use Rattle.std.proofs.Math.Path.{refl, sym}
-use Rattle.std.proofs.Common.{◌∙◌, ap, arith, zero-add, pow-suc, add-one, Fits, pow_mono, drop_of_length-le, length-drop, take_all, drop-cons, drop-drop, take-take, length-take-le}
-use Rattle.std.specs.Int.{w32, w64}
+use Rattle.std.proofs.Common.{◌∙◌, ap, arith, zero-add, Fits, pow_mono, drop_of_length-le, length-drop, take_all, drop-cons, drop-drop, take-take, length-take-le}
+use Rattle.std.specs.Int.{w64}
 use Rattle.std.proofs.Math.ListN.{length, take, get_or}
 use Rattle.std.proofs.Math.Seq.{take-nil, get_or-take}
 use Rattle.std.proofs.lemmas.Option.{some_pair_parts}
-use borrow.Author.Tests.{lt-ltb, ltb-true, le-leb, lt-leb, leb-false, eq-eqb, ne_eqb, eqb-true}
+use borrow.Author.Tests.{lt-ltb, le-leb, lt-leb, leb-false, eq-eqb, ne_eqb, eqb-true}
 use Rattle.table.specs.Cases.{cases}
 use Rattle.table.specs.Mask.{pick}
 use Rattle.text.specs.Number.{bytes, value, all_digits}
-use Rattle.text.proofs.NumberLaws.{by_order, and_right, all_head, all_tail, spelt_all}
+use Rattle.text.proofs.NumberLaws.{by_order, all_head, all_tail, spelt_all}
 use Rattle.text.specs.Value.{ascending, same}
 use Rattle.text.specs.Format.{set_of}
 use Rattle.text.specs.Line.{run, stops}
 use Rattle.scan.specs.PlaceLaws.{count_more, count_none, Running, running_start, running_digits, run_turn, value_ends}
 use Rattle.numbers.specs.Numerals.{short_of}
 use Rattle.numbers.specs.NumeralLaws.{Spelt, short_few, short_is, short_numeral}
+use Rattle.scan.specs.Place.{Answer}
 use Rattle.lists.specs.Items.{up_to, CommaAt, inside, bit_of, part}
 use Rattle.lists.specs.ItemLaws.{comma_split, ItemAt}
-use Rattle.lists.specs.Sets.{Answer, SetSaid, single_of, SetIn}
+use Rattle.lists.specs.Sets.{SetSaid, single_of, SetIn}
 use Rattle.lists.specs.SetLaws.{Rising, rising_start, rising_end, rising_turn}
 use Rattle.lists.specs.ListLaws.{one_value, list_rising, value_judged}
 use Rattle.lists.specs.Short.{on_short, ended_by, quick_from, quick_of}
@@ -118,14 +119,6 @@ module _ (lo n v : ℕ) {m b : ℕ} (q : b ≡ bit_of lo n v) (h : m < b) where
 
   bit_one : true ≡ true && not (eqb b 0)
   bit_one = rw (ne_eqb b 0 (λ z. omega arith))
-
-  pub list_fits : n ≤ 32 → Fits w32 (m + b)
-  list_fits u =
-      let k : v < n = ltb-true v n (and_right (leb lo v) (ltb v n) bit_in) in
-      let j : v + 1 ≤ 32 = omega arith in
-      let w : 2 ^ (v + 1) ≤ 2 ^ 32 = pow_mono j in
-      let t : 2 ^ (v + 1) ≡ 2 ^ v + 2 ^ v = rw (add-one v) (omega (arith, pow-suc 2 v)) in
-      record { fits = omega (arith, bit_power, w, t) }
 
 power_less : (x v m : ℕ) → 2 ^ x ≤ m → m < 2 ^ v → x < v
 power_less x v m h k = by_order x v (λ l. l) (λ l. absurd (let z : 2 ^ v ≤ 2 ^ x = pow_mono l in omega arith))

@@ -2,8 +2,7 @@
 
 #![tactic(auto)]
 
-ghost use Rattle.std.specs.Prelude.{◌+◌, ◌≤◌, min, ◌≡◌, true, false, ◌&&◌, not, [], ◌∷◌, eqb, length};
-ghost use Rattle.table.specs.Mask.{pick};
+ghost use Rattle.std.specs.Prelude.{◌≤◌, ◌≡◌, true, false, [], ◌∷◌, length};
 ghost use Rattle.text.specs.Value.{numeral, said_variable, split, each};
 ghost use Rattle.text.specs.Format.{args_of};
 ghost use Rattle.lists.specs.Items.{CommaAt, bit_of, item_of};
@@ -21,12 +20,10 @@ pub fn comma(t: &[u8], from: usize) -> usize
     requires { from ≤ length t.now }
     ensures { CommaAt t.now from result }
 {
-    for i in from..t.len() {
-        if t[i] == b',' {
-            return i;
-        }
+    match t[from..].iter().position(|b| *b == b',') {
+        Some(n) => from + n,
+        None => t.len(),
     }
-    t.len()
 }
 
 // The set of a number that is at least lo and below the next; else no set, 0.
@@ -238,11 +235,7 @@ fn argument_value(w: &[u8], closed: bool, vars: u64) -> Option<Option<u8>>
     ensures { result ≡ argument_of closed vars w.now }
 {
     if scan::is_word(w, b"-") {
-        return if closed {
-            Some(Some(table::REMOVED))
-        } else {
-            None
-        };
+        return closed.then_some(Some(table::REMOVED));
     }
     let v = digits::number(w)?;
     if v < vars {

@@ -6,8 +6,8 @@ use Rattle.text.specs.declared.Fault.{Fault}
 use Rattle.text.specs.Number.{bytes}
 use Rattle.text.specs.declared.NodeKind.{NodeKind}
 use Rattle.text.specs.Value.{ValueKind, Of, choice, kind, operation}
-use Rattle.text.specs.Line.{Outcome, took, refused, judged, value_of, field_of}
-use Rattle.scan.specs.Place.{RunEnd}
+use Rattle.text.specs.Line.{Outcome, refused, judged, value_of, field_of}
+use Rattle.scan.specs.Place.{Answer, answer_in, Within, RunEnd}
 
 -- an option and a fault of the descriptions, as the code has them
 abbrev pub told : {A : Type 0} → Option A → Maybe A
@@ -18,19 +18,7 @@ abbrev pub verdict_of : Option Fault → Result (Unit {0}) Fault
 verdict_of none = Ok tt
 verdict_of (some f) = Err f
 
--- ---- a value and the place after it, or the fault
-
-abbrev pub Answer : Type 0 → Type 0
-Answer A = Result (A × ℕ) Fault
-
--- the outcome of reading a text from a line on
-abbrev pub answer_in : {A : Type 0} → ℕ → List ℕ → Answer A → Outcome A
-answer_in l s (Ok (v, e)) = took v l (drop e s)
-answer_in l s (Err f) = refused f l
-
-abbrev pub Within : {A : Type 0} → List ℕ → Answer A → Type 0
-Within s (Ok (v, e)) = e < length s
-Within s (Err f) = Unit {0}
+-- ---- a field
 
 -- the answer for the field of a kind of value, behind a key
 pub record FieldAt (k : ValueKind) (key s : List ℕ) (at : ℕ) (r : Answer (Of k)) : Type 0 where
@@ -49,7 +37,7 @@ OpAt x s at r = FieldAt (operation x) (bytes " op=") s at r
 -- ---- a value that is read and not yet checked
 
 abbrev pub unchecked_in : (k : ValueKind) → ℕ → List ℕ → Answer (Of k) → Outcome (Of k)
-unchecked_in k l s (Ok (v, e)) = judged k (some v) l (drop e s)
+unchecked_in k l s (Ok p) = judged k (some p.0) l (drop p.1 s)
 unchecked_in k l s (Err f) = refused f l
 
 pub record ValueIn (k : ValueKind) (s : List ℕ) (at : ℕ) (r : Answer (Of k)) : Type 0 where
@@ -74,5 +62,5 @@ pub record WordTo (s : List ℕ) (at e : ℕ) (w : List ℕ) : Type 0 where
 
 -- what is told has its word there
 abbrev pub Stands : {A : Type 0} → (A → List ℕ) → List ℕ → ℕ → Maybe (A × ℕ) → Type 0
-Stands word s at (Some (v, e)) = WordTo s at e (word v)
+Stands word s at (Some p) = WordTo s at p.1 (word p.0)
 Stands word s at None = Unit {0}

@@ -103,9 +103,6 @@ module _ (k : ValueKind) {s : List ℕ} {at b e : ℕ} (m : ValueAt s at (Ok (b,
   pub value_untold : {f : Fault} → Err f ≡ ok_or o (unsaid k) → ValueIn k s at (Err f)
   value_untold q = let z = told_none (said k (take (e - b) (drop b s))) (unsaid k) (rw p at q) in record { same = λ l. rw (z.1) (rw (z.0) at (m.same k l)); within = tt }
 
-pub value_stops : (k : ValueKind) {s : List ℕ} {at : ℕ} {f : Fault} → ValueAt s at (Err f) → ValueIn k s at (Err f)
-value_stops k m = record { same = m.same k; within = tt }
-
 -- ---- kinds and operations at a place
 module _ {s : List ℕ} {at b e : ℕ} (m : ValueAt s at (Ok (b, e))) where
   module _ {o : Maybe NodeKind} (p : o ≡ told (named kind_word kinds (take (e - b) (drop b s)))) where
@@ -125,12 +122,6 @@ module _ {s : List ℕ} {at b e : ℕ} (m : ValueAt s at (Ok (b, e))) where
     pub op_untold : {f : Fault} → Err f ≡ ok_or o Form → OpIn s at (Err f)
     unfolding said unsaid
     op_untold q = record { read = λ x. value_untold (operation x) m p q }
-
-pub kind_stops : {s : List ℕ} {at : ℕ} {f : Fault} → ValueAt s at (Err f) → KindIn s at (Err f)
-kind_stops m = record { read = λ c j. value_stops (kind c j) m }
-
-pub op_stops : {s : List ℕ} {at : ℕ} {f : Fault} → ValueAt s at (Err f) → OpIn s at (Err f)
-op_stops m = record { read = λ x. value_stops (operation x) m }
 
 -- an operation is the first whose word its word is
 op_said : (o : Op) → named op_word ops (op_word o) ≡ some o
@@ -152,11 +143,11 @@ stands_value k {s} {w} {at} {e} {v} m q =
 
 pub kind_stands : {s : List ℕ} {at : ℕ} {f : NodeKind × ℕ} → Stands kind_word s at (Some f) → KindIn s at (Ok f)
 unfolding said
-kind_stands {f = (k, e)} w = record { read = λ c j. stands_value (kind c j) w (kind_said k) }
+kind_stands {f = f} w = record { read = λ c j. stands_value (kind c j) w (kind_said f.0) }
 
 pub op_stands : {s : List ℕ} {at : ℕ} {f : Op × ℕ} → Stands op_word s at (Some f) → OpIn s at (Ok f)
 unfolding said
-op_stands {f = (o, e)} w = record { read = λ x. stands_value (operation x) w (op_said o) }
+op_stands {f = f} w = record { read = λ x. stands_value (operation x) w (op_said f.0) }
 
 -- ---- what is checked
 pub check_start : (c : Bool) {j : ℕ} → j ≡ 0 → Ok tt ≡ verdict_of (kind_fault c j start)
@@ -234,6 +225,3 @@ module _ (a b : List ℕ) {key s : List ℕ} {at from e : ℕ} (m : TokenAt key 
   pub choice_untold : {f : Fault} → Err f ≡ ok_or o Form → FieldAt (choice a b) key s at (Err f)
   unfolding said unsaid
   choice_untold q = let z = told_none _ Form (rw p at q) in record { same = λ l. rw (z.1) (rw (z.0) at (m.same (choice a b) l)); within = tt }
-
-pub choice_stops : (a b : List ℕ) {key s : List ℕ} {at : ℕ} {f : Fault} → TokenAt key s at (Err f) → FieldAt (choice a b) key s at (Err f)
-choice_stops a b m = record { same = m.same (choice a b); within = tt }

@@ -1,11 +1,8 @@
-use Rattle.lists.specs.PassingLaws.{argument_removed, argument_open, argument_bad, argument_is, argument_outside}
+use Rattle.lists.specs.PassingLaws.{argument_dash, argument_bad, argument_is, argument_outside}
 use Rattle.lists.proofs.argument_value.Goals as goal
 
-pub returns-then-closed : goal.returns-then-closed
-returns-then-closed c = argument_removed c.args.closed c.args.vars c.args.w.now c.is_word.ensures c.if-is_word.true c.if-closed.true
-
-pub returns-else-closed : goal.returns-else-closed
-returns-else-closed c = argument_open c.args.closed c.args.vars c.args.w.now c.is_word.ensures c.if-is_word.true c.if-closed.false
+pub returns-then-is_word : goal.returns-then-is_word
+returns-then-is_word c = argument_dash c.args.closed c.args.vars c.args.w.now c.is_word.ensures c.if-is_word.true c.then_some.ensures
 
 pub returns-in_err-v : goal.returns-in_err-v
 returns-in_err-v c = rw c.from_residual.ensures (argument_bad c.args.closed c.args.vars c.args.w.now c.is_word.ensures c.if-is_word.false c.in_err-v.ensures)
