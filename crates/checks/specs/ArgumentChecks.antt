@@ -53,7 +53,7 @@ rest_declared n d (suc l) = declared_first n d (rest d l) ∙ same_twice (eqb d 
 
 -- ---- four tests in a row
 
-and_row : (a b c d : Bool) → ((a && b) && c) && d ≡ a && (b && (c && d))
+pub and_row : (a b c d : Bool) → ((a && b) && c) && d ≡ a && (b && (c && d))
 and_row true b c d = and_assoc b c d
   where
     and_assoc : (a b c : Bool) → (a && b) && c ≡ a && (b && c)

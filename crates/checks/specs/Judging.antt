@@ -11,7 +11,7 @@ pub use Rattle.targets.specs.Judged.{judged}
 abbrev pub Fails : Result (Unit {0}) Fault → Fault → Type 0
 Fails r f = IsErrAnd r (λ g. g ≡ f)
 
-fails_is : {r : Result (Unit {0}) Fault} {f : Fault} → Fails r f → r ≡ Err f
+pub fails_is : {r : Result (Unit {0}) Fault} {f : Fault} → Fails r f → r ≡ Err f
 fails_is {r} h = let p = err_from_is_err_and r h in rw (p.1, p.2)
 
 pub judged_first : (a b : Option Fault) {f : Fault} {r : Result (Unit {0}) Fault} → Err f ≡ judged a → Fails r f → r ≡ judged (or_else a b)

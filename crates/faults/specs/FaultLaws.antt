@@ -1,38 +1,41 @@
 -- A table's fault from its lines, its late faults and its unused places, as the code finds it.
-use Rattle.std.specs.Prelude.{ℕ, ◌≡◌, Bool, true, false}
-use Rattle.std.proofs.Math.Path.{sym}
-use Rattle.std.proofs.Common.{◌∙◌, ap}
-use Rattle.std.proofs.Math.Option.{none}
+use Rattle.std.specs.Prelude.{ℕ, suc, ◌≡◌, refl, List, [], ◌∷◌, Result, Ok, Err}
+use Rattle.std.proofs.Common.{sym, ◌∙◌, ap}
+use Rattle.std.proofs.Math.Option.{Option, none, some}
 use Rattle.table.specs.declared.Table.{Table}
 use Rattle.text.specs.declared.Fault.{Fault}
 use Rattle.text.specs.declared.Fault.TheVariants.{Unused}
-use Rattle.text.specs.Fault.{number}
 use Rattle.text.specs.Value.{or_else, unless}
-use Rattle.text.specs.Reader.{late, first_late, good}
-use Rattle.text.specs.Writer.{tidy, fault_in, fault}
-use Rattle.text.proofs.ValidLaws.{numbered_none}
-use Rattle.text.specs.Structure.{first_in, lines_fault, table_fault, numbered}
+use Rattle.text.specs.Reader.{late, first_late, good, bad}
+use Rattle.text.specs.Writer.{tidy}
+use Rattle.text.specs.Structure.{first_in, lines_fault, table_fault}
 use Rattle.text.proofs.LinedLaws.{lined_of}
-use Rattle.text.proofs.StructureLaws.{fault_is, late_fault}
-use Rattle.checks.specs.Numbers.{first_some, numbered_else}
-use Rattle.late.specs.declared.Late.{Late}
-use Rattle.late.specs.declared.Late.TheVariants.{Good, Bad}
-use Rattle.late.specs.Late.{Counted, late_in}
-use Rattle.line_faults.specs.Lines.{lines_number}
-use Rattle.line_faults.specs.LineLaws.{lines_is}
+use Rattle.checks.specs.Judging.{judged, Fails, judged_first, judged_then, judged_none}
+use Rattle.late.specs.Late.{Counted}
 use Rattle.unused.specs.Unused.{Ranged}
 
+-- the first fault that the reader finds after all lines is the first of the list
+first_none : (t : Table) (l : ℕ) (fs : List (Option Fault)) → good t ≡ first_late t l fs → first_in fs ≡ none
+unfolding first_late first_in
+first_none t l [] e = refl
+first_none t l (none ∷ fs) e = first_none t (suc l) fs e
+first_none t l (some f ∷ fs) e = absurd (cc)
+
+first_some : (t : Table) (l : ℕ) (fs : List (Option Fault)) {f : Fault} {k : ℕ} → bad f k ≡ first_late t l fs → first_in fs ≡ some f
+unfolding first_late first_in
+first_some t l [] e = absurd (cc)
+first_some t l (none ∷ fs) e = first_some t (suc l) fs e
+first_some t l (some g ∷ fs) e = cc
+
 -- the lines have a fault
-pub fault_lines : (t : Table) {r : ℕ} → r ≡ lines_number t → (r ≡ 0 → ⊥) → r ≡ fault t
+pub lines_found : (t : Table) {f : Fault} {r : Result (Unit {0}) Fault} → Err f ≡ judged (lines_fault t) → Fails r f → r ≡ judged (table_fault t)
 unfolding table_fault
-fault_lines t {r} e z =
-    let h : r ≡ numbered (lines_fault t) = e ∙ sym (lines_is t) in
-    sym (fault_is t ∙ numbered_else (lines_fault t) (or_else (first_in (late t)) (unless (tidy t) Unused)) ∙ rw (← h) (sym (first_some r _ z)))
+lines_found t e h = judged_first (lines_fault t) _ e h
 
 -- or none: then the counts are in range,
-module _ (t : Table) {r : ℕ} (e : r ≡ lines_number t) (z : r ≡ 0) where
+module _ (t : Table) (e : Ok tt ≡ judged (lines_fault t)) where
   lines_none : lines_fault t ≡ none
-  lines_none = numbered_none (lines_fault t) (lines_is t ∙ sym e ∙ z)
+  lines_none = judged_none (lines_fault t) e
 
   pub counted_of : Counted t
   counted_of = let v = lined_of t lines_none in record { tasks = v.tasks; procs = v.procs; nodes = λ p l. (v.proc p l).nodes }
@@ -41,21 +44,10 @@ module _ (t : Table) {r : ℕ} (e : r ≡ lines_number t) (z : r ≡ 0) where
   ranged_of = let v = lined_of t lines_none in record { tasks = v.tasks; sems = v.sems; queues = v.queues; procs = v.procs; nodes = λ p l. (v.proc p l).nodes }
 
   -- and the fault is a late one or an unused place
-  rest : (l : Late) → late_in t l ≡ first_late t 1 (late t) → fault_in t (late_in t l) ≡ fault t
+  pub late_fault : {f : Fault} {k : ℕ} → bad f k ≡ first_late t 1 (late t) → Err f ≡ judged (table_fault t)
   unfolding table_fault
-  rest l h =
-      let m : fault_in t (late_in t l) ≡ numbered (or_else (first_in (late t)) (unless (tidy t) Unused)) = rw h (late_fault t t 1 (late t)) in
-      m ∙ sym (fault_is t ∙ rw lines_none)
+  late_fault h = rw (lines_none, first_some t 1 (late t) h)
 
-  pub fault_late : (l : Late) (f : Fault) (k : ℕ) {y : ℕ} → late_in t l ≡ first_late t 1 (late t) → l ≡ Bad f k → y ≡ number f → y ≡ fault t
-  fault_late l f k h b n = n ∙ (rw b at (rest l h))
-
-  pub fault_unused : (l : Late) {y : ℕ} → late_in t l ≡ first_late t 1 (late t) → l ≡ Good → y ≡ fault_in t (good t) → y ≡ fault t
-  fault_unused l h b n = n ∙ (rw b at (rest l h))
-
-pub tidy_all : (t : Table) (b : Bool) → b ≡ tidy t → b ≡ true → 0 ≡ fault_in t (good t)
-tidy_all t b e z = ap (λ (x : Bool). elim x as (λ y. ℕ) [ true ↦ 0 | false ↦ number Unused ]) (sym z ∙ e)
-
-pub tidy_not : (t : Table) (b : Bool) → b ≡ tidy t → b ≡ false → 2 ≡ fault_in t (good t)
-unfolding number
-tidy_not t b e z = ap (λ (x : Bool). elim x as (λ y. ℕ) [ true ↦ 0 | false ↦ number Unused ]) (sym z ∙ e)
+  pub unused_fault : {r : Result (Unit {0}) Fault} → good t ≡ first_late t 1 (late t) → r ≡ judged (unless (tidy t) Unused) → r ≡ judged (table_fault t)
+  unfolding table_fault
+  unused_fault h u = rw (lines_none, first_none t 1 (late t) h) u

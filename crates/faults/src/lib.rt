@@ -1,33 +1,36 @@
-// The fault of a hand-made table, by its number; 0 is none.
+// The fault of a hand-made table.
 
 #![tactic(auto)]
 
 ghost use Rattle.std.specs.Prelude.{◌≡◌};
-ghost use Rattle.text.specs.Reader.{good};
-ghost use Rattle.text.specs.Writer.{fault_in, fault as table_fault};
+ghost use Rattle.text.specs.declared.Fault.TheVariants.{Unused};
+ghost use Rattle.text.specs.Value.{unless};
+ghost use Rattle.text.specs.Writer.{tidy};
+ghost use Rattle.text.specs.Structure.{table_fault};
+ghost use Rattle.checks.specs.Judging.{judged};
 ghost use Rattle.unused.specs.Unused.{Ranged};
 
-use late::Late;
 use table::Table;
+use text::Fault;
 
-fn unused(t: Table) -> u8
+fn unused(t: Table) -> Result<(), Fault>
     requires { Ranged t }
-    ensures { result ≡ fault_in t (good t) }
+    ensures { result ≡ judged (unless (tidy t) Unused) }
 {
-    if unused::all_tidy(t) { 0 } else { text::UNUSED }
+    if unused::all_tidy(t) {
+        Ok(())
+    } else {
+        Err(Fault::Unused)
+    }
 }
 
-// The number of a table's first fault, faulty or not; 0 where there is none.
-pub fn fault(t: Table) -> u8
-    ensures { result ≡ table_fault t }
+// A table's first fault, faulty or not.
+pub fn fault(t: Table) -> Result<(), Fault>
+    ensures { result ≡ judged (table_fault t) }
 {
-    let r = line_faults::lines(t);
-    if r != 0 {
-        return r;
+    line_faults::lines(t)?;
+    if let Err(late) = late::find(t) {
+        return Err(late.fault);
     }
-    let l = late::find(t);
-    match l {
-        Late::Good => unused(t),
-        Late::Bad(f, _) => codes::number(f),
-    }
+    unused(t)
 }

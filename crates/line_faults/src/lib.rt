@@ -1,210 +1,155 @@
-// The fault of the lines that a hand-made table stands for, by its number; 0 is none.
+// The fault of the lines that a hand-made table stands for.
 
 #![tactic(auto)]
 
-ghost use Rattle.std.specs.Prelude.{◌≡◌, suc, ◌-◌, ◌≤◌, ◌<◌};
-ghost use Rattle.text.specs.Fault.{number as number_of};
-ghost use Rattle.text.specs.Structure.{node_due, gap as gapFault};
+ghost use Rattle.std.specs.Prelude.{◌≡◌, ℕ, suc, ◌-◌, ◌≤◌, ◌<◌};
+ghost use Rattle.table.specs.Table.{node_in, proc_at};
+ghost use Rattle.text.specs.Value.{or_else};
+ghost use Rattle.text.specs.Line.{line_fault};
+ghost use Rattle.text.specs.Format.{proc_line as lineOf, describe};
+ghost use Rattle.text.specs.Writer.{proc_vals};
+ghost use Rattle.text.specs.Structure.{first_of, node_due, gap as gapFault, place_fault, head_fault, counts_fault, tasks_fault, sems_fault, queues_fault, proc_fault, procs_fault, lines_fault};
+ghost use Rattle.targets.specs.Judged.{judged};
 ghost use Rattle.checks.specs.NodeChecks.{scope_in};
-ghost use Rattle.line_faults.specs.Lines.{head_number, tasks_number, sems_number, queues_number, drop_number, proc_line_number, settled as settledNumber, nodes_number, proc_number, procs_number, lines_number};
 
 use checks::Limits;
 use table::{Node, Proc, Queue, Sem, Slot, Table, Task};
+use text::Fault;
 
 // The first two lines.
-fn head(trap: u8, tasks: u8, procs: u8, sems: u8, queues: u8) -> u8
-    ensures { result ≡ head_number trap tasks procs sems queues }
+fn head(t: &Table) -> Result<(), Fault>
+    ensures { result ≡ judged (or_else (head_fault t.now) (counts_fault t.now)) }
 {
-    let h = checks::between(1, trap, 1);
-    let t = checks::between(1, tasks, 4);
-    let p = checks::between(1, procs, 8);
-    let s = checks::between(0, sems, 8);
-    let q = checks::between(0, queues, 8);
-    checks::first(h, checks::first(t, checks::first(p, checks::first(s, q))))
+    checks::between(1, t.trap, 1)?;
+    checks::between(1, t.tasks, 4)?;
+    checks::between(1, t.procs, 8)?;
+    checks::between(0, t.sems, 8)?;
+    checks::between(0, t.queues, 8)
 }
 
-fn tasks(task: [Task; 4], n: u8, procs: u8) -> u8
-    requires { n ≤ 4 }
-    ensures { result ≡ tasks_number task n procs }
+fn tasks(t: &Table) -> Result<(), Fault>
+    requires { t.now.tasks ≤ 4 }
+    ensures { result ≡ judged (tasks_fault t.now) }
 {
-    let m = n as usize;
-    let mut i: usize = 0;
-    while i < m {
-        let x = task[i];
-        let r = checks::reference(x.top, procs);
-        if r != 0 {
-            return r;
-        }
-        i += 1;
+    for x in &t.task[..usize::from(t.tasks)] {
+        checks::reference(x.top, t.procs)?;
     }
-    0
+    Ok(())
 }
 
-fn sems(sem: [Sem; 8], n: u8) -> u8
-    requires { n ≤ 8 }
-    ensures { result ≡ sems_number sem n }
+fn sems(t: &Table) -> Result<(), Fault>
+    requires { t.now.sems ≤ 8 }
+    ensures { result ≡ judged (sems_fault t.now) }
 {
-    let m = n as usize;
-    let mut i: usize = 0;
-    while i < m {
-        let x = sem[i];
-        let r = checks::between(0, x.count, 255);
-        if r != 0 {
-            return r;
-        }
-        i += 1;
+    for x in &t.sem[..usize::from(t.sems)] {
+        checks::between(0, x.count, 255)?;
     }
-    0
+    Ok(())
 }
 
-fn queues(queue: [Queue; 8], n: u8) -> u8
-    requires { n ≤ 8 }
-    ensures { result ≡ queues_number queue n }
+fn queues(t: &Table) -> Result<(), Fault>
+    requires { t.now.queues ≤ 8 }
+    ensures { result ≡ judged (queues_fault t.now) }
 {
-    let m = n as usize;
-    let mut i: usize = 0;
-    while i < m {
-        let x = queue[i];
-        let r = checks::between(1, x.cap, 8);
-        if r != 0 {
-            return r;
-        }
-        i += 1;
+    for x in &t.queue[..usize::from(t.queues)] {
+        checks::between(1, x.cap, 8)?;
     }
-    0
+    Ok(())
 }
 
-fn drop_list(closed: bool, params: u8, drop: u8) -> u8
-    ensures { result ≡ drop_number closed params drop }
+// The line of a procedure.
+fn proc_line(closed: bool, q: &Proc) -> Result<(), Fault>
+    ensures { (p : ℕ) → result ≡ judged (line_fault (lineOf closed p) (proc_vals closed p q.now)) }
 {
+    checks::between(0, q.params, 4)?;
+    checks::between(q.params, q.vars, 16)?;
+    checks::between(2, q.nodes, 32)?;
     if closed {
-        return targets::dropped(params, drop);
+        targets::dropped(q.params, q.drop)?;
     }
-    0
-}
-
-fn proc_line(closed: bool, params: u8, vars: u8, nodes: u8, drop: u8) -> u8
-    ensures { result ≡ proc_line_number closed params vars nodes drop }
-{
-    let k = checks::between(0, params, 4);
-    let m = checks::between(params, vars, 16);
-    let n = checks::between(2, nodes, 32);
-    let d = drop_list(closed, params, drop);
-    checks::first(k, checks::first(m, checks::first(n, d)))
+    Ok(())
 }
 
 // What stands behind a procedure's lines where a node is due: the text's end behind the last procedure, else another key.
-fn node_due(last: bool) -> u8
-    ensures { result ≡ number_of (node_due last) }
+fn node_due(last: bool) -> Fault
+    ensures { result ≡ node_due last }
 {
-    if last { text::ENDED } else { text::FORM }
+    if last { Fault::Ended } else { Fault::Form }
 }
 
 // What stands where node j is due that is absent: a later node, or what is behind the procedure's lines.
-fn gap(last: bool, q: Proc, j: usize) -> u8
-    requires { (j < q.nodes) × (q.nodes ≤ 32) }
-    ensures { result ≡ number_of (gapFault last q (q.nodes - suc j) (suc j)) }
+fn gap(last: bool, q: &Proc, j: usize) -> Fault
+    requires { (j < q.now.nodes) × (q.now.nodes ≤ 32) }
+    ensures { result ≡ gapFault last q.now (q.now.nodes - suc j) (suc j) }
 {
-    let n = q.nodes as usize;
-    let mut i = j + 1;
-    while i < n {
-        let s = q.slots[i];
-        let x = s.node;
-        if checks::absent(x) {
-            i += 1;
-        } else {
-            return text::INDEX;
+    for i in j + 1..usize::from(q.nodes) {
+        if !checks::absent(q.slots[i].node) {
+            return Fault::Index;
         }
     }
     node_due(last)
 }
 
-// The fault r of place j, which may be a gap.
-fn settled(r: u8, last: bool, q: Proc, j: usize) -> u8
-    requires { (j < q.nodes) × (q.nodes ≤ 32) }
-    ensures { result ≡ settledNumber (number_of (gapFault last q (q.nodes - suc j) (suc j))) r }
+// Place j of a procedure, the table's last or not.
+fn place(last: bool, q: &Proc, j: usize, c: Limits) -> Result<(), Fault>
+    requires { (j < q.now.nodes) × (q.now.nodes ≤ 32) × (c.nodes ≡ q.now.nodes) }
+    ensures { result ≡ judged (place_fault (scope_in c) last q.now j (describe (scope_in c) (node_in q.now j))) }
 {
-    if r == checks::GAP {
-        return gap(last, q, j);
+    match checks::node(q.slots[j].node, j, c) {
+        Some(judged) => judged,
+        None => Err(gap(last, q, j)),
     }
-    r
 }
 
-fn nodes(last: bool, q: Proc, c: Limits) -> u8
-    requires { (q.nodes ≤ 32) × (c.nodes ≡ q.nodes) }
-    ensures { result ≡ nodes_number (scope_in c) last q }
+fn nodes(last: bool, q: &Proc, c: Limits) -> Result<(), Fault>
+    requires { (q.now.nodes ≤ 32) × (c.nodes ≡ q.now.nodes) }
+    ensures { result ≡ judged (first_of (λ j. place_fault (scope_in c) last q.now j (describe (scope_in c) (node_in q.now j))) q.now.nodes 0) }
 {
-    let n = q.nodes as usize;
-    let mut j: usize = 0;
-    while j < n {
-        let s = q.slots[j];
-        let x = s.node;
-        let r = checks::node(x, j, c);
-        if r != 0 {
-            return settled(r, last, q, j);
-        }
-        j += 1;
+    for j in 0..usize::from(q.nodes) {
+        place(last, q, j, c)?;
     }
-    0
+    Ok(())
 }
 
-// A procedure, the table's last or not.
-fn proc(last: bool, q: Proc, closed: bool, procs: u8, sems: u8, queues: u8) -> u8
-    ensures { result ≡ proc_number closed procs sems queues last q }
+// Procedure p of a table.
+fn proc(t: &Table, p: usize) -> Result<(), Fault>
+    requires { (p < t.now.procs) × (t.now.procs ≤ 8) }
+    ensures { result ≡ judged (proc_fault t.now p) }
 {
-    let r = proc_line(closed, q.params, q.vars, q.nodes, q.drop);
-    if r != 0 {
-        return r;
-    }
+    let q = &t.proc[p];
+    proc_line(t.closed, q)?;
+    let last = usize::from(t.procs) <= p + 1;
     nodes(
         last,
         q,
         Limits {
-            closed,
-            procs,
-            sems,
-            queues,
+            closed: t.closed,
+            procs: t.procs,
+            sems: t.sems,
+            queues: t.queues,
             vars: q.vars,
             nodes: q.nodes,
         },
     )
 }
 
-fn procs(t: Table) -> u8
-    requires { t.procs ≤ 8 }
-    ensures { result ≡ procs_number t }
+fn procs(t: &Table) -> Result<(), Fault>
+    requires { t.now.procs ≤ 8 }
+    ensures { result ≡ judged (procs_fault t.now) }
 {
-    let n = t.procs as usize;
-    let mut p: usize = 0;
-    while p < n {
-        let q = t.proc[p];
-        let last = n <= p + 1;
-        let r = proc(last, q, t.closed, t.procs, t.sems, t.queues);
-        if r != 0 {
-            return r;
-        }
-        p += 1;
+    for p in 0..usize::from(t.procs) {
+        proc(t, p)?;
     }
-    0
+    Ok(())
 }
 
 // The first fault of a line.
-pub fn lines(t: Table) -> u8
-    ensures { result ≡ lines_number t }
+pub fn lines(t: Table) -> Result<(), Fault>
+    ensures { result ≡ judged (lines_fault t) }
 {
-    let h = head(t.trap, t.tasks, t.procs, t.sems, t.queues);
-    if h != 0 {
-        return h;
-    }
-    let task = t.task;
-    let sem = t.sem;
-    let queue = t.queue;
-    let a = tasks(task, t.tasks, t.procs);
-    let b = sems(sem, t.sems);
-    let c = queues(queue, t.queues);
-    let d = checks::first(a, checks::first(b, c));
-    if d != 0 {
-        return d;
-    }
-    procs(t)
+    head(&t)?;
+    tasks(&t)?;
+    sems(&t)?;
+    queues(&t)?;
+    procs(&t)
 }

@@ -2,195 +2,108 @@
 
 #![tactic(auto)]
 
-ghost use Rattle.std.specs.Prelude.{◌≡◌, true, ◌≤◌, drop};
-ghost use Rattle.table.specs.Table.{arg_places};
-ghost use Rattle.text.specs.Writer.{every, is_zero, args_empty, tidy};
-ghost use Rattle.unused.specs.Unused.{task_fits, sem_fits, queue_fits, slot_fits, ProcFits, tasks_tidy, sems_tidy, queues_tidy, slots_tidy, procs_tidy, head_tidy, Ranged};
-ghost use Rattle.unused.specs.UnusedLaws.{spare as spareAt};
+ghost use Rattle.std.specs.Prelude.{◌≡◌, not, ◌||◌, ◌≤◌, ◌<◌, ℕ, drop, length, get_or};
+ghost use Rattle.table.specs.Table.{arg_places, outside};
+ghost use Rattle.text.specs.Writer.{every, is_zero, task_empty, sem_empty, queue_empty, slot_empty, proc_empty, args_empty, proc_tidy, tidy};
+ghost use Rattle.unused.specs.Unused.{Ranged, spare as spareAt};
 
 use table::{Args, Node, Proc, Queue, Sem, Slot, Table, Task};
 
-fn task_fits(x: Task, used: bool) -> bool
-    ensures { result ≡ task_fits used x }
+fn tasks_empty(tasks: &[Task]) -> bool
+    ensures { result ≡ every task_empty tasks.now }
 {
-    if used {
-        return true;
-    }
-    x.top == 0
+    tasks.iter().all(|x| x.top == 0)
 }
 
-fn sem_fits(x: Sem, used: bool) -> bool
-    ensures { result ≡ sem_fits used x }
+fn sems_empty(sems: &[Sem]) -> bool
+    ensures { result ≡ every sem_empty sems.now }
 {
-    if used {
-        return true;
-    }
-    x.count == 0
+    sems.iter().all(|x| x.count == 0)
 }
 
-fn queue_fits(x: Queue, used: bool, closed: bool) -> bool
-    ensures { result ≡ queue_fits closed used x }
+fn queues_empty(queues: &[Queue]) -> bool
+    ensures { result ≡ every queue_empty queues.now }
 {
-    if used {
-        if closed {
-            return true;
-        }
-        return !x.blank;
-    }
-    if x.cap == 0 {
-        return !x.blank;
-    }
-    false
+    queues.iter().all(|x| x.cap == 0 && !x.blank)
+}
+
+// Only a closed table has blank queues.
+fn blanks_fit(closed: bool, queues: &[Queue]) -> bool
+    ensures { result ≡ every (λ x. closed || not x.blank) queues.now }
+{
+    queues.iter().all(|x| closed || !x.blank)
 }
 
 // Place k behind a call's arguments is 0.
 fn spare(len: u8, k: u8, v: u8) -> bool
     ensures { result ≡ spareAt len k v }
 {
-    if k < len {
-        return true;
-    }
-    v == 0
+    k < len || v == 0
 }
 
 fn call_fits(xs: Args) -> bool
     ensures { result ≡ every is_zero (drop xs.len (arg_places xs)) }
 {
-    let a = spare(xs.len, 0, xs.a0);
-    let b = spare(xs.len, 1, xs.a1);
-    let c = spare(xs.len, 2, xs.a2);
-    let d = spare(xs.len, 3, xs.a3);
-    checks::both(a, checks::both(b, checks::both(c, d)))
+    spare(xs.len, 0, xs.a0)
+        && spare(xs.len, 1, xs.a1)
+        && spare(xs.len, 2, xs.a2)
+        && spare(xs.len, 3, xs.a3)
 }
 
 fn args_fit(x: Node) -> bool
     ensures { result ≡ args_empty x }
 {
-    if let Node::Call {
-        callee: _,
-        args,
-        to: _,
-    } = x
-    {
-        call_fits(args)
-    } else {
-        true
+    match x {
+        Node::Call { args, .. } => call_fits(args),
+        _ => true,
     }
 }
 
-fn slot_fits(x: Node, used: bool) -> bool
-    ensures { result ≡ slot_fits used x }
+fn slots_empty(slots: &[Slot]) -> bool
+    ensures { result ≡ every slot_empty slots.now }
 {
-    if used {
-        return args_fit(x);
-    }
-    checks::absent(x)
+    slots.iter().all(|s| checks::absent(s.node))
 }
 
-fn tasks_tidy(task: [Task; 4], n: u8) -> bool
-    ensures { result ≡ tasks_tidy task n }
+fn slots_fit(slots: &[Slot]) -> bool
+    ensures { result ≡ every (λ s. args_empty s.node) slots.now }
 {
-    let m = n as usize;
-    let mut i: usize = 0;
-    while i < 4 {
-        let x = task[i];
-        if task_fits(x, i < m) {
-            i += 1;
-        } else {
+    slots.iter().all(|s| args_fit(s.node))
+}
+
+fn proc_empty(q: &Proc) -> bool
+    ensures { result ≡ proc_empty q.now }
+{
+    let counts = q.params == 0 && q.vars == 0 && q.nodes == 0 && q.drop == 0;
+    counts && slots_empty(&q.slots)
+}
+
+// Behind its nodes and behind its calls' arguments, and what only a closed table drops.
+fn proc_tidy(closed: bool, q: &Proc) -> bool
+    requires { q.now.nodes ≤ 32 }
+    ensures { result ≡ proc_tidy closed q.now }
+{
+    let n = usize::from(q.nodes);
+    slots_empty(&q.slots[n..]) && slots_fit(&q.slots[..n]) && (closed || q.drop == 0)
+}
+
+fn procs_empty(procs: &[Proc]) -> bool
+    ensures { result ≡ every proc_empty procs.now }
+{
+    for q in procs {
+        if !proc_empty(q) {
             return false;
         }
     }
     true
 }
 
-fn sems_tidy(sem: [Sem; 8], n: u8) -> bool
-    ensures { result ≡ sems_tidy sem n }
+fn procs_tidy(closed: bool, procs: &[Proc]) -> bool
+    requires { (k : ℕ) → k < length procs.now → (get_or procs.now k outside).nodes ≤ 32 }
+    ensures { result ≡ every (proc_tidy closed) procs.now }
 {
-    let m = n as usize;
-    let mut i: usize = 0;
-    while i < 8 {
-        let x = sem[i];
-        if sem_fits(x, i < m) {
-            i += 1;
-        } else {
-            return false;
-        }
-    }
-    true
-}
-
-fn queues_tidy(queue: [Queue; 8], n: u8, closed: bool) -> bool
-    ensures { result ≡ queues_tidy closed queue n }
-{
-    let m = n as usize;
-    let mut i: usize = 0;
-    while i < 8 {
-        let x = queue[i];
-        if queue_fits(x, i < m, closed) {
-            i += 1;
-        } else {
-            return false;
-        }
-    }
-    true
-}
-
-fn slots_tidy(q: Proc) -> bool
-    requires { q.nodes ≤ 32 }
-    ensures { result ≡ slots_tidy q }
-{
-    let n = q.nodes as usize;
-    let mut j: usize = 0;
-    while j < 32 {
-        let s = q.slots[j];
-        let x = s.node;
-        if slot_fits(x, j < n) {
-            j += 1;
-        } else {
-            return false;
-        }
-    }
-    true
-}
-
-// What stands on a procedure's line.
-fn head_tidy(closed: bool, used: bool, params: u8, vars: u8, nodes: u8, drop: u8) -> bool
-    ensures { result ≡ head_tidy closed used params vars nodes drop }
-{
-    let d = drop == 0;
-    if used {
-        if closed {
-            return true;
-        }
-        return d;
-    }
-    checks::both(
-        params == 0,
-        checks::both(vars == 0, checks::both(nodes == 0, d)),
-    )
-}
-
-fn proc_fits(q: Proc, used: bool, closed: bool) -> bool
-    requires { used ≡ true → q.nodes ≤ 32 }
-    ensures { result ≡ ProcFits closed used q }
-{
-    if head_tidy(closed, used, q.params, q.vars, q.nodes, q.drop) {
-        return slots_tidy(q);
-    }
-    false
-}
-
-fn procs_tidy(t: Table) -> bool
-    requires { Ranged t }
-    ensures { result ≡ procs_tidy t }
-{
-    let m = t.procs as usize;
-    let mut p: usize = 0;
-    while p < 8 {
-        let q = t.proc[p];
-        if proc_fits(q, p < m, t.closed) {
-            p += 1;
-        } else {
+    for q in procs {
+        if !proc_tidy(closed, q) {
             return false;
         }
     }
@@ -202,12 +115,14 @@ pub fn all_tidy(t: Table) -> bool
     requires { Ranged t }
     ensures { result ≡ tidy t }
 {
-    let task = t.task;
-    let sem = t.sem;
-    let queue = t.queue;
-    let a = tasks_tidy(task, t.tasks);
-    let b = sems_tidy(sem, t.sems);
-    let c = queues_tidy(queue, t.queues, t.closed);
-    let d = procs_tidy(t);
-    checks::both(a, checks::both(b, checks::both(c, d)))
+    let tasks = usize::from(t.tasks);
+    let sems = usize::from(t.sems);
+    let queues = usize::from(t.queues);
+    let procs = usize::from(t.procs);
+    tasks_empty(&t.task[tasks..])
+        && sems_empty(&t.sem[sems..])
+        && queues_empty(&t.queue[queues..])
+        && procs_empty(&t.proc[procs..])
+        && blanks_fit(t.closed, &t.queue[..queues])
+        && procs_tidy(t.closed, &t.proc[..procs])
 }

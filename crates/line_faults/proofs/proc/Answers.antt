@@ -1,12 +1,10 @@
-use Rattle.std.proofs.Common.{rules}
-use Rattle.line_faults.specs.LineSteps.{proc_line_found, proc_nodes_found, proc_range}
+use Rattle.std.proofs.Common.{refl, add-one}
+use Rattle.checks.specs.Judging.{judged_then}
+use Rattle.line_faults.specs.LineLaws.{proc_range}
 use Rattle.line_faults.proofs.proc.Goals as goal
 
-pub returns-then-r-ne0 : goal.returns-then-r-ne0
-returns-then-r-ne0 c = search (rules, proc_line_found)
-
 pub nodes-requires : goal.nodes-requires
-nodes-requires c = search (rules, proc_range)
+nodes-requires c = (proc_range _ c.args.p _ (c.in_ok-proc_line.ensures c.args.p), refl)
 
 pub returns : goal.returns
-returns c = search (rules, proc_nodes_found)
+returns c = judged_then _ _ (c.in_ok-proc_line.ensures c.args.p) (rw (c.from.ensures, add-one) at c.nodes.ensures)

@@ -1,11 +1,9 @@
-use Rattle.std.proofs.Common.{◌-◌, get_or}
+use Rattle.text.specs.Line.{line_fault}
+use Rattle.table.specs.Table.{queue_at}
+use Rattle.text.specs.Format.{queue_line}
+use Rattle.text.specs.Writer.{queue_vals}
 use Rattle.line_faults.specs.Rows.{Passed}
-use Rattle.table.specs.Table.{no_queue}
-use Rattle.line_faults.specs.Lines.{range_number}
 use Rattle.line_faults.proofs.queues.Given as goal
 
-abbrev pub invariant-loop-i : goal.invariant-loop-i
-invariant-loop-i l = Passed (λ i. range_number 1 (get_or l.queue i no_queue).cap 8) l.n l.i
-
-abbrev pub decreases-loop-i : goal.decreases-loop-i
-decreases-loop-i l = l.n - l.i
+abbrev pub invariant-loop-x : goal.invariant-loop-x
+invariant-loop-x l = Passed (λ i. line_fault (queue_line l.t.closed i) (queue_vals l.t.closed i (queue_at l.t i))) l.t.queues l.x-index

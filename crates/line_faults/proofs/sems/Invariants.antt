@@ -1,11 +1,8 @@
-use Rattle.std.proofs.Common.{◌-◌, get_or}
+use Rattle.text.specs.Line.{line_fault}
+use Rattle.table.specs.Table.{sem_at}
+use Rattle.text.specs.Format.{sem_line, sem_vals}
 use Rattle.line_faults.specs.Rows.{Passed}
-use Rattle.table.specs.Table.{no_sem}
-use Rattle.line_faults.specs.Lines.{range_number}
 use Rattle.line_faults.proofs.sems.Given as goal
 
-abbrev pub invariant-loop-i : goal.invariant-loop-i
-invariant-loop-i l = Passed (λ i. range_number 0 (get_or l.sem i no_sem).count 255) l.n l.i
-
-abbrev pub decreases-loop-i : goal.decreases-loop-i
-decreases-loop-i l = l.n - l.i
+abbrev pub invariant-loop-x : goal.invariant-loop-x
+invariant-loop-x l = Passed (λ i. line_fault (sem_line i) (sem_vals i (sem_at l.t i))) l.t.sems l.x-index

@@ -1,12 +1,8 @@
-use Rattle.std.proofs.Common.{rules}
-use Rattle.table.specs.Table.{parts}
 use Rattle.unused.specs.UnusedLaws.{call_args, no_args}
-use borrow.Enum.Refused.{opened}
 use Rattle.unused.proofs.args_fit.Goals as goal
 
 pub returns-in-Call : goal.returns-in-Call
-unfolding parts
-returns-in-Call c = search (rules, call_args)
+returns-in-Call c = call_args _ c.in-Call.is c.call_fits.ensures
 
 pub returns-in_default : goal.returns-in_default
-returns-in_default c = no_args _ (opened c.in_default.in_default-own.keys2)
+returns-in_default c = no_args _ c.in_default.not-Call

@@ -1,11 +1,7 @@
-use Rattle.std.proofs.Common.{◌-◌, ltb}
-use Rattle.table.specs.Table.{proc_at}
-use Rattle.unused.specs.Unused.{ProcFits}
-use Rattle.unused.specs.UnusedLaws.{Cleared}
+use Rattle.std.proofs.Common.{◌≡◌, ℕ, ◌<◌, true, get_or}
+use Rattle.table.specs.Table.{outside}
+use Rattle.text.specs.Writer.{proc_tidy}
 use Rattle.unused.proofs.procs_tidy.Given as goal
 
-abbrev pub invariant-loop-p : goal.invariant-loop-p
-invariant-loop-p l = Cleared (λ p. ProcFits l.t.closed (ltb p l.t.procs) (proc_at l.t p)) l.p
-
-abbrev pub decreases-loop-p : goal.decreases-loop-p
-decreases-loop-p l = 8 - l.p
+abbrev pub invariant-loop-q : goal.invariant-loop-q
+invariant-loop-q l = (k : ℕ) → k < l.q-index → proc_tidy l.closed (get_or l.procs k outside) ≡ true
