@@ -18,11 +18,6 @@ pub fn put_closed(out: &mut [u8], t: Table) -> usize
     ensures { Put 65536 out.old 0 (text (close_table t)) out.new result }
 {
     let cells = analysis::dirty_cells(t);
-    let b = cells[264];
-    let queues = t.queue;
-    let queue = closer::closed_queues(queues, b);
-    let task = t.task;
-    let sem = t.sem;
     let front = Front {
         trap: t.trap,
         closed: true,
@@ -30,18 +25,15 @@ pub fn put_closed(out: &mut [u8], t: Table) -> usize
         procs: t.procs,
         sems: t.sems,
         queues: t.queues,
-        task,
-        sem,
-        queue,
+        task: t.task,
+        sem: t.sem,
+        queue: closer::closed_queues(t.queue, cells[264]),
     };
     let mut p = writer::put_front(out, front);
-    let mut i: u8 = 0;
-    while i < t.procs {
+    for i in 0..t.procs {
         let k = i as usize;
-        let q = t.proc[k];
-        let c = closer::closed_proc(q, k, &cells);
+        let c = closer::closed_proc(t.proc[k], k, &cells);
         p = writer::put_proc(out, p, true, i, c);
-        i += 1;
     }
     p
 }
@@ -52,11 +44,10 @@ pub fn close_text(s: &[u8], out: &mut [u8]) -> usize
 {
     let r = reader::read(s);
     if r.number != 0 {
-        return refusals::put_refused(out, r.number, r.line);
+        refusals::put_refused(out, r.number, r.line)
+    } else if r.table.closed {
+        refusals::put_refused(out, 9, 0)
+    } else {
+        put_closed(out, r.table)
     }
-    let t = r.table;
-    if t.closed {
-        return refusals::put_refused(out, 9, 0);
-    }
-    put_closed(out, t)
 }

@@ -164,11 +164,6 @@ goes_on (receives q v) = false
 goes_on (calls q xs) = false
 goes_on returns = true
 
-abbrev pub is_either : Exit → Bool
-is_either ends = false
-is_either (by m) = false
-is_either (either y z) = true
-
 -- it passes on what is dirty, by its sets and uses
 abbrev pub passes : Node → Bool
 passes x = goes_on (act x) && not (is_never (keeping x))

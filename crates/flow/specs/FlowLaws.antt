@@ -17,7 +17,7 @@ use Rattle.table.specs.MaskLaws.{bit_ext}
 use Rattle.masks.specs.Bits.{bit_zero, bit_one, bit_one_out, bit_or_out, bit_or_l, bit_or_r, bit_and_out, bit_and_in, least}
 use Rattle.flow.specs.declared.Flow.{Flow}
 use Rattle.flow.specs.declared.Pass.{Pass}
-use Rattle.flow.specs.Flow.{low, any_of, after_set, is_never, from_blank, first_to, second_to, after_any, out_by, add_by, flow_of, uses_of, plain_pass, mask_in, goes_on, is_either, passes, pass_by, pass_of, after_pass}
+use Rattle.flow.specs.Flow.{low, any_of, after_set, is_never, from_blank, first_to, second_to, after_any, out_by, add_by, flow_of, uses_of, plain_pass, mask_in, goes_on, passes, pass_by, pass_of, after_pass}
 
 pub low_bit : (m : ℕ) → m < 2 ^ 32 → m ≢ 0 → bit (low m) m ≡ true
 low_bit m h z = let i = least 32 m h z in rw (mod-eq_of_lt i.0) i.1
@@ -119,12 +119,6 @@ pub second_low : (e : Exit) (n : ℕ) → n < 32 → second_to n e < 32
 second_low ends n h = h
 second_low (by m) n h = omega arith
 second_low (either y z) n h = omega arith
-
--- only a test has two targets
-pub one_target : (e : Exit) (n : ℕ) → not (is_either e) ≡ true → second_to n e ≡ first_to n e
-one_target ends n h = refl
-one_target (by m) n h = refl
-one_target (either y z) n h = absurd (false≢true h)
 
 -- a target, or 32
 pub pass_low : (x : Node) (n : ℕ) → n ≤ 32 → (pass_of x n).to ≤ 32

@@ -14,7 +14,8 @@ pub fn kept(t: Table) -> [u32; 8]
     ensures { Keeps t result }
 {
     if t.closed {
-        return [4294967295; 8];
+        [u32::MAX; 8]
+    } else {
+        analysis::kept_masks(t)
     }
-    analysis::kept_masks(t)
 }

@@ -13,28 +13,32 @@ pub put_front-p-requires : goal.put_front-p-requires
 put_front-p-requires c = front_in _ (closable c.args.t (shaped c.args.t (_, c.well_formed.1.0)) c.requires.0 c.requires.1) _
 
 pub loop-i-init : goal.loop-i-init
-loop-i-init c = (rows_start, omega arith)
+loop-i-init c = record { closable = closable c.args.t (shaped c.args.t (_, c.well_formed.1.0)) c.requires.0 c.requires.1; rows = rows_start }
 
 pub offset_bounds-t-k : goal.offset_bounds-t-k
-offset_bounds-t-k c = omega (arith, procs_few _ (closable c.args.t (shaped c.args.t (_, c.well_formed.1.0)) c.requires.0 c.requires.1))
+offset_bounds-t-k c = omega (arith, procs_few _ c.loop-i.invariant.closable)
 
 pub bounds-t-k : goal.bounds-t-k
-bounds-t-k c = omega (arith, procs_few _ (closable c.args.t (shaped c.args.t (_, c.well_formed.1.0)) c.requires.0 c.requires.1))
+bounds-t-k c = omega (arith, procs_few _ c.loop-i.invariant.closable)
 
 pub closed_proc-c-requires : goal.closed_proc-c-requires
-closed_proc-c-requires c = let a = (closable c.args.t (shaped c.args.t (_, c.well_formed.1.0)) c.requires.0 c.requires.1) in (omega (arith, procs_few _ a), counted _ a.open_ready _)
+closed_proc-c-requires c = let a = c.loop-i.invariant.closable in (omega (arith, procs_few _ a), counted _ a.open_ready _)
 
 pub put_proc-p-requires : goal.put_proc-p-requires
-put_proc-p-requires c = (omega (arith, c.loop-i.invariant.0.put.few, c.loop-i.invariant.0.put.next, c.put_front-p.ensures.few, c.put_front-p.ensures.next, procs_few _ (closable c.args.t (shaped c.args.t (_, c.well_formed.1.0)) c.requires.0 c.requires.1)), proc_in _ (closable c.args.t (shaped c.args.t (_, c.well_formed.1.0)) c.requires.0 c.requires.1) _ c.dirty_cells-cells.ensures c.loop-i.i c.loop-i-test.true _ c.closed_proc-c.ensures)
-
-pub overflow_add-i : goal.overflow_add-i
-overflow_add-i c = omega (arith, c.loop-i-test.true, procs_few _ (closable c.args.t (shaped c.args.t (_, c.well_formed.1.0)) c.requires.0 c.requires.1))
+put_proc-p-requires c =
+    let h = c.loop-i.invariant in
+    let f = c.put_front-p.ensures in
+    (omega (arith, h.rows.put.few, h.rows.put.next, f.few, f.next, procs_few _ h.closable), proc_in _ h.closable _ c.dirty_cells-cells.ensures c.loop-i.i c.loop-i-test.true _ c.closed_proc-c.ensures)
 
 pub loop-i-preserved : goal.loop-i-preserved
-loop-i-preserved c = (proc_put _ (closable c.args.t (shaped c.args.t (_, c.well_formed.1.0)) c.requires.0 c.requires.1) _ c.dirty_cells-cells.ensures _ c.loop-i-test.true c.loop-i.invariant.0 c.closed_proc-c.ensures c.put_proc-p.ensures, omega arith)
+loop-i-preserved c =
+    let h = c.loop-i.invariant in
+    record { closable = h.closable; rows = proc_put _ h.closable _ c.dirty_cells-cells.ensures _ c.loop-i-test.true h.rows c.closed_proc-c.ensures c.put_proc-p.ensures }
 
 pub shape_of-out : goal.shape_of-out
-shape_of-out c = omega (arith, c.loop-i.invariant.0.put.same, c.put_front-p.ensures.same)
+shape_of-out c = omega (arith, c.loop-i.invariant.rows.put.same, c.put_front-p.ensures.same)
 
 pub returns : goal.returns
-returns c = closed_put _ (closable c.args.t (shaped c.args.t (_, c.well_formed.1.0)) c.requires.0 c.requires.1) _ c.dirty_cells-cells.ensures _ c.closed_queues-queue.ensures c.put_front-p.ensures c.loop-i.invariant.0 c.loop-i.invariant.1 c.loop-i-test.false
+returns c =
+    let h = c.loop-i.invariant in
+    closed_put _ h.closable _ c.dirty_cells-cells.ensures _ c.closed_queues.ensures c.put_front-p.ensures h.rows (omega arith) c.loop-i-test.false

@@ -1,8 +1,0 @@
-use Rattle.std.proofs.Common.{sym, ◌∙◌}
-use Rattle.closer.proofs.unless.Goals as goal
-
-pub returns-then-has : goal.returns-then-has
-returns-then-has c = rw (sym c.has.ensures ∙ c.if-has.true)
-
-pub returns-else-has : goal.returns-else-has
-returns-else-has c = rw (sym c.has.ensures ∙ c.if-has.false)
