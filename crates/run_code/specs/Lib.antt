@@ -1,3 +1,4 @@
+pub mod Numbered
 pub mod Ready
 pub mod ReadyLaws
 pub mod Code

@@ -6,7 +6,7 @@
 ghost use Rattle.std.specs.Prelude.{◌≡◌, ℕ, ◌<◌, ◌≤◌, get_or};
 ghost use Rattle.table.specs.Mask.{pick};
 ghost use Rattle.table.specs.Table.{node_in};
-ghost use Rattle.values.specs.Numbered.{op_number};
+ghost use Rattle.run_code.specs.Numbered.{operation, op_number};
 ghost use Rattle.run_code.specs.Ready.{Placed, Ready};
 ghost use Rattle.run_code.specs.Code.{var_of, const_of, rows_of, decoded_of, bytes_of, words_of, queue_caps, Coded, Worded, takes_of, no_code, no_words, Laid, Room};
 
@@ -19,6 +19,7 @@ pub struct Decoded {
     pub words: [u32; 4],
 }
 
+#[tactic(auto, unfolding(crate::specs::Numbered::op_number))]
 fn op_number(o: Op) -> u8
     ensures { result ≡ op_number o }
 {
@@ -31,6 +32,23 @@ fn op_number(o: Op) -> u8
         Op::Shr => 5,
         Op::Lt => 6,
         Op::Eq => 7,
+    }
+}
+
+// The operation that a number stands for.
+#[tactic(auto, unfolding(crate::specs::Numbered::operation))]
+pub fn operation(n: u8) -> Op
+    ensures { result ≡ operation n }
+{
+    match n {
+        0 => Op::Add,
+        1 => Op::Sub,
+        2 => Op::And,
+        3 => Op::Or,
+        4 => Op::Xor,
+        5 => Op::Shr,
+        6 => Op::Lt,
+        _ => Op::Eq,
     }
 }
 
@@ -66,14 +84,13 @@ fn plain(bytes: [u8; 8], to: u32) -> Decoded
 fn computing(bytes: [u8; 8], a: Operand, b: Operand, yes: u32, no: u32) -> Decoded
     ensures { result ≡ rows_of bytes (const_of a) (const_of b) yes no }
 {
-    let p = constant(a);
-    let q = constant(b);
     Decoded {
         bytes,
-        words: [p, q, yes, no],
+        words: [constant(a), constant(b), yes, no],
     }
 }
 
+#[tactic(auto, unfolding(crate::specs::Code::bytes_of, crate::specs::Code::consts_of, crate::specs::Ready::Placed, table::specs::Table::parts))]
 fn code_of(x: Node, keep: u32, caps: &[u8; 8]) -> Decoded
     requires { Placed x }
     ensures { result ≡ decoded_of caps.now keep x }
@@ -135,13 +152,19 @@ fn code_of(x: Node, keep: u32, caps: &[u8; 8]) -> Decoded
         ),
         Node::Wait { sem, to } => plain([6, sem, 0, 0, 0, 0, 0, tosses::straight(to, keep)], to),
         Node::Signal { sem, to } => plain([7, sem, 0, 0, 0, 0, 0, tosses::straight(to, keep)], to),
-        Node::Send { queue, var: v, to } => {
-            let q = queue as usize;
-            plain(
-                [8, queue, v, caps[q], 0, 0, 0, tosses::straight(to, keep)],
-                to,
-            )
-        }
+        Node::Send { queue, var: v, to } => plain(
+            [
+                8,
+                queue,
+                v,
+                caps[queue as usize],
+                0,
+                0,
+                0,
+                tosses::straight(to, keep),
+            ],
+            to,
+        ),
         Node::Recv { queue, var: v, to } => plain(
             [9, queue, v, 0, 0, 0, 0, tosses::straight(to, keep)],
             to,
@@ -177,17 +200,10 @@ fn decode_proc<'a>(
     ensures code { Laid base q.nodes (λ n. bytes_of caps.now keep (node_in q n)) code.old code.new }
     ensures words { Laid base q.nodes (λ n. words_of (node_in q n)) words.old words.new }
 {
-    let nodes = q.nodes as usize;
-    let mut n: usize = 0;
-    while n < nodes {
-        let s = q.slots[n];
-        let x = s.node;
-        let c = code_of(x, keep, caps);
-        let b = c.bytes;
-        let w = c.words;
-        code[base + n] = b;
-        words[base + n] = w;
-        n = n + 1;
+    for n in 0..q.nodes as usize {
+        let Decoded { bytes, words: row } = code_of(q.slots[n].node, keep, caps);
+        code[base + n] = bytes;
+        words[base + n] = row;
     }
 }
 
@@ -212,14 +228,11 @@ pub fn decode<'a>(
     ensures rest { (p : ℕ) → t.procs ≤ p → get_or result p 0 ≡ 0 }
 {
     let caps = caps(t.queue);
-    let procs = t.procs as usize;
     let mut r = [0u8; 8];
-    let mut p: usize = 0;
-    while p < procs {
+    for p in 0..t.procs as usize {
         let q = t.proc[p];
         decode_proc(q, 32 * p, keep[p], &caps, code, words);
         r[p] = inputs(t.closed, q.params);
-        p = p + 1;
     }
     r
 }

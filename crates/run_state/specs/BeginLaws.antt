@@ -2,7 +2,7 @@
 use Prim.Native.Nat.{ℕ, zero, suc, ◌+◌, ◌-◌, ◌*◌, ◌<◌, ◌≤◌}
 use native.Mathlib.Omega.{arith}
 use Rattle.std.proofs.Math.Numerals.{add-one}
-use Rattle.std.specs.Prelude.{◌≡◌, Bool, true, false, not, length, get_or, set, take, replicate, eqb, ltb, ℤ, pos}
+use Rattle.std.specs.Prelude.{◌≡◌, Bool, true, false, not, length, get_or, set, take, replicate, eqb, ltb, ℤ, pos, Some, None}
 use Rattle.std.proofs.Math.Path.{refl, sym, ap}
 use Rattle.std.proofs.Common.{◌∙◌, length-set, length-take-le, get_or-take, take_at, ext_get_or}
 use mathlib.Core.List.{List, [], ◌∷◌}
@@ -201,14 +201,14 @@ module _ {t : Table} {tasks : ℕ} {task : List Task} {takes : List ℕ} (h : Ta
   -- ---- how a run begins
 
   pub begins_spent : (vs : List ℤ) (cells : List (List ℤ)) → length vs < needed_in task takes tasks 0 → cells ≡ no_cells
-      → Begins t vs (begin t vs) (record { spent = true; used = 0 }) cells
+      → Begins t vs (begin t vs) None cells
   unfolding begin
   begins_spent vs cells l c =
       let e : begin t vs ≡ spent = spends t.tasks 0 (first_state t) vs (omega arith) (rw (← h.tasks_are) l) in
-      rw e (refl, c ∙ sym (first_cells t h.ready.tasks))
+      rw e (c ∙ sym (first_cells t h.ready.tasks))
 
   pub begins_with : (vs : List ℤ) (used : ℕ) (cells : List (List ℤ)) → used ≡ needed_in task takes tasks 0 → used ≤ length vs
-      → cells ≡ input_cells task takes tasks 0 vs no_cells → Begins t vs (begin t vs) (record { spent = false; used = used }) cells
+      → cells ≡ input_cells task takes tasks 0 vs no_cells → Begins t vs (begin t vs) (Some used) cells
   unfolding begin
   begins_with vs used cells u l c =
       let w : needed_in task takes tasks 0 ≡ needed_in task takes t.tasks 0 = ap (λ (n : ℕ). needed_in task takes n 0) h.tasks_are in
@@ -216,7 +216,7 @@ module _ {t : Table} {tasks : ℕ} {task : List Task} {takes : List ℕ} (h : Ta
       let d : drop (needed_in task takes t.tasks 0) vs ≡ drop used vs = ap (λ (n : ℕ). drop n vs) (sym (u ∙ w)) in
       let e : begin t vs ≡ begun r.state (drop used vs) = r.same ∙ ap (begun r.state) d in
       rw e (record {
-        answer = ap (λ (n : ℕ). record { spent = false; used = n }) (omega (arith, length-drop used vs));
+        answer = omega (arith, length-drop used vs);
         cells_are =
             c
             ∙ ap (λ (n : ℕ). input_cells task takes n 0 vs no_cells) h.tasks_are

@@ -1,5 +1,5 @@
 -- A run's beginning on the arrays of a state, and the state that arrays hold.
-use Rattle.std.specs.Prelude.{ℕ, zero, suc, ◌+◌, ◌-◌, ◌*◌, ◌<◌, ◌≤◌, ◌≡◌, true, false, List, [], ◌++◌, length, get_or, set, take, drop, replicate, ℤ, pos}
+use Rattle.std.specs.Prelude.{ℕ, zero, suc, ◌+◌, ◌-◌, ◌*◌, ◌<◌, ◌≤◌, ◌≡◌, true, false, List, [], ◌++◌, length, get_or, set, take, drop, replicate, ℤ, pos, Option, Some, None}
 use Rattle.table.specs.Table.{no_task, no_sem}
 use Rattle.table.specs.declared.Sem.{Sem}
 use Rattle.table.specs.declared.Task.{Task}
@@ -11,7 +11,6 @@ use Rattle.machine.specs.declared.Running.{Running}
 use Rattle.machine.specs.State.{Begun as Beginning, no_vars, no_state, with_depth, with_frames, with_sems, entries_at, first_state, spent, begun}
 use Rattle.run_code.specs.Ready.{Ready}
 use Rattle.run_code.specs.Code.{takes_of}
-use Rattle.run_state.specs.declared.Begun.{Begun}
 use Rattle.run_state.specs.Good.{frame_in, Shape}
 use Rattle.run_state.specs.Arrays.{marks_of, cells_of}
 
@@ -75,18 +74,20 @@ pub record Tops (tasks : ℕ) (task : List Task) (takes : List ℕ) : Type 0 whe
   pub t : Table
   pub have : Takes t tasks task takes
 
--- the answer and the cells where a run begins so
-pub record Began (t : Table) (vs : List ℤ) (s : State) (rest : List ℤ) (r : Begun) (cells : List (List ℤ)) : Type 0 where
-  pub answer : r ≡ record { spent = false; used = length vs - length rest }
+-- the cells where a run begins so, `used` values being used
+pub record Began (t : Table) (vs : List ℤ) (s : State) (rest : List ℤ) (used : ℕ) (cells : List (List ℤ)) : Type 0 where
+  pub answer : used ≡ length vs - length rest
   pub cells_are : cells ≡ cells_of s
   pub marks_stay : marks_of s ≡ marks_of (first_state t)
-  pub within : r.used ≤ length vs
-  pub rest_is : rest ≡ drop r.used vs
+  pub within : used ≤ length vs
+  pub rest_is : rest ≡ drop used vs
 
 -- "15 at the start .. leaves all locals 0 and 0 used"
-abbrev pub Begins : Table → List ℤ → Beginning → Begun → List (List ℤ) → Type 0
-Begins t vs spent r cells = (r ≡ record { spent = true; used = 0 }) × (cells ≡ cells_of (first_state t))
-Begins t vs (begun s rest) r cells = Began t vs s rest r cells
+abbrev pub Begins : Table → List ℤ → Beginning → Option ℕ → List (List ℤ) → Type 0
+Begins t vs spent None cells = cells ≡ cells_of (first_state t)
+Begins t vs spent (Some used) cells = ⊥
+Begins t vs (begun s rest) None cells = ⊥
+Begins t vs (begun s rest) (Some used) cells = Began t vs s rest used cells
 
 -- ---- the state that arrays hold
 

@@ -22,19 +22,12 @@ pub fn first(tasks: u8, task: [Task; 4], sem: [Sem; 8]) -> [u8; 96]
     ensures { result ≡ first_marks tasks task sem }
 {
     let mut r = [0u8; 96];
-    let n = tasks as usize;
-    let mut i: usize = 0;
-    while i < n {
-        let k = task[i];
+    for i in 0..tasks as usize {
         r[i] = 1;
-        r[32 + 8 * i] = k.top;
-        i = i + 1;
+        r[32 + 8 * i] = task[i].top;
     }
-    i = 0;
-    while i < 8 {
-        let x = sem[i];
-        r[8 + i] = x.count;
-        i = i + 1;
+    for j in 0..8 {
+        r[8 + j] = sem[j].count;
     }
     r
 }
@@ -44,14 +37,10 @@ fn needed(tasks: u8, task: [Task; 4], takes: &[u8; 8]) -> usize
     requires { Tops tasks task takes.now }
     ensures { result ≡ needed_in task takes.now tasks 0 }
 {
-    let n = tasks as usize;
-    let mut i: usize = 0;
     let mut sum: usize = 0;
-    while i < n {
-        let k = task[i];
-        let p = k.top as usize;
-        sum = sum + (takes[p] as usize);
-        i = i + 1;
+    for i in 0..tasks as usize {
+        let p = task[i].top as usize;
+        sum += takes[p] as usize;
     }
     sum
 }
@@ -76,43 +65,28 @@ fn input_row(values: &[i32], used: usize, m: u8) -> [i32; 16]
     [a, b, c, d, 0, 0, 0, 0, 0, 0, 0, 0, 0, 0, 0, 0]
 }
 
-// How a run begins: the value list is spent, or so many values are used.
-#[derive(Clone, Copy)]
-pub struct Begun {
-    pub spent: bool,
-    pub used: usize,
-}
-
-// The cells of the first state, which are all 0, take the inputs.
+// The cells of the first state, which are all 0, take the inputs: how many values are used then, none if there are too few.
 pub fn begin<'a>(
     tasks: u8,
     task: [Task; 4],
     takes: &'a [u8; 8],
     cells: &'a mut [[i32; 16]; 40],
     values: &'a [i32],
-) -> Begun
+) -> Option<usize>
     requires { Tops tasks task takes.now × (cells.old ≡ no_cells) }
     ensures { (t : Table) → Takes t tasks task takes.now → Begins t values.now (begin t values.now) result cells.new }
 {
     if values.len() < needed(tasks, task, takes) {
-        return Begun {
-            spent: true,
-            used: 0,
-        };
+        return None;
     }
-    let n = tasks as usize;
-    let mut i: usize = 0;
     let mut used: usize = 0;
-    while i < n {
-        let k = task[i];
-        let p = k.top as usize;
+    for i in 0..tasks as usize {
+        let p = task[i].top as usize;
         let m = takes[p];
-        let w = input_row(values, used, m);
-        cells[8 * i] = w;
-        used = used + (m as usize);
-        i = i + 1;
+        cells[8 * i] = input_row(values, used, m);
+        used += m as usize;
     }
-    Begun { spent: false, used }
+    Some(used)
 }
 
 // ---- the state that the arrays hold
@@ -123,18 +97,15 @@ fn frames<'a>(marks: &'a [u8; 96], cells: &'a [[i32; 16]; 40]) -> [Frame; 32]
     let none = Frame {
         proc: 0,
         node: 0,
-        vars: [0, 0, 0, 0, 0, 0, 0, 0, 0, 0, 0, 0, 0, 0, 0, 0],
+        vars: [0; 16],
     };
     let mut r = [none; 32];
-    let mut i: usize = 0;
-    while i < 32 {
-        let v = cells[i];
+    for i in 0..32 {
         r[i] = Frame {
             proc: marks[32 + i],
             node: marks[64 + i],
-            vars: v,
+            vars: cells[i],
         };
-        i = i + 1;
     }
     r
 }
@@ -157,14 +128,11 @@ fn queues<'a>(marks: &'a [u8; 96], cells: &'a [[i32; 16]; 40]) -> [Entries; 8]
 {
     let none = Entries {
         len: 0,
-        items: [0, 0, 0, 0, 0, 0, 0, 0],
+        items: [0; 8],
     };
     let mut r = [none; 8];
-    let mut i: usize = 0;
-    while i < 8 {
-        let n = marks[16 + i];
-        r[i] = entries(n, &cells[32 + i]);
-        i = i + 1;
+    for i in 0..8 {
+        r[i] = entries(marks[16 + i], &cells[32 + i]);
     }
     r
 }

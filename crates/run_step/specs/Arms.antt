@@ -5,6 +5,7 @@ use Rattle.std.specs.Prelude.{◌≡◌, Bool, List, [], ◌∷◌, ◌++◌, le
 use Rattle.std.proofs.Math.Path.{refl, ap}
 use Rattle.std.proofs.Common.{sym, ◌∙◌, subst, drop_of_length-le, drop-cons, SFits, to_z, of_z, to_z-of_z, leb-true, leb-false, eq-eqb, ne_eqb, eqb-true, ltb-true, ltb-false}
 use Rattle.std.proofs.Math.Bool.{true, false}
+use Rattle.std.specs.Prelude.{Some, Result, Ok, Err}
 use Rattle.std.proofs.Math.Option.{Option, none}
 use Rattle.std.proofs.Math.ListN.{get_or-append}
 use Rattle.std.proofs.Math.Seq.{set_out}
@@ -21,21 +22,22 @@ use Rattle.table.specs.declared.Table.{Table}
 use Rattle.machine.specs.declared.Entries.{Entries}
 use Rattle.machine.specs.declared.State.{State}
 use Rattle.machine.specs.State.{sem_count, entries_at, var_at}
-use Rattle.machine.specs.Step.{values_spent, stop_number, Memory, assign, with_sem, with_entries, appended, oldest, shortened, value_of, goes, stops, read_of, exec, kept_in, stopped, memory, step_of}
-use Rattle.machine.proofs.RunLaws.{stop_number_lem}
+use Rattle.machine.specs.Step.{values_spent, Memory, assign, with_sem, with_entries, appended, oldest, shortened, value_of, goes, stops, read_of, exec, kept_in, stopped, memory, step_of}
+use Rattle.tosses.specs.declared.Stop.{Stop}
+use Rattle.tosses.specs.declared.Stop.TheVariants.{ValuesSpent}
 use Rattle.run_code.specs.Code.{byte, node_of}
 use Rattle.run_code.specs.CodeLaws.{is_start, is_set, is_test, is_read, is_wait, is_signal, is_send, is_recv, is_assert, is_out, is_absent}
 use Rattle.run_state.specs.Good.{frame_in, Shape}
 use Rattle.run_state.specs.Arrays.{marks_of, entry_cells, cells_of}
 use Rattle.run_state.specs.ArrayLaws.{sem_at, len_at, items_at, sem_set, queue_marks, queue_cells, cells_wide, cells_sems}
 use Rattle.run_step.specs.declared.Effect.{Effect}
-use Rattle.run_step.specs.declared.Gone.{Gone}
 use Rattle.run_step.specs.declared.Done.{Done}
-use Rattle.run_step.specs.Effects.{goes_to, halts_at, read_to}
+use Rattle.run_step.specs.Results.{ok_err, ok_same, err_same}
+use Rattle.run_step.specs.Effects.{goes_to, read_to}
 use Rattle.run_step.specs.EffectLaws.{result_of}
 use Rattle.run_step.specs.Steps.{Stands, Goes, way_of, went_to, Did, gone_done, Plain, Shown, shifted_of}
 use Rattle.run_step.specs.Standing.{shape_of, frame_long, vars_here, name_here, stands_as, arc_absent, GoesOn, goes_to_lem, free_wait, free_signal, free_send, free_recv}
-use Rattle.run_step.specs.StepLaws.{shown_done, shared_in, went_sems, went_queues, went_shape, way_lands, Onto, step_does, did_stop, did_go, did_shown, did_plain}
+use Rattle.run_step.specs.StepLaws.{shared_in, went_sems, went_queues, went_shape, way_lands, Onto, step_does, did_stop, did_go, did_shown, did_plain}
 
 -- ---- a queue's row
 
@@ -67,22 +69,32 @@ pub record Reads (v : ℕ) (vs : List ℤ) (used arc near : ℕ) (o : Effect) : 
   pub more : used < length vs
   pub effect : o ≡ goes_to v (get_or vs used (pos 0)) (used + 1) arc near
 
-pub reads_on : (v : ℕ) (vs : List ℤ) (used arc near : ℕ) (o : Effect) → o ≡ read_to v vs used arc near → o.stop ≡ 0 → Reads v vs used arc near o
-reads_on v vs used arc near o e n = go (leb (length vs) used) refl
-  where
-    by : (c : Bool) → leb (length vs) used ≡ c → o ≡ pick c (halts_at (stop_number values_spent) used) (goes_to v (get_or vs used (pos 0)) (used + 1) arc near)
-    by c k = e ∙ ap (λ (c : Bool). pick c (halts_at (stop_number values_spent) used) (goes_to v (get_or vs used (pos 0)) (used + 1) arc near)) k
+module _ (v : ℕ) (vs : List ℤ) (used arc near : ℕ) (r : Result Effect Stop) (e : r ≡ read_to v vs used arc near) where
+  by_values : (b : Bool) → leb (length vs) used ≡ b → r ≡ pick b (Err ValuesSpent) (Ok (goes_to v (get_or vs used (pos 0)) (used + 1) arc near))
+  by_values b k = e ∙ ap (λ (b : Bool). pick b (Err ValuesSpent) (Ok (goes_to v (get_or vs used (pos 0)) (used + 1) arc near))) k
 
-    go : (c : Bool) → leb (length vs) used ≡ c → Reads v vs used arc near o
-    go true k = absurd (stop_number_lem values_spent (sym (ap (λ (y : Effect). y.stop) (by true k)) ∙ n))
-    go false k = record { more = leb-false (length vs) used k; effect = by false k }
+  pub reads_on : (o : Effect) → r ≡ Ok o → Reads v vs used arc near o
+  reads_on o n = go (leb (length vs) used) refl
+    where
+      go : (b : Bool) → leb (length vs) used ≡ b → Reads v vs used arc near o
+      go true k = absurd (ok_err (sym n ∙ by_values true k))
+      go false k = record { more = leb-false (length vs) used k; effect = ok_same (sym n ∙ by_values false k) }
+
+  -- and where it does
+  pub record Spent (c : Stop) : Type 0 where
+    pub none : length vs ≤ used
+    pub stop : c ≡ ValuesSpent
+
+  pub reads_none : (c : Stop) → r ≡ Err c → Spent c
+  reads_none c n = go (leb (length vs) used) refl
+    where
+      go : (b : Bool) → leb (length vs) used ≡ b → Spent c
+      go true k = record { none = leb-true (length vs) used k; stop = err_same (sym n ∙ by_values true k) }
+      go false k = absurd (ok_err (sym (by_values false k) ∙ n))
 
 -- row i, as `push` leaves it
 abbrev pushed_in : List (List ℤ) → ℕ → ℕ → ℤ → List (List ℤ)
 pushed_in cells i n x = set cells i (pick (ltb n 8) (set (get_or cells i []) n x) (get_or cells i []))
-
-pub stays : (r : Gone) → r.stop ≡ 0 → gone_done r ≡ shown_done none r
-stays r n = ap (λ (c : ℕ). record { stop = c; flag = 0; bits = 0; used = r.used }) n
 
 module _ {t : Table} {s : State} {keep : List ℕ} {code words : List (List ℕ)} {marks : List ℕ} {cells : List (List ℤ)} {vs : List ℤ} {used f a : ℕ}
     (z : Stands t s keep code words marks cells vs used f a) (most : ℕ) where
@@ -225,7 +237,7 @@ module _ {t : Table} {s : State} {keep : List ℕ} {code words : List (List ℕ)
 
   -- ---- what go_on left, and what is stored after it
 
-  module _ (o : Effect) {r : Gone} {marks₁ : List ℕ} {cells₁ : List (List ℤ)} (g : Goes vs s f (way_of t most s vs f o) r marks₁ cells₁) where
+  module _ (o : Effect) {r : Result ℕ Stop} {marks₁ : List ℕ} {cells₁ : List (List ℤ)} (g : Goes vs s f (way_of t most s vs f o) r marks₁ cells₁) where
     abbrev went : State
     went = went_to s f (way_of t most s vs f o)
 
@@ -266,26 +278,17 @@ module _ {t : Table} {s : State} {keep : List ℕ} {code words : List (List ℕ)
 
   -- ---- the arms
 
-  abbrev Made : Done → List ℕ → List (List ℤ) → Type 0
+  abbrev Made : Result Done Stop → List ℕ → List (List ℤ) → Type 0
   Made y l c = Did vs s (step_of t (kept_in t) most s (f / 8) (drop used vs)) y l c
 
-  abbrev Went : Effect → Gone → List ℕ → List (List ℤ) → Type 0
+  abbrev Went : Effect → Result ℕ Stop → List ℕ → List (List ℤ) → Type 0
   Went o r l c = Goes vs s f (way_of t most s vs f o) r l c
 
   -- the value list is spent
-  pub read_stop : byte b 0 ≡ 4 → (o : Effect) → o ≡ read_to (byte b 4) vs used (byte w 2) (byte b 7) → (o.stop ≡ 0 → ⊥)
-      → Made (record { stop = o.stop; flag = 0; bits = 0; used = 0 }) marks cells
-  read_stop e o h n = go (leb (length vs) used) refl
-    where
-      go : (c : Bool) → leb (length vs) used ≡ c → Made (record { stop = o.stop; flag = 0; bits = 0; used = 0 }) marks cells
-      go true k = rw (step_spent e (leb-true (length vs) used k)) (record {
-        answer = ap (λ (y : Effect). record { stop = y.stop; flag = 0; bits = 0; used = 0 }) (h ∙ ap (λ (c : Bool). pick c (halts_at (stop_number values_spent) used) reading) k);
-        marks_are = z.held.marked.marks_are;
-        cells_are = z.held.cells_are;
-      })
-      go false k = absurd (n (ap (λ (y : Effect). y.stop) (h ∙ ap (λ (c : Bool). pick c (halts_at (stop_number values_spent) used) reading) k)))
+  pub read_stop : byte b 0 ≡ 4 → (c : Stop) → c ≡ ValuesSpent → length vs ≤ used → Made (Err c) marks cells
+  read_stop e c h k = rw (step_spent e k) (record { answer = ap (λ (c : Stop). Err c) h; marks_are = z.held.marked.marks_are; cells_are = z.held.cells_are })
 
-  module _ {r : Gone} {marks₁ : List ℕ} {cells₁ : List (List ℤ)} where
+  module _ {r : Result ℕ Stop} {marks₁ : List ℕ} {cells₁ : List (List ℤ)} where
     pub plain_did : Plain (byte b 0) → Went by_arc r marks₁ cells₁ → Made (gone_done r) marks₁ cells₁
     plain_did e g = did_plain z most by_arc here (onto_plain e) refl refl r marks₁ cells₁ g
 
@@ -305,42 +308,42 @@ module _ {t : Table} {s : State} {keep : List ℕ} {code words : List (List ℕ)
     read_did e h g = did_plain z most reading (assign (byte b 4) taken here) (onto_read e h) refl refl r marks₁ cells₁ g
 
     -- a value shown; none of `-`
-    pub shown_did : Shown (byte b 0) → Went by_arc r marks₁ cells₁ → r.stop ≡ 0 → (x : ℤ) → x ≡ var_at vars (byte b 2) → (byte b 2 ≡ removed → ⊥)
-        → Made (record { stop = 0; flag = 1; bits = of_z w32 x; used = r.used }) marks₁ cells₁
-    shown_did e g n x h v =
-        did_shown z most by_arc here (value_of vars (byte b 2)) (onto_shown e) g refl refl n (record { stop = 0; flag = 1; bits = of_z w32 x; used = r.used })
-        (rw (ne_eqb (byte b 2) removed v) (ap (λ (y : ℤ). record { stop = 0; flag = 1; bits = of_z w32 y; used = r.used }) h))
+    pub shown_did : Shown (byte b 0) → Went by_arc r marks₁ cells₁ → (u : ℕ) → r ≡ Ok u → (x : ℤ) → x ≡ var_at vars (byte b 2) → (byte b 2 ≡ removed → ⊥)
+        → Made (Ok (record { shown = Some x; used = u })) marks₁ cells₁
+    shown_did e g u n x h v =
+        did_shown z most by_arc here (value_of vars (byte b 2)) (onto_shown e) g refl refl u n (Ok (record { shown = Some x; used = u }))
+        (rw (ne_eqb (byte b 2) removed v) (ap (λ (y : ℤ). Ok (record { shown = Some y; used = u })) h))
 
-    pub hidden_did : Shown (byte b 0) → Went by_arc r marks₁ cells₁ → r.stop ≡ 0 → byte b 2 ≡ removed → Made (gone_done r) marks₁ cells₁
-    hidden_did e g n v =
-        did_shown z most by_arc here (value_of vars (byte b 2)) (onto_shown e) g refl refl n (gone_done r)
-        (rw (eq-eqb (byte b 2) removed v) (stays r n))
+    pub hidden_did : Shown (byte b 0) → Went by_arc r marks₁ cells₁ → (u : ℕ) → r ≡ Ok u → byte b 2 ≡ removed → Made (gone_done (Ok u)) marks₁ cells₁
+    hidden_did e g u n v =
+        did_shown z most by_arc here (value_of vars (byte b 2)) (onto_shown e) g refl refl u n (gone_done (Ok u))
+        (rw (eq-eqb (byte b 2) removed v) refl)
 
-    pub show_stop : Shown (byte b 0) → Went by_arc r marks₁ cells₁ → (r.stop ≡ 0 → ⊥) → Made (gone_done r) marks₁ cells₁
-    show_stop e g n = did_stop z most by_arc here (value_of vars (byte b 2)) (onto_shown e) g n
+    pub show_stop : Shown (byte b 0) → Went by_arc r marks₁ cells₁ → (c : Stop) → r ≡ Err c → Made (Err c) marks₁ cells₁
+    show_stop e g c n = did_stop z most by_arc here (value_of vars (byte b 2)) (onto_shown e) g c n
 
     -- it was not blocked
     pub wait_some : byte b 0 ≡ 6 → Went by_arc r marks₁ cells₁ → 1 ≤ get_or marks₁ (8 + byte b 1) 0
     wait_some e g = let h : sem ≡ 0 → ⊥ = free_wait z (byte b 1) (byte w 2) (is_wait b w e) in let n = sem_now by_arc g in omega arith
 
-    pub wait_did : byte b 0 ≡ 6 → Went by_arc r marks₁ cells₁ → r.stop ≡ 0 → Made (gone_done r) (set marks₁ (8 + byte b 1) (get_or marks₁ (8 + byte b 1) 0 - 1)) cells₁
-    wait_did e g n =
-        did_go z most by_arc waited none (onto_wait e) g n (gone_done r) (set marks₁ (8 + byte b 1) (get_or marks₁ (8 + byte b 1) 0 - 1)) cells₁ (stays r n)
+    pub wait_did : byte b 0 ≡ 6 → Went by_arc r marks₁ cells₁ → (u : ℕ) → r ≡ Ok u → Made (gone_done (Ok u)) (set marks₁ (8 + byte b 1) (get_or marks₁ (8 + byte b 1) 0 - 1)) cells₁
+    wait_did e g u n =
+        did_go z most by_arc waited none (onto_wait e) g u n (gone_done (Ok u)) (set marks₁ (8 + byte b 1) (get_or marks₁ (8 + byte b 1) 0 - 1)) cells₁ refl
         (rw (sem_now by_arc g) (sem_stored by_arc g (sem - 1))) (sem_cells by_arc g (set s.sems (byte b 1) (sem - 1)))
 
-    pub wait_stop : byte b 0 ≡ 6 → Went by_arc r marks₁ cells₁ → (r.stop ≡ 0 → ⊥) → Made (gone_done r) marks₁ cells₁
-    wait_stop e g n = did_stop z most by_arc waited none (onto_wait e) g n
+    pub wait_stop : byte b 0 ≡ 6 → Went by_arc r marks₁ cells₁ → (c : Stop) → r ≡ Err c → Made (Err c) marks₁ cells₁
+    wait_stop e g c n = did_stop z most by_arc waited none (onto_wait e) g c n
 
     pub signal_room : byte b 0 ≡ 7 → Went by_arc r marks₁ cells₁ → get_or marks₁ (8 + byte b 1) 0 < 255
     signal_room e g = let h : sem < 255 = free_signal z (byte b 1) (byte w 2) (is_signal b w e) in let n = sem_now by_arc g in omega arith
 
-    pub signal_did : byte b 0 ≡ 7 → Went by_arc r marks₁ cells₁ → r.stop ≡ 0 → Made (gone_done r) (set marks₁ (8 + byte b 1) (get_or marks₁ (8 + byte b 1) 0 + 1)) cells₁
-    signal_did e g n =
-        did_go z most by_arc signalled none (onto_signal e) g n (gone_done r) (set marks₁ (8 + byte b 1) (get_or marks₁ (8 + byte b 1) 0 + 1)) cells₁ (stays r n)
+    pub signal_did : byte b 0 ≡ 7 → Went by_arc r marks₁ cells₁ → (u : ℕ) → r ≡ Ok u → Made (gone_done (Ok u)) (set marks₁ (8 + byte b 1) (get_or marks₁ (8 + byte b 1) 0 + 1)) cells₁
+    signal_did e g u n =
+        did_go z most by_arc signalled none (onto_signal e) g u n (gone_done (Ok u)) (set marks₁ (8 + byte b 1) (get_or marks₁ (8 + byte b 1) 0 + 1)) cells₁ refl
         (rw (sem_now by_arc g) (sem_stored by_arc g (sem + 1))) (sem_cells by_arc g (set s.sems (byte b 1) (sem + 1)))
 
-    pub signal_stop : byte b 0 ≡ 7 → Went by_arc r marks₁ cells₁ → (r.stop ≡ 0 → ⊥) → Made (gone_done r) marks₁ cells₁
-    signal_stop e g n = did_stop z most by_arc signalled none (onto_signal e) g n
+    pub signal_stop : byte b 0 ≡ 7 → Went by_arc r marks₁ cells₁ → (c : Stop) → r ≡ Err c → Made (Err c) marks₁ cells₁
+    signal_stop e g c n = did_stop z most by_arc signalled none (onto_signal e) g c n
 
     pub send_wide : Went by_arc r marks₁ cells₁ → length (get_or cells₁ (32 + byte b 1) []) ≡ 16
     send_wide g = queue_wide by_arc g
@@ -351,16 +354,16 @@ module _ {t : Table} {s : State} {keep : List ℕ} {code words : List (List ℕ)
         let l : (queue_at t (byte b 1)).cap ≤ 8 = z.held.marked.ready.caps (byte b 1) in
         let n = len_now by_arc g in omega arith
 
-    pub send_did : byte b 0 ≡ 8 → Went by_arc r marks₁ cells₁ → r.stop ≡ 0 → (x : ℤ) → x ≡ var_at vars (byte b 2)
-        → Made (gone_done r) (set marks₁ (16 + byte b 1) (get_or marks₁ (16 + byte b 1) 0 + 1)) (pushed_in cells₁ (32 + byte b 1) (get_or marks₁ (16 + byte b 1) 0) x)
-    send_did e g n x h =
+    pub send_did : byte b 0 ≡ 8 → Went by_arc r marks₁ cells₁ → (u : ℕ) → r ≡ Ok u → (x : ℤ) → x ≡ var_at vars (byte b 2)
+        → Made (gone_done (Ok u)) (set marks₁ (16 + byte b 1) (get_or marks₁ (16 + byte b 1) 0 + 1)) (pushed_in cells₁ (32 + byte b 1) (get_or marks₁ (16 + byte b 1) 0) x)
+    send_did e g u n x h =
         let y = appended (var_at vars (byte b 2)) entries in
-        did_go z most by_arc sent none (onto_send e) g n (gone_done r) (set marks₁ (16 + byte b 1) (get_or marks₁ (16 + byte b 1) 0 + 1)) (pushed_in cells₁ (32 + byte b 1) (get_or marks₁ (16 + byte b 1) 0) x) (stays r n)
+        did_go z most by_arc sent none (onto_send e) g u n (gone_done (Ok u)) (set marks₁ (16 + byte b 1) (get_or marks₁ (16 + byte b 1) 0 + 1)) (pushed_in cells₁ (32 + byte b 1) (get_or marks₁ (16 + byte b 1) 0) x) refl
         (rw (len_now by_arc g) (queue_stored by_arc g y))
         (rw (len_now by_arc g, items_now by_arc g, h) (ap (set cells₁ (32 + byte b 1)) (append_cells entries.items entries.len (var_at vars (byte b 2)) items_long) ∙ items_stored by_arc g y))
 
-    pub send_stop : byte b 0 ≡ 8 → Went by_arc r marks₁ cells₁ → (r.stop ≡ 0 → ⊥) → Made (gone_done r) marks₁ cells₁
-    send_stop e g n = did_stop z most by_arc sent none (onto_send e) g n
+    pub send_stop : byte b 0 ≡ 8 → Went by_arc r marks₁ cells₁ → (c : Stop) → r ≡ Err c → Made (Err c) marks₁ cells₁
+    send_stop e g c n = did_stop z most by_arc sent none (onto_send e) g c n
 
     -- by the value that was loaded
     pub recv_goes : {o : Effect} → SFits w32 (get_or (get_or cells (32 + byte b 1) []) 0 (pos 0))
@@ -373,14 +376,14 @@ module _ {t : Table} {s : State} {keep : List ℕ} {code words : List (List ℕ)
     pub recv_some : byte b 0 ≡ 9 → Went onto_oldest r marks₁ cells₁ → 1 ≤ get_or marks₁ (16 + byte b 1) 0
     recv_some e g = let h : entries.len ≡ 0 → ⊥ = free_recv z (byte b 1) (byte b 2) (byte w 2) (is_recv b w e) in let n = len_now onto_oldest g in omega arith
 
-    pub recv_did : byte b 0 ≡ 9 → Went onto_oldest r marks₁ cells₁ → r.stop ≡ 0
-        → Made (gone_done r) (set marks₁ (16 + byte b 1) (get_or marks₁ (16 + byte b 1) 0 - 1)) (set cells₁ (32 + byte b 1) (shifted_of (get_or cells₁ (32 + byte b 1) [])))
-    recv_did e g n =
+    pub recv_did : byte b 0 ≡ 9 → Went onto_oldest r marks₁ cells₁ → (u : ℕ) → r ≡ Ok u
+        → Made (gone_done (Ok u)) (set marks₁ (16 + byte b 1) (get_or marks₁ (16 + byte b 1) 0 - 1)) (set cells₁ (32 + byte b 1) (shifted_of (get_or cells₁ (32 + byte b 1) [])))
+    recv_did e g u n =
         let y = shortened entries in
-        did_go z most onto_oldest received none (onto_recv e) g n (gone_done r)
-        (set marks₁ (16 + byte b 1) (get_or marks₁ (16 + byte b 1) 0 - 1)) (set cells₁ (32 + byte b 1) (shifted_of (get_or cells₁ (32 + byte b 1) []))) (stays r n)
+        did_go z most onto_oldest received none (onto_recv e) g u n (gone_done (Ok u))
+        (set marks₁ (16 + byte b 1) (get_or marks₁ (16 + byte b 1) 0 - 1)) (set cells₁ (32 + byte b 1) (shifted_of (get_or cells₁ (32 + byte b 1) []))) refl
         (rw (len_now onto_oldest g) (queue_stored onto_oldest g y))
         (rw (items_now onto_oldest g) (ap (set cells₁ (32 + byte b 1)) (shift_cells entries.items items_long) ∙ items_stored onto_oldest g y))
 
-    pub recv_stop : byte b 0 ≡ 9 → Went onto_oldest r marks₁ cells₁ → (r.stop ≡ 0 → ⊥) → Made (gone_done r) marks₁ cells₁
-    recv_stop e g n = did_stop z most onto_oldest received none (onto_recv e) g n
+    pub recv_stop : byte b 0 ≡ 9 → Went onto_oldest r marks₁ cells₁ → (c : Stop) → r ≡ Err c → Made (Err c) marks₁ cells₁
+    recv_stop e g c n = did_stop z most onto_oldest received none (onto_recv e) g c n

@@ -1,5 +1,5 @@
 -- A task's node by the arrays: whether it is blocked, and what stops the task before its step.
-use Rattle.std.specs.Prelude.{ℕ, ◌+◌, ◌-◌, ◌*◌, ◌<◌, ◌≤◌, Bool, List, [], length, get_or, eqb, leb}
+use Rattle.std.specs.Prelude.{ℕ, ◌+◌, ◌-◌, ◌*◌, ◌<◌, ◌≤◌, Bool, List, [], length, get_or, eqb, leb, Ok, Err}
 use native.Mathlib.Omega.{arith}
 use Rattle.std.proofs.Math.Path.{◌≡◌, refl, ap}
 use Rattle.std.proofs.Common.{sym, ◌∙◌}
@@ -12,7 +12,8 @@ use Rattle.table.specs.declared.Node.TheVariants.{Absent, Start, Set, Test, Read
 use Rattle.table.specs.declared.Table.{Table}
 use Rattle.machine.specs.declared.State.{State}
 use Rattle.machine.specs.State.{open_frames, is_lost, place, stands_before, blocked_at, blocked}
-use Rattle.machine.specs.Step.{task_lost, task_blocked, stop_number, before}
+use Rattle.machine.specs.Step.{task_lost, task_blocked, before}
+use Rattle.tosses.specs.declared.Stop.TheVariants.{TaskLost, TaskBlocked}
 use Rattle.run_code.specs.Ready.{Placed}
 use Rattle.run_code.specs.Code.{byte, bytes_of, caps_of}
 use Rattle.run_code.specs.CodeLaws.{bytes_long, name_low, caps_at}
@@ -98,22 +99,22 @@ module _ (t : Table) (s : State) (keep : List ℕ) (code : List (List ℕ)) (mar
       abbrev stuck : Bool
       stuck = stuck_of (byte (get_or code a []) 0) (get_or code a []) marks d
 
-      pub before_lost : (byte marks (4 + i) ≡ 0 → ⊥) → 12 ≡ before_of (before t s i)
-      unfolding before stop_number
+      pub before_lost : (byte marks (4 + i) ≡ 0 → ⊥) → Err TaskLost ≡ before_of (before t s i)
+      unfolding before
       before_lost h = go (is_lost s i) (λ e. h (lost_is ∙ ap lost_mark e))
         where
-          go : (b : Bool) → (b ≡ false → ⊥) → 12 ≡ before_of (elim b [ true ↦ some task_lost | false ↦ pick (blocked t s i) (some task_blocked) none ])
+          go : (b : Bool) → (b ≡ false → ⊥) → Err TaskLost ≡ before_of (elim b [ true ↦ some task_lost | false ↦ pick (blocked t s i) (some task_blocked) none ])
           go true n = refl
           go false n = absurd (n refl)
 
-      pub before_here : byte marks (4 + i) ≡ 0 → pick stuck 13 0 ≡ before_of (before t s i)
-      unfolding before stop_number
-      before_here h = ap (λ (b : Bool). pick b 13 0) stuck_is ∙ go (is_lost s i) (blocked t s i) (λ e. one (sym h ∙ lost_is ∙ ap lost_mark e))
+      pub before_here : byte marks (4 + i) ≡ 0 → pick stuck (Err TaskBlocked) (Ok tt) ≡ before_of (before t s i)
+      unfolding before
+      before_here h = ap (λ (b : Bool). pick b (Err TaskBlocked) (Ok tt)) stuck_is ∙ go (is_lost s i) (blocked t s i) (λ e. one (sym h ∙ lost_is ∙ ap lost_mark e))
         where
           one : ◌≡◌ {A = ℕ} 0 1 → ⊥
           one e = omega arith
 
-          go : (b k : Bool) → (b ≡ true → ⊥) → pick k 13 0 ≡ before_of (elim b [ true ↦ some task_lost | false ↦ pick k (some task_blocked) none ])
+          go : (b k : Bool) → (b ≡ true → ⊥) → pick k (Err TaskBlocked) (Ok tt) ≡ before_of (elim b [ true ↦ some task_lost | false ↦ pick k (some task_blocked) none ])
           go true k n = absurd (n refl)
           go false true n = refl
           go false false n = refl

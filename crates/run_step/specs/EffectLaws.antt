@@ -1,5 +1,5 @@
 -- What the rows of a node say, by kinds: whether it is blocked, and its effect if it is dropped.
-use Rattle.std.specs.Prelude.{ℕ, Bool, true, false, List, ◌≡◌, eqb, leb, ℤ, pos}
+use Rattle.std.specs.Prelude.{ℕ, Bool, true, false, List, ◌≡◌, eqb, leb, ℤ, pos, Ok}
 use Rattle.std.proofs.Math.Path.{refl, ap}
 use Rattle.std.proofs.Common.{sym, ◌∙◌}
 use borrow.Author.Tests.{ne_eqb}
@@ -8,7 +8,7 @@ use Rattle.table.specs.Table.{parts, removed, arc_to}
 use Rattle.table.specs.Values.{apply, holds}
 use Rattle.table.specs.declared.Node.{Node}
 use Rattle.machine.specs.Step.{operand_in}
-use Rattle.values.specs.Numbered.{operation}
+use Rattle.run_code.specs.Numbered.{operation}
 use Rattle.run_code.specs.Code.{byte, operand_of, node_of}
 use Rattle.run_code.specs.CodeLaws.{is_set, is_test, is_read}
 use Rattle.run_step.specs.Effects.{sem_of, len_of, stuck_of, goes_to, read_to, pass_of}
@@ -49,11 +49,11 @@ abbrev pub result_of : List ℕ → List ℕ → List ℤ → ℤ
 result_of b w l = apply (operation (byte b 1)) (operand_in l (operand_of (byte b 2) (byte w 0))) (operand_in l (operand_of (byte b 3) (byte w 1)))
 
 module _ (b w : List ℕ) (l vs : List ℤ) (used : ℕ) where
-  pub pass_set : byte b 0 ≡ 2 → goes_to (byte b 4) (result_of b w l) used (byte w 2) 0 ≡ pass_of (node_of b w) l vs used
+  pub pass_set : byte b 0 ≡ 2 → Ok (goes_to (byte b 4) (result_of b w l) used (byte w 2) 0) ≡ pass_of (node_of b w) l vs used
   unfolding pass_of
   pass_set e = ap (λ (x : Node). pass_of x l vs used) (sym (is_set b w e))
 
-  pub pass_test : byte b 0 ≡ 3 → goes_to removed (pos 0) used (pick (holds (result_of b w l)) (byte w 2) (byte w 3)) 0 ≡ pass_of (node_of b w) l vs used
+  pub pass_test : byte b 0 ≡ 3 → Ok (goes_to removed (pos 0) used (pick (holds (result_of b w l)) (byte w 2) (byte w 3)) 0) ≡ pass_of (node_of b w) l vs used
   unfolding pass_of
   pass_test e = ap (λ (x : Node). pass_of x l vs used) (sym (is_test b w e))
 
@@ -63,17 +63,17 @@ module _ (b w : List ℕ) (l vs : List ℤ) (used : ℕ) where
 
   -- of a node that only goes on
   abbrev Plainly : Node → Type 0
-  Plainly x = goes_to removed (pos 0) used (arc_to x) 0 ≡ pass_of x l vs used
+  Plainly x = Ok (goes_to removed (pos 0) used (arc_to x) 0) ≡ pass_of x l vs used
 
   or : (c : Bool) (x y : Node) → Plainly x → Plainly y → Plainly (pick c x y)
   or true x y p q = p
   or false x y p q = q
 
-  pub pass_other : (byte b 0 ≡ 2 → ⊥) → (byte b 0 ≡ 3 → ⊥) → (byte b 0 ≡ 4 → ⊥) → byte w 2 ≡ arc_to (node_of b w) → goes_to removed (pos 0) used (byte w 2) 0 ≡ pass_of (node_of b w) l vs used
+  pub pass_other : (byte b 0 ≡ 2 → ⊥) → (byte b 0 ≡ 3 → ⊥) → (byte b 0 ≡ 4 → ⊥) → byte w 2 ≡ arc_to (node_of b w) → Ok (goes_to removed (pos 0) used (byte w 2) 0) ≡ pass_of (node_of b w) l vs used
   unfolding node_of pass_of parts
   pass_other p q r e =
       let k = byte b 0 in
-      ap (λ (z : ℕ). goes_to removed (pos 0) used z 0) e
+      ap (λ (z : ℕ). Ok (goes_to removed (pos 0) used z 0)) e
       ∙ rw (ne_eqb k 2 p, ne_eqb k 3 q, ne_eqb k 4 r)
       (or (eqb k 1) _ _ refl (or (eqb k 5) _ _ refl (or (eqb k 6) _ _ refl (or (eqb k 7) _ _ refl (or (eqb k 8) _ _ refl (or (eqb k 9) _ _ refl
       (or (eqb k 10) _ _ refl (or (eqb k 11) _ _ refl (or (eqb k 12) _ _ refl refl)))))))))

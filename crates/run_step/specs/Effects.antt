@@ -1,11 +1,13 @@
 -- What the code of a step says of a node's rows: whether it is blocked, and what it does to its frame.
-use Rattle.std.specs.Prelude.{ℕ, ◌+◌, Bool, false, List, length, get_or, eqb, leb, ℤ, pos}
+use Rattle.std.specs.Prelude.{ℕ, ◌+◌, Bool, false, List, length, get_or, eqb, leb, ℤ, pos, Result, Ok, Err}
 use Rattle.table.specs.Mask.{pick}
 use Rattle.table.specs.Table.{removed}
 use Rattle.table.specs.Values.{apply, holds}
 use Rattle.table.specs.declared.Node.{Node}
 use Rattle.table.specs.declared.Node.TheVariants.{Absent, Start, Set, Test, Read, Call, Wait, Signal, Send, Recv, Assert, Out, Return}
-use Rattle.machine.specs.Step.{values_spent, stop_number, operand_in}
+use Rattle.machine.specs.Step.{operand_in}
+use Rattle.tosses.specs.declared.Stop.{Stop}
+use Rattle.tosses.specs.declared.Stop.TheVariants.{ValuesSpent}
 use Rattle.run_code.specs.Code.{byte}
 use Rattle.run_step.specs.declared.Effect.{Effect}
 
@@ -30,26 +32,23 @@ stuck_of k b m d =
 -- ---- a node's effect on its frame: the variable set, its value, the values used, the arc, and the kept node that this leads straight to
 
 abbrev pub goes_to : ℕ → ℤ → ℕ → ℕ → ℕ → Effect
-goes_to v x used arc near = record { stop = 0; var = v; value = x; used = used; arc = arc; near = near }
+goes_to v x used arc near = record { var = v; value = x; used = used; arc = arc; near = near }
 
-abbrev pub halts_at : ℕ → ℕ → Effect
-halts_at stop used = record { stop = stop; var = removed; value = pos 0; used = used; arc = 0; near = 0 }
-
-abbrev pub read_to : ℕ → List ℤ → ℕ → ℕ → ℕ → Effect
-read_to v vs used arc near = pick (leb (length vs) used) (halts_at (stop_number values_spent) used) (goes_to v (get_or vs used (pos 0)) (used + 1) arc near)
+abbrev pub read_to : ℕ → List ℤ → ℕ → ℕ → ℕ → Result Effect Stop
+read_to v vs used arc near = pick (leb (length vs) used) (Err ValuesSpent) (Ok (goes_to v (get_or vs used (pos 0)) (used + 1) arc near))
 
 -- of a dropped node: a set, a test, a read; another is not met on the way
-unfoldable pub pass_of : Node → List ℤ → List ℤ → ℕ → Effect
-pass_of Absent l vs used = goes_to removed (pos 0) used 0 0
-pass_of (Start to) l vs used = goes_to removed (pos 0) used to 0
-pass_of (Set v o a b to) l vs used = goes_to v (apply o (operand_in l a) (operand_in l b)) used to 0
-pass_of (Test o a b y n) l vs used = goes_to removed (pos 0) used (pick (holds (apply o (operand_in l a) (operand_in l b))) y n) 0
+unfoldable pub pass_of : Node → List ℤ → List ℤ → ℕ → Result Effect Stop
+pass_of Absent l vs used = Ok (goes_to removed (pos 0) used 0 0)
+pass_of (Start to) l vs used = Ok (goes_to removed (pos 0) used to 0)
+pass_of (Set v o a b to) l vs used = Ok (goes_to v (apply o (operand_in l a) (operand_in l b)) used to 0)
+pass_of (Test o a b y n) l vs used = Ok (goes_to removed (pos 0) used (pick (holds (apply o (operand_in l a) (operand_in l b))) y n) 0)
 pass_of (Read v to) l vs used = read_to v vs used to 0
-pass_of (Call q xs to) l vs used = goes_to removed (pos 0) used to 0
-pass_of (Wait i to) l vs used = goes_to removed (pos 0) used to 0
-pass_of (Signal i to) l vs used = goes_to removed (pos 0) used to 0
-pass_of (Send q v to) l vs used = goes_to removed (pos 0) used to 0
-pass_of (Recv q v to) l vs used = goes_to removed (pos 0) used to 0
-pass_of (Assert v to) l vs used = goes_to removed (pos 0) used to 0
-pass_of (Out v to) l vs used = goes_to removed (pos 0) used to 0
-pass_of Return l vs used = goes_to removed (pos 0) used 0 0
+pass_of (Call q xs to) l vs used = Ok (goes_to removed (pos 0) used to 0)
+pass_of (Wait i to) l vs used = Ok (goes_to removed (pos 0) used to 0)
+pass_of (Signal i to) l vs used = Ok (goes_to removed (pos 0) used to 0)
+pass_of (Send q v to) l vs used = Ok (goes_to removed (pos 0) used to 0)
+pass_of (Recv q v to) l vs used = Ok (goes_to removed (pos 0) used to 0)
+pass_of (Assert v to) l vs used = Ok (goes_to removed (pos 0) used to 0)
+pass_of (Out v to) l vs used = Ok (goes_to removed (pos 0) used to 0)
+pass_of Return l vs used = Ok (goes_to removed (pos 0) used 0 0)

@@ -1,7 +1,7 @@
 -- A call opens a frame, and a return closes one: what the arms for them leave.
 use Prim.Native.Nat.{ℕ, ◌+◌, ◌-◌, ◌*◌, ◌/◌, ◌%◌, ◌<◌, ◌≤◌}
 use Rattle.std.proofs.Common.{arith, ◌∙◌}
-use Rattle.std.specs.Prelude.{◌≡◌, refl, true, false, List, [], length, get_or, set, drop, ℤ, pos}
+use Rattle.std.specs.Prelude.{◌≡◌, refl, true, false, List, [], length, get_or, set, drop, ℤ, pos, Result, Ok, Err}
 use Rattle.std.proofs.Math.Path.{sym, ap}
 use Rattle.std.proofs.Math.Option.{none, some}
 use Rattle.std.proofs.Math.Seq.{set_out}
@@ -16,20 +16,19 @@ use Rattle.machine.specs.declared.Frame.{Frame}
 use Rattle.machine.specs.declared.State.{State}
 use Rattle.machine.specs.State.{no_vars, no_frame, with_depth, with_frames, open_frames, place, stands_before}
 use Rattle.machine.specs.Step.{entering, Does, opens, closes, exec, choose, kept_in, Walk, halts, arrives, along, walk, Entry, Step, stepped, settled, called, returned, memory, entry_of, step_of}
-use Rattle.machine.proofs.RunLaws.{stop_number_lem}
+use Rattle.tosses.specs.declared.Stop.{Stop}
 use Rattle.run_code.specs.Code.{byte, node_of}
 use Rattle.run_code.specs.CodeLaws.{is_call, is_return}
 use Rattle.run_state.specs.Good.{frame_in, Shape}
 use Rattle.run_state.specs.Arrays.{marks_of, cells_of}
 use Rattle.run_state.specs.ArrayLaws.{depth_at, depth_set, frame_marks, frame_cells, shape_frames, cells_depth}
 use Rattle.run_step.specs.declared.Effect.{Effect}
-use Rattle.run_step.specs.declared.Gone.{Gone}
+use Rattle.run_step.specs.Results.{ok_err}
 use Rattle.run_step.specs.Effects.{goes_to}
 use Rattle.run_step.specs.Steps.{Stands, Going, Goes, way_of, gone_of, went_to, Did, gone_done, arc_in}
 use Rattle.run_step.specs.GoLaws.{proc_is, node_is, arc_is}
 use Rattle.run_step.specs.Standing.{shape_of, task_low, depth_low, depth_high, frame_low, stands_as, used_is, free_call, free_return}
-use Rattle.run_step.specs.StepLaws.{shown_done, Ends, went_shape, way_lands, step_does, did_by}
-use Rattle.run_step.specs.Arms.{stays}
+use Rattle.run_step.specs.StepLaws.{Ends, went_shape, way_lands, step_does, did_by}
 
 -- ---- a frame put at place g, and the frames open of task k
 
@@ -103,15 +102,15 @@ module _ {t : Table} {s : State} {keep : List ℕ} {code words : List (List ℕ)
     step_call = step_does z most (opens entered) (step_as _ (opens entered) (is_call (get_or code a []) (get_or words a []) e) refl)
 
     pub call_did : (l : List ℤ) → l ≡ (entering (frame_in s.frames f).vars 0 (args_in (get_or code a []))).vars
-        → Did vs s (step_of t (kept_in t) most s (f / 8) (drop used vs)) (record { stop = 0; flag = 0; bits = 0; used = used }) (set opened (f / 8) (get_or opened (f / 8) 0 + 1)) (set cells (f + 1) l)
+        → Did vs s (step_of t (kept_in t) most s (f / 8) (drop used vs)) (gone_done (Ok used)) (set opened (f / 8) (get_or opened (f / 8) 0 + 1)) (set cells (f + 1) l)
     call_did l h =
         let d = open_frames s (f / 8) in
         rw step_call
         (did_by vs s (stepped (entry_of (f / 8) (frame_in s.frames f) none) [] (called s (f / 8) entered) (drop used vs))
-        (record { stop = 0; flag = 0; bits = 0; used = length vs - length (drop used vs) }) (called s (f / 8) entered) (record { stop = 0; flag = 0; bits = 0; used = used })
+        (gone_done (Ok (length vs - length (drop used vs)))) (called s (f / 8) entered) (gone_done (Ok used))
         (set opened (f / 8) (get_or opened (f / 8) 0 + 1)) (set cells (f + 1) l)
         (record { done = refl; state = refl })
-        (ap (λ (u : ℕ). record { stop = 0; flag = 0; bits = 0; used = u }) (used_is z))
+        (ap (λ (u : ℕ). gone_done (Ok u)) (used_is z))
         ((λ i. set (opened_is i) (f / 8) (call_depth i + 1)) ∙ reframed_marks s (shape_of z) (f + 1) entered call_low (f / 8) (task_low z) entered_long (d + 1) ∙ ap marks_of (sym called_is))
         ((λ i. set (z.held.cells_are i) (f + 1) (h i)) ∙ reframed_cells s (shape_of z) (f + 1) entered call_low (f / 8) (task_low z) entered_long (d + 1) ∙ ap cells_of (sym called_is)))
 
@@ -198,11 +197,11 @@ module _ {t : Table} {s : State} {keep : List ℕ} {code words : List (List ℕ)
         set_comm s.frames f (f - 1) no_frame fr (λ e. omega (arith, e, b)) ∙
         (λ i. set (set s.frames (sym q i) fr) f no_frame)
 
-    end_back : (w : Walk) → (gone_of vs w).stop ≡ 0
-        → Ends vs s (settled entry (returned s (f / 8)) (f / 8) ((f - 1) % 8) (frame_in s.frames (f - 1)).proc w) (shown_done none (gone_of vs w)) (emptied (went_to s (f - 1) w))
-    end_back (halts c) h = absurd (stop_number_lem c h)
-    end_back (arrives (some n) m ws ns) h = record {
-      done = refl;
+    end_back : (w : Walk) (u : ℕ) → gone_of vs w ≡ Ok u
+        → Ends vs s (settled entry (returned s (f / 8)) (f / 8) ((f - 1) % 8) (frame_in s.frames (f - 1)).proc w) (gone_done (Ok u)) (emptied (went_to s (f - 1) w))
+    end_back (halts c) u h = absurd (ok_err (sym h))
+    end_back (arrives (some n) m ws ns) u h = record {
+      done = ap gone_done h;
       state = λ i. record {
         depth = set s.depth (f / 8) (open_frames s (f / 8) - 1);
         lost = s.lost;
@@ -211,8 +210,8 @@ module _ {t : Table} {s : State} {keep : List ℕ} {code words : List (List ℕ)
         queues = m.queues;
       };
     }
-    end_back (arrives none m ws ns) h = record {
-      done = refl;
+    end_back (arrives none m ws ns) u h = record {
+      done = ap gone_done h;
       state = λ i. record {
         depth = set s.depth (f / 8) (open_frames s (f / 8) - 1);
         lost = set s.lost (sym below.task i) true;
@@ -222,17 +221,17 @@ module _ {t : Table} {s : State} {keep : List ℕ} {code words : List (List ℕ)
       };
     }
 
-    end_halted : (w : Walk) → ((gone_of vs w).stop ≡ 0 → ⊥)
-        → Ends vs s (settled entry (returned s (f / 8)) (f / 8) ((f - 1) % 8) (frame_in s.frames (f - 1)).proc w) (gone_done (gone_of vs w)) (went_to s (f - 1) w)
-    end_halted (halts c) h = record { done = refl; state = refl }
-    end_halted (arrives o m ws ns) h = absurd (h refl)
+    end_halted : (w : Walk) (c : Stop) → gone_of vs w ≡ Err c
+        → Ends vs s (settled entry (returned s (f / 8)) (f / 8) ((f - 1) % 8) (frame_in s.frames (f - 1)).proc w) (Err c) (went_to s (f - 1) w)
+    end_halted (halts k) c h = record { done = ap gone_done h; state = refl }
+    end_halted (arrives o m ws ns) c h = absurd (ok_err h)
 
     went_depth : (w : Walk) → open_frames (went_to s (f - 1) w) (f / 8) ≡ open_frames s (f / 8)
     went_depth (halts c) = refl
     went_depth (arrives none m ws ns) = refl
     went_depth (arrives (some n) m ws ns) = refl
 
-    module _ {r : Gone} {marks₁ : List ℕ} {cells₁ : List (List ℤ)} (g : Goes vs s (f - 1) way r marks₁ cells₁) where
+    module _ {r : Result ℕ Stop} {marks₁ : List ℕ} {cells₁ : List (List ℤ)} (g : Goes vs s (f - 1) way r marks₁ cells₁) where
       shape₁ : Shape (went_to s (f - 1) way)
       shape₁ = went_shape s (f - 1) way (shape_of z) (way_lands t most s vs (f - 1) back below_long)
 
@@ -246,20 +245,20 @@ module _ {t : Table} {s : State} {keep : List ℕ} {code words : List (List ℕ)
       pub return_depth : get_or shut (f / 8) 0 ≡ open_frames s (f / 8)
       return_depth = ap (λ (l : List ℕ). get_or l (f / 8) 0) shut_is ∙ reframed_depth (went_to s (f - 1) way) shape₁ f no_frame (frame_low z) (f / 8) (task_low z) refl ∙ went_depth way
 
-      pub return_did : r.stop ≡ 0 → Did vs s (step_of t (kept_in t) most s (f / 8) (drop used vs)) (gone_done r) (set shut (f / 8) (get_or shut (f / 8) 0 - 1)) (set cells₁ f no_vars)
-      return_did n =
+      pub return_did : (u : ℕ) → r ≡ Ok u → Did vs s (step_of t (kept_in t) most s (f / 8) (drop used vs)) (gone_done (Ok u)) (set shut (f / 8) (get_or shut (f / 8) 0 - 1)) (set cells₁ f no_vars)
+      return_did u n =
           let d = open_frames s (f / 8) in let s₁ = went_to s (f - 1) way in
           rw step_back
-          (did_by vs s (settled entry (returned s (f / 8)) (f / 8) ((f - 1) % 8) (frame_in s.frames (f - 1)).proc way) (shown_done none (gone_of vs way)) (emptied s₁) (gone_done r)
+          (did_by vs s (settled entry (returned s (f / 8)) (f / 8) ((f - 1) % 8) (frame_in s.frames (f - 1)).proc way) (gone_done (Ok u)) (emptied s₁) (gone_done (Ok u))
           (set shut (f / 8) (get_or shut (f / 8) 0 - 1)) (set cells₁ f no_vars)
-          (end_back way (sym (ap (λ (x : Gone). x.stop) g.answer) ∙ n))
-          (stays r n ∙ ap (shown_done none) g.answer)
+          (end_back way u (sym g.answer ∙ n))
+          refl
           ((λ i. set (shut_is i) (f / 8) (return_depth i - 1)) ∙ reframed_marks s₁ shape₁ f no_frame (frame_low z) (f / 8) (task_low z) refl (d - 1))
           (ap (λ (l : List (List ℤ)). set l f no_vars) g.cells_are ∙ reframed_cells s₁ shape₁ f no_frame (frame_low z) (f / 8) (task_low z) refl (d - 1)))
 
-      pub return_stop : (r.stop ≡ 0 → ⊥) → Did vs s (step_of t (kept_in t) most s (f / 8) (drop used vs)) (gone_done r) marks₁ cells₁
-      return_stop n =
+      pub return_stop : (c : Stop) → r ≡ Err c → Did vs s (step_of t (kept_in t) most s (f / 8) (drop used vs)) (Err c) marks₁ cells₁
+      return_stop c n =
           rw step_back
-          (did_by vs s (settled entry (returned s (f / 8)) (f / 8) ((f - 1) % 8) (frame_in s.frames (f - 1)).proc way) (gone_done (gone_of vs way)) (went_to s (f - 1) way) (gone_done r) marks₁ cells₁
-          (end_halted way (λ e. n (ap (λ (x : Gone). x.stop) g.answer ∙ e)))
-          (ap gone_done g.answer) g.marks_are g.cells_are)
+          (did_by vs s (settled entry (returned s (f / 8)) (f / 8) ((f - 1) % 8) (frame_in s.frames (f - 1)).proc way) (Err c) (went_to s (f - 1) way) (Err c) marks₁ cells₁
+          (end_halted way c (sym g.answer ∙ n))
+          refl g.marks_are g.cells_are)

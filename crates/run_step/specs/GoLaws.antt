@@ -1,7 +1,7 @@
 -- An arc taken: what the code stores is the state that the machine's walk leads to.
-use Rattle.std.specs.Prelude.{ℕ, ◌+◌, ◌-◌, ◌*◌, ◌/◌, ◌%◌, ◌<◌, ◌≡◌, refl, Bool, true, false, List, [], ◌∷◌, length, get_or, set, drop, eqb, ℤ, pos}
+use Rattle.std.specs.Prelude.{ℕ, ◌+◌, ◌-◌, ◌*◌, ◌/◌, ◌%◌, ◌<◌, ◌≤◌, ◌≡◌, refl, Bool, true, false, List, [], ◌∷◌, length, get_or, set, drop, eqb, ℤ, pos}
 use Rattle.std.proofs.Common.{arith, sym, ap, ◌∙◌, length-drop, length-set, get_or-set_other, eq-eqb, ne_eqb}
-use Rattle.std.proofs.Math.Option.{none, some}
+use Rattle.std.specs.Prelude.{Option, Some, None, Result, Ok, Err}
 use Rattle.std.proofs.lemmas.List.{set-get_or}
 use Rattle.std.proofs.Math.Seq.{set_out}
 use Rattle.table.specs.Mask.{pick, bit, members}
@@ -11,10 +11,12 @@ use Rattle.table.specs.declared.Table.{Table}
 use Rattle.machine.specs.declared.Frame.{Frame}
 use Rattle.machine.specs.declared.State.{State}
 use Rattle.machine.specs.State.{is_lost, place, with_frames, with_lost}
-use Rattle.machine.specs.Step.{Walk, halts, arrives, landed, memory}
-use Rattle.tosses.specs.Tosses.{meeting, arrived_among, arrived_of, straight_of}
+use Rattle.machine.specs.Step.{assign, Walk, halts, arrives, landed, memory}
+use Rattle.tosses.specs.declared.Stop.{Stop}
+use Rattle.tosses.specs.declared.Target.{Target}
+use Rattle.tosses.specs.declared.Target.TheVariants.{Kept, Dropped}
+use Rattle.tosses.specs.Tosses.{arrived_among, arrived_of, straight_of}
 use Rattle.tosses.specs.TossLaws.{Sound, Arrived, arrived}
-use Rattle.tosses.specs.declared.Chosen.{Chosen}
 use Rattle.run_code.specs.Ready.{Placed}
 use Rattle.run_code.specs.Code.{byte, bytes_of, node_of, caps_of}
 use Rattle.run_code.specs.CodeLaws.{node_of_lem, straight_to, straight_near}
@@ -22,16 +24,15 @@ use Rattle.run_state.specs.Good.{frame_in, Shape}
 use Rattle.run_state.specs.Arrays.{lost_mark, marks_of, cells_of}
 use Rattle.run_state.specs.ArrayLaws.{proc_at_lem, node_at_lem, lost_at, vars_at, node_marks, frame_cells, lost_set, shape_frames, cells_lost}
 use Rattle.run_step.specs.declared.Effect.{Effect}
-use Rattle.run_step.specs.declared.Gone.{Gone}
 use Rattle.run_step.specs.Effects.{goes_to}
-use Rattle.run_step.specs.Steps.{Marked, Held, row_in, arc_in, Going, way_of, gone_of, went_to, Goes}
-use Rattle.run_step.specs.Walks.{Met, halted, arrived as came, met, met_of, with_vars, Rows, walking, arc_over, arc_on, dropped_node, Walks, Walked}
+use Rattle.run_step.specs.Steps.{Marked, Held, row_in, arc_in, Going, way_of, gone_of, went_to, stood, Goes}
+use Rattle.run_step.specs.Walks.{Met, halted, arrived as came, met, met_of, with_vars, node_in, ending, Within, Rows, walking, arc_halts, arc_over, arc_on, Walks, Walked}
 
 -- ---- where a walk ends says all that is answered and stored
 
-abbrev gone_met : List ℤ → Met → Gone
-gone_met vs (halted n) = record { stop = n; used = 0 }
-gone_met vs (came w m ws) = record { stop = 0; used = length vs - length ws }
+abbrev gone_met : List ℤ → Met → Result ℕ Stop
+gone_met vs (halted c) = Err c
+gone_met vs (came w m ws) = Ok (length vs - length ws)
 
 abbrev went_met : State → ℕ → Met → State
 went_met s g (halted n) = s
@@ -54,7 +55,7 @@ module _ (s : State) (h : Shape s) (g : ℕ) (inside : g < 32) (here : is_lost s
   set_to n l = with_frames s (set s.frames g (record { proc = own.proc; node = n; vars = l }))
 
   -- stored as the code does it: the node, then whether the task is lost
-  abbrev pub marks_to : Bool → ℕ → List ℕ
+  abbrev marks_to : Bool → ℕ → List ℕ
   marks_to b n = set (set (marks_of s) (64 + g) n) (4 + g / 8) (lost_mark b)
 
   module _ (l : List ℤ) (long : length l ≡ 16) where
@@ -64,39 +65,33 @@ module _ (s : State) (h : Shape s) (g : ℕ) (inside : g < 32) (here : is_lost s
         ap (λ (m : List ℕ). set m (4 + g / 8) (lost_mark b)) (node_marks s h g fr inside refl)
         ∙ lost_set (set_to n l) (shape_frames s h g fr long) (g / 8) b (omega arith)
 
-    abbrev lands_at : Bool → ℕ → State
-    lands_at b n = landed s (g / 8) (g % 8) own.proc (pick b none (some n)) (with_vars (memory s own) l)
+    abbrev lands_at : Option ℕ → State
+    lands_at at = landed s (g / 8) (g % 8) own.proc (node_in at) (with_vars (memory s own) l)
 
     at_place : place (g / 8) (g % 8) ≡ g
     at_place = omega arith
 
-    pub landed_marks : (b : Bool) (n : ℕ) → pick b n 0 ≡ 0 → marks_to b n ≡ marks_of (lands_at b n)
-    landed_marks true n e =
-        marks_set true n
-        ∙ ap (λ (x : ℕ). marks_of (with_lost (set_to x l) (set s.lost (g / 8) true))) e
+    pub landed_marks : (at : Option ℕ) → stood (marks_of s) g at ≡ marks_of (lands_at at)
+    landed_marks None =
+        marks_set true 0
         ∙ ap (λ (x : ℕ). marks_of (with_lost (with_frames s (set s.frames x (record { proc = own.proc; node = 0; vars = l }))) (set s.lost (g / 8) true))) (sym at_place)
-    landed_marks false n e =
+    landed_marks (Some n) =
         marks_set false n
         ∙ ap (λ (x : List Bool). marks_of (with_lost (set_to n l) x)) (ap (λ (x : Bool). set s.lost (g / 8) x) (sym here) ∙ set-get_or s.lost (g / 8) false)
         ∙ ap (λ (x : ℕ). marks_of (with_frames s (set s.frames x (record { proc = own.proc; node = n; vars = l })))) (sym at_place)
 
-    pub landed_cells : (b : Bool) (n : ℕ) → set (cells_of s) g l ≡ cells_of (lands_at b n)
-    landed_cells true n =
+    pub landed_cells : (at : Option ℕ) → set (cells_of s) g l ≡ cells_of (lands_at at)
+    landed_cells None =
         frame_cells s h g (record { proc = own.proc; node = 0; vars = l }) inside
         ∙ ap (λ (x : ℕ). cells_of (with_frames s (set s.frames x (record { proc = own.proc; node = 0; vars = l })))) (sym at_place)
         ∙ sym (cells_lost (with_frames s (set s.frames (place (g / 8) (g % 8)) (record { proc = own.proc; node = 0; vars = l }))) (set s.lost (g / 8) true))
-    landed_cells false n =
+    landed_cells (Some n) =
         frame_cells s h g (record { proc = own.proc; node = n; vars = l }) inside
         ∙ ap (λ (x : ℕ). cells_of (with_frames s (set s.frames x (record { proc = own.proc; node = n; vars = l })))) (sym at_place)
 
-  module _ (vs : List ℤ) (w : Walk) (z : Chosen) (l : List ℤ) (e : met w ≡ met_of vs (with_vars (memory s own) l) z) where
-    -- it arrives, or halts
-    by_stop : (b : Bool) → eqb z.stop 0 ≡ b → met w ≡ pick b (came (pick z.lost none (some z.node)) (with_vars (memory s own) l) (drop z.used vs)) (halted z.stop)
-    by_stop b f = e ∙ ap (λ (b : Bool). pick b (came (pick z.lost none (some z.node)) (with_vars (memory s own) l) (drop z.used vs)) (halted z.stop)) f
-
-    pub stays : (z.stop ≡ 0 → ⊥) → Goes vs s g w (record { stop = z.stop; used = 0 }) (marks_of s) (cells_of s)
-    stays n =
-        let i = by_stop false (ne_eqb z.stop 0 n) in
+  module _ (vs : List ℤ) (w : Walk) where
+    pub stays : (c : Stop) → met w ≡ halted c → Goes vs s g w (Err c) (marks_of s) (cells_of s)
+    stays c i =
         let j : went_to s g w ≡ s = sym (went_met_lem s g w) ∙ ap (went_met s g) i in
         record {
           answer = sym (sym (gone_met_lem vs w) ∙ ap (gone_met vs) i);
@@ -104,15 +99,15 @@ module _ (s : State) (h : Shape s) (g : ℕ) (inside : g < 32) (here : is_lost s
           cells_are = ap cells_of (sym j);
         }
 
-    pub lands : length l ≡ 16 → {keep : ℕ} → Sound keep vs z → z.stop ≡ 0 → Goes vs s g w (record { stop = 0; used = z.used }) (marks_to z.lost z.node) (set (cells_of s) g l)
-    lands long sound n =
-        let i = by_stop true (eq-eqb z.stop 0 n) in
-        let j : went_to s g w ≡ lands_at l long z.lost z.node = sym (went_met_lem s g w) ∙ ap (went_met s g) i in
-        let u : z.used ≡ length vs - length (drop z.used vs) = omega (arith, length-drop z.used vs, sound.within) in
+    pub lands : (l : List ℤ) → length l ≡ 16 → (at : Option ℕ) (u : ℕ) → u ≤ length vs → met w ≡ came (node_in at) (with_vars (memory s own) l) (drop u vs)
+        → Goes vs s g w (Ok u) (stood (marks_of s) g at) (set (cells_of s) g l)
+    lands l long at u k i =
+        let j : went_to s g w ≡ lands_at l long at = sym (went_met_lem s g w) ∙ ap (went_met s g) i in
+        let e : u ≡ length vs - length (drop u vs) = omega (arith, length-drop u vs, k) in
         record {
-          answer = ap (λ (x : ℕ). record { stop = 0; used = x }) u ∙ sym (sym (gone_met_lem vs w) ∙ ap (gone_met vs) i);
-          marks_are = landed_marks l long z.lost z.node sound.gone ∙ ap marks_of (sym j);
-          cells_are = landed_cells l long z.lost z.node ∙ ap cells_of (sym j);
+          answer = ap (λ (x : ℕ). Ok x) e ∙ sym (sym (gone_met_lem vs w) ∙ ap (gone_met vs) i);
+          marks_are = landed_marks l long at ∙ ap marks_of (sym j);
+          cells_are = landed_cells l long at ∙ ap cells_of (sym j);
         }
 
 -- ---- what the arrays hold of the frame at place g
@@ -192,91 +187,84 @@ proc_of marks g = byte marks (32 + g)
 abbrev pub vars_of : List (List ℤ) → ℕ → Effect → List ℤ
 vars_of cells g o = set (get_or cells g []) o.var o.value
 
--- a node met is stored, and whether the task is lost
-abbrev pub marks_with : List ℕ → ℕ → Chosen → ℕ → List ℕ
-marks_with marks g z b = set (set marks (64 + g) z.node) (4 + g / 8) b
+module _ (keep : List ℕ) (code words : List (List ℕ)) (marks : List ℕ) (cells : List (List ℤ)) (vs : List ℤ) (g : ℕ) (o : Effect) (most : ℕ) (y : Result (Target × ℕ) Stop)
+    (e : y ≡ arrived_of o.arc (get_or keep (proc_of marks g) 0) vs o.used) (t : Table) (s : State) (going : Going t s keep code words marks cells vs g o) where
+  abbrev held : Held t s keep code words marks cells
+  held = going.held
 
-module _ (keep : List ℕ) (code words : List (List ℕ)) (marks : List ℕ) (cells : List (List ℤ)) (vs : List ℤ) (g : ℕ) (o : Effect) (most : ℕ) (y : Chosen)
-    (e : y ≡ arrived_of o.arc (get_or keep (proc_of marks g) 0) vs o.used) (l₀ : List ℤ) (j : l₀ ≡ vars_of cells g o) where
-  module _ (t : Table) (s : State) (going : Going t s keep code words marks cells vs g o) where
-    abbrev held : Held t s keep code words marks cells
-    held = going.held
+  abbrev frame : Frame
+  frame = frame_in s.frames g
 
-    abbrev frame : Frame
-    frame = frame_in s.frames g
+  abbrev mask : ℕ
+  mask = get_or keep frame.proc 0
 
-    abbrev mask : ℕ
-    mask = get_or keep frame.proc 0
+  in_table : frame.proc < 8
+  in_table = held.marked.good.procs g
 
-    in_table : frame.proc < 8
-    in_table = held.marked.good.procs g
+  is_proc : proc_of marks g ≡ frame.proc
+  is_proc = proc_is t s keep code marks held.marked g going.frame
 
-    is_proc : proc_of marks g ≡ frame.proc
-    is_proc = proc_is t s keep code marks held.marked g going.frame
+  taken : Arrived o.arc mask vs o.used y
+  taken = arrived o.arc mask vs o.used going.within (e ∙ ap (λ (q : ℕ). arrived_of o.arc (get_or keep q 0) vs o.used) is_proc)
 
+  abbrev way : Walk
+  way = way_of t most s vs g o
+
+  -- the arc stops the step
+  pub arc_stays : (c : Stop) → y ≡ Err c → Goes vs s g way (Err c) marks cells
+  arc_stays c n =
+      let i = arc_halts t (g / 8) vs frame.proc mask (λ n i. held.marked.ready.keeps frame.proc n in_table i) most (assign o.var o.value (memory s frame)) o.arc o.used y taken c n in
+      rw (held.marked.marks_are, held.cells_are) (stays s held.marked.good.shape g going.frame going.here vs way c i)
+
+  module _ (l₀ : List ℤ) (j : l₀ ≡ vars_of cells g o) where
     long : length l₀ ≡ 16
     long = ap length j ∙ length-set (get_or cells g []) o.var o.value ∙ vars_long t s keep code words marks cells held g going.frame
 
     new_vars : l₀ ≡ set frame.vars o.var o.value
     new_vars = j ∙ ap (λ (l : List ℤ). set l o.var o.value) (vars_are t s keep code words marks cells held g going.frame)
 
-    taken : Arrived o.arc mask vs o.used y
-    taken = arrived o.arc mask vs o.used going.within (e ∙ ap (λ (q : ℕ). arrived_of o.arc (get_or keep q 0) vs o.used) is_proc)
-
-    abbrev way : Walk
-    way = way_of t most s vs g o
-
-    abbrev after : List ℤ → Chosen → Met
-    after l z = met_of vs (with_vars (memory s frame) l) z
-
-    -- where the walk is over, and where it goes on
-    is_over : y.over ≡ true → met way ≡ after l₀ y
-    is_over b =
-        arc_over t (g / 8) vs frame.proc mask (λ n i. held.marked.ready.keeps frame.proc n in_table i) most (with_vars (memory s frame) (set frame.vars o.var o.value)) o.arc o.used y taken b
-        ∙ ap (λ (l : List ℤ). after l y) (sym new_vars)
+    -- it leads to a kept node, or nowhere
+    pub over_lands : (at : Option ℕ) (u : ℕ) → y ≡ Ok (ending at, u) → Goes vs s g way (Ok u) (stood marks g at) (set cells g l₀)
+    over_lands at u n =
+        let r : Sound mask vs (Ok (ending at, u)) = rw n at taken.sound in
+        let i = arc_over t (g / 8) vs frame.proc mask (λ n i. held.marked.ready.keeps frame.proc n in_table i) most (with_vars (memory s frame) (set frame.vars o.var o.value)) o.arc o.used y taken at u n
+        ∙ ap (λ (l : List ℤ). came (node_in at) (with_vars (memory s frame) l) (drop u vs)) (sym new_vars) in
+        rw (held.marked.marks_are, held.cells_are) (lands s held.marked.good.shape g going.frame going.here vs way l₀ long at u r.1 i)
 
     here_rows : Rows t (proc_of marks g) code words (32 * proc_of marks g) (get_or keep (proc_of marks g) 0)
     here_rows = rows_of t s keep code words marks cells held (proc_of marks g) (rw is_proc in_table)
 
-    module _ (b : y.over ≡ false) where
-      pub walks : Walks code words (32 * proc_of marks g) (get_or keep (proc_of marks g) 0) y.node l₀ vs y.used
+    -- it leads to a dropped node
+    module _ (n u : ℕ) (b : y ≡ Ok (Dropped n, u)) where
+      sound : Sound mask vs (Ok (Dropped n, u))
+      sound = rw b at taken.sound
+
+      pub walks : Walks code words (32 * proc_of marks g) (get_or keep (proc_of marks g) 0) n l₀ vs u
       walks = record {
         t = t;
         p = proc_of marks g;
         rows = here_rows;
-        place = taken.sound.place;
-        unkept = ap (λ (q : ℕ). bit y.node (get_or keep q 0)) is_proc ∙ dropped_node mask vs y taken.sound b;
+        place = sound.0.0;
+        unkept = ap (λ (q : ℕ). bit n (get_or keep q 0)) is_proc ∙ sound.0.1;
         long = long;
-        within = taken.sound.within;
+        within = sound.1;
       }
 
-      is_walked : (z : Chosen) (l : List ℤ) → Walked code words (32 * proc_of marks g) (get_or keep (proc_of marks g) 0) y.node l₀ vs y.used most z l → met way ≡ after l z
-      is_walked z l w =
-          arc_on t (g / 8) vs frame.proc mask (λ n i. held.marked.ready.keeps frame.proc n in_table i) most (with_vars (memory s frame) (set frame.vars o.var o.value)) o.arc o.used y taken b
-          ∙ (λ ι. met (walking t (g / 8) vs (sym is_proc ι) most y.node (with_vars (memory s frame) (sym new_vars ι)) y.used))
-          ∙ w.ends t (proc_of marks g) (g / 8) (memory s frame) here_rows
+      module _ (z : Result (Option ℕ × ℕ) Stop) (l : List ℤ) (w : Walked code words (32 * proc_of marks g) (get_or keep (proc_of marks g) 0) n l₀ vs u most z l) where
+        is_walked : met way ≡ met_of vs (with_vars (memory s frame) l) z
+        is_walked =
+            arc_on t (g / 8) vs frame.proc mask (λ n i. held.marked.ready.keeps frame.proc n in_table i) most (with_vars (memory s frame) (set frame.vars o.var o.value)) o.arc o.used y taken n u b
+            ∙ (λ ι. met (walking t (g / 8) vs (sym is_proc ι) most n (with_vars (memory s frame) (sym new_vars ι)) u))
+            ∙ w.ends t (proc_of marks g) (g / 8) (memory s frame) here_rows
 
-    stays_as : (z : Chosen) (l : List ℤ) → met way ≡ after l z → (z.stop ≡ 0 → ⊥) → Goes vs s g way (record { stop = z.stop; used = 0 }) marks cells
-    stays_as z l i n =
-        rw (held.marked.marks_are, held.cells_are) (stays s held.marked.good.shape g going.frame going.here vs way z l i n)
+        pub walk_stays : (c : Stop) → z ≡ Err c → Goes vs s g way (Err c) marks cells
+        walk_stays c k =
+            rw (held.marked.marks_are, held.cells_are) (stays s held.marked.good.shape g going.frame going.here vs way c (is_walked ∙ ap (met_of vs (with_vars (memory s frame) l)) k))
 
-    lands_as : (z : Chosen) (l : List ℤ) {q : ℕ} → Sound q vs z → length l ≡ 16 → met way ≡ after l z → z.stop ≡ 0 → (b : ℕ) → b ≡ lost_mark z.lost → Goes vs s g way (record { stop = 0; used = z.used }) (marks_with marks g z b) (set cells g l)
-    lands_as z l sound k i n b f =
-        rw (f, held.marked.marks_are, held.cells_are) (lands s held.marked.good.shape g going.frame going.here vs way z l i k sound n)
-
-    -- the four ways out
-    pub over_stays : y.over ≡ true → (y.stop ≡ 0 → ⊥) → Goes vs s g way (record { stop = y.stop; used = 0 }) marks cells
-    over_stays b n = stays_as y l₀ (is_over b) n
-
-    pub over_lands : y.over ≡ true → y.stop ≡ 0 → (b : ℕ) → b ≡ lost_mark y.lost → Goes vs s g way (record { stop = 0; used = y.used }) (marks_with marks g y b) (set cells g l₀)
-    over_lands i n = lands_as y l₀ taken.sound long (is_over i) n
-
-    module _ (b : y.over ≡ false) (z : Chosen) (l : List ℤ) (w : Walked code words (32 * proc_of marks g) (get_or keep (proc_of marks g) 0) y.node l₀ vs y.used most z l) where
-      pub walk_stays : (z.stop ≡ 0 → ⊥) → Goes vs s g way (record { stop = z.stop; used = 0 }) marks cells
-      walk_stays n = stays_as z l (is_walked b z l w) n
-
-      pub walk_lands : z.stop ≡ 0 → (n : ℕ) → n ≡ lost_mark z.lost → Goes vs s g way (record { stop = 0; used = z.used }) (marks_with marks g z n) (set cells g l)
-      walk_lands n = lands_as z l w.sound w.long (is_walked b z l w) n
+        pub walk_lands : (at : Option ℕ) (v : ℕ) → z ≡ Ok (at, v) → Goes vs s g way (Ok v) (stood marks g at) (set cells g l)
+        walk_lands at v k =
+            let r : Within vs (Ok (at, v)) = rw k at w.within in
+            rw (held.marked.marks_are, held.cells_are) (lands s held.marked.good.shape g going.frame going.here vs way l w.long at v r (is_walked ∙ ap (met_of vs (with_vars (memory s frame) l)) k))
 
 -- ---- an arc that leads straight to a kept node
 
@@ -295,15 +283,15 @@ module _ (keep : List ℕ) (code words : List (List ℕ)) (marks : List ℕ) (ce
   not_lost n = ap (λ (b : ℕ). set (set marks (64 + g) n) (4 + g / 8) b) (sym (lost_stored n)) ∙ set-get_or (set marks (64 + g) n) (4 + g / 8) 0
 
   pub near_lands : (j : ℕ) → members o.arc ≡ j ∷ [] → bit j (get_or keep (proc_of marks g) 0) ≡ true → (l : List ℤ) → l ≡ vars_of cells g o
-      → Goes vs s g (way_of t most s vs g o) (record { stop = 0; used = o.used }) (set marks (64 + g) j) (set cells g l)
+      → Goes vs s g (way_of t most s vs g o) (Ok o.used) (set marks (64 + g) j) (set cells g l)
   near_lands j one k l e =
       let mask = get_or keep (proc_of marks g) 0 in
-      let y : Chosen = meeting mask j o.used in
-      let a : y ≡ arrived_of o.arc mask vs o.used = ap (λ (ms : List ℕ). arrived_among ms mask vs o.used) (sym one) in
-      let r = over_lands keep code words marks cells vs g o most y a l e t s going k refl 0 refl in
+      let y : Result (Target × ℕ) Stop = Ok (Kept j, o.used) in
+      let a : y ≡ arrived_of o.arc mask vs o.used = ap (λ (b : Bool). Ok (pick b (Kept j) (Dropped j), o.used)) (sym k) ∙ ap (λ (ms : List ℕ). arrived_among ms mask vs o.used) (sym one) in
+      let r = over_lands keep code words marks cells vs g o most y a t s going l e (Some j) o.used refl in
       record { answer = r.answer; marks_are = sym (not_lost j) ∙ r.marks_are; cells_are = r.cells_are }
 
-  pub near_goes : (o.near ≡ 0 → ⊥) → (l : List ℤ) → l ≡ vars_of cells g o → Goes vs s g (way_of t most s vs g o) (record { stop = 0; used = o.used }) (set marks (64 + g) o.near) (set cells g l)
+  pub near_goes : (o.near ≡ 0 → ⊥) → (l : List ℤ) → l ≡ vars_of cells g o → Goes vs s g (way_of t most s vs g o) (Ok o.used) (set marks (64 + g) o.near) (set cells g l)
   near_goes h =
       let n = going.near h in
       near_lands o.near n.0 (ap (λ (q : ℕ). bit o.near (get_or keep q 0)) (proc_is t s keep code marks going.held.marked g going.frame) ∙ n.1)
@@ -313,7 +301,7 @@ module _ (keep : List ℕ) (code words : List (List ℕ)) (marks : List ℕ) (ce
     pub far_going : Going t s keep code words marks cells vs g far
     far_going = rw e (record { held = going.held; frame = going.frame; here = going.here; near = λ h. absurd (h refl); within = going.within })
 
-    pub far_goes : (r : Gone) (m : List ℕ) (x : List (List ℤ)) → Goes vs s g (way_of t most s vs g far) r m x → Goes vs s g (way_of t most s vs g o) r m x
+    pub far_goes : (r : Result ℕ Stop) (m : List ℕ) (x : List (List ℤ)) → Goes vs s g (way_of t most s vs g far) r m x → Goes vs s g (way_of t most s vs g o) r m x
     far_goes r m x h = rw e at h
 
 -- ---- the arc of a frame's call
@@ -327,7 +315,7 @@ module _ (keep : List ℕ) (code words : List (List ℕ)) (marks : List ℕ) (ce
   back_effect far e = e ∙ ap (λ (y : Effect). goes_to removed (pos 0) used y.arc 0) eo ∙ ap (λ (x : ℕ). goes_to removed (pos 0) used (byte (get_or words x []) 2) 0) row
 
   pub back_lands : (o.near ≡ 0 → ⊥) → (t : Table) (s : State) → Going t s keep code words marks cells vs g back_of
-      → Goes vs s g (way_of t most s vs g back_of) (record { stop = 0; used = used }) (set marks (64 + g) o.near) cells
+      → Goes vs s g (way_of t most s vs g back_of) (Ok used) (set marks (64 + g) o.near) cells
   back_lands h t s going =
       let mask = get_or keep (proc_of marks g) 0 in
       let e : o.near ≡ straight_of (arc_in words marks g) mask = ap (λ (y : Effect). y.near) eo ∙ ap (λ (x : ℕ). byte (get_or code x []) 7) row ∙ straight_is t s keep code words marks cells going.held g going.frame in

@@ -1,6 +1,8 @@
+pub mod Stops
 pub mod Effects
 pub mod EffectLaws
 pub mod Walks
+pub mod Results
 pub mod Steps
 pub mod GoLaws
 pub mod BlockedLaws

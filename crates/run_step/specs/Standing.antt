@@ -1,5 +1,5 @@
 -- Where a task stands, by the arrays: its frame, the node's rows, and what the node's not being blocked says.
-use Rattle.std.specs.Prelude.{ℕ, ◌+◌, ◌-◌, ◌*◌, ◌/◌, ◌%◌, ◌<◌, ◌≤◌, ◌≡◌, false, List, [], length, get_or, drop, ℤ}
+use Rattle.std.specs.Prelude.{ℕ, ◌+◌, ◌-◌, ◌*◌, ◌/◌, ◌%◌, ◌<◌, ◌≤◌, ◌≡◌, false, List, [], length, get_or, drop, ℤ, Result}
 use Rattle.std.proofs.Common.{arith, sym, ◌∙◌, subst, length-drop}
 use Rattle.std.proofs.Math.Path.{ap}
 use borrow.Author.Tests.{leb-false, eqb-false}
@@ -11,13 +11,13 @@ use Rattle.table.specs.declared.Table.{Table}
 use Rattle.machine.specs.declared.Frame.{Frame}
 use Rattle.machine.specs.declared.State.{State}
 use Rattle.machine.specs.State.{open_frames, place, topmost, sem_count, entries_at, stands_before, blocked_at}
+use Rattle.tosses.specs.declared.Stop.{Stop}
 use Rattle.tosses.specs.Tosses.{straight_of}
 use Rattle.run_code.specs.Ready.{Placed, Ready}
 use Rattle.run_code.specs.Code.{byte, bytes_of, words_of, node_of, caps_of}
 use Rattle.run_code.specs.CodeLaws.{node_of_lem, bytes_long, words_long, name_low, args_few, straight_to, straight_no, straight_near}
 use Rattle.run_state.specs.Good.{frame_in, Shape}
 use Rattle.run_step.specs.declared.Effect.{Effect}
-use Rattle.run_step.specs.declared.Gone.{Gone}
 use Rattle.run_step.specs.Effects.{goes_to}
 use Rattle.run_step.specs.Steps.{row_in, Near, Going, Goings, way_of, Goes, Stands, Standing}
 use Rattle.run_step.specs.GoLaws.{proc_is, node_is, vars_are, vars_long}
@@ -27,7 +27,7 @@ near_straight : (arc k : ℕ) → Near arc k (straight_of arc k)
 near_straight arc k h = straight_near arc k h
 
 -- for every table and state that the arrays hold: what `go_on` leaves
-abbrev pub GoesOn : List ℕ → List (List ℕ) → List (List ℕ) → List ℕ → List (List ℤ) → List ℤ → ℕ → ℕ → Effect → Gone → List ℕ → List (List ℤ) → Type 0
+abbrev pub GoesOn : List ℕ → List (List ℕ) → List (List ℕ) → List ℕ → List (List ℤ) → List ℤ → ℕ → ℕ → Effect → Result ℕ Stop → List ℕ → List (List ℤ) → Type 0
 GoesOn keep code words marks cells vs most f o r marks₁ cells₁ = (t : Table) (s : State) → Going t s keep code words marks cells vs f o → Goes vs s f (way_of t most s vs f o) r marks₁ cells₁
 
 module _ {t : Table} {s : State} {keep : List ℕ} {code words : List (List ℕ)} {marks : List ℕ} {cells : List (List ℤ)} {vs : List ℤ} {used f a : ℕ}
@@ -163,7 +163,7 @@ module _ {t : Table} {s : State} {keep : List ℕ} {code words : List (List ℕ)
   }
 
   -- what `go_on` leaves, handed such an effect
-  module _ (most : ℕ) {r : Gone} {marks₁ : List ℕ} {cells₁ : List (List ℤ)} {o : Effect} (g : GoesOn keep code words marks cells vs most f o r marks₁ cells₁) (v : ℕ) (x : ℤ) (u : ℕ) (h : u ≤ length vs) where
+  module _ (most : ℕ) {r : Result ℕ Stop} {marks₁ : List ℕ} {cells₁ : List (List ℤ)} {o : Effect} (g : GoesOn keep code words marks cells vs most f o r marks₁ cells₁) (v : ℕ) (x : ℤ) (u : ℕ) (h : u ≤ length vs) where
     pub goes_to_lem : o ≡ goes_to v x u (byte (get_or words a []) 2) (byte (get_or code a []) 7)
         → Goes vs s f (way_of t most s vs f (goes_to v x u (byte (get_or words a []) 2) (byte (get_or code a []) 7))) r marks₁ cells₁
     goes_to_lem e = subst (λ (y : Effect). GoesOn keep code words marks cells vs most f y r marks₁ cells₁) e g t s (going_to v x u h)

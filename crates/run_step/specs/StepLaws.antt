@@ -2,6 +2,7 @@
 use Rattle.std.specs.Prelude.{ℕ, ◌/◌, ◌%◌, ◌≡◌, refl, Bool, true, false, List, ◌∷◌, length, set, drop, eqb, ℤ}
 use Rattle.std.proofs.Common.{sym, ◌∙◌, subst, length-set, eqb-true}
 use Rattle.std.proofs.Math.Path.{ap}
+use Rattle.std.specs.Prelude.{Result, Ok, Err}
 use Rattle.std.proofs.Math.Option.{Option, none, some}
 use Rattle.std.proofs.lemmas.Bool.{eqb-false}
 use Rattle.table.specs.declared.Table.{Table}
@@ -11,27 +12,23 @@ use Rattle.machine.specs.declared.State.{State}
 use Rattle.machine.specs.State.{with_lost, with_frames, with_sems, with_queues, place, stands_before}
 use Rattle.machine.specs.Step.{Memory, Does, goes, exec, choose, kept_in, Walk, halts, arrives, along, walk, Entry, Step, settled, memory, entry_of, step_as, step_of}
 use Rattle.machine.specs.Run.{word, flagged}
-use Rattle.machine.proofs.RunLaws.{stop_number_lem}
+use Rattle.tosses.specs.declared.Stop.{Stop}
 use Rattle.run_state.specs.Good.{frame_in, Shape}
 use Rattle.run_state.specs.Arrays.{marks_of, cells_of}
 use Rattle.run_state.specs.ArrayLaws.{shape_lost, shape_frames}
 use Rattle.run_step.specs.declared.Effect.{Effect}
-use Rattle.run_step.specs.declared.Gone.{Gone}
 use Rattle.run_step.specs.declared.Done.{Done}
-use Rattle.run_step.specs.Steps.{Stands, Goes, way_of, gone_of, went_to, Did, done_of, gone_done, flag_of, bits_of, after}
+use Rattle.run_step.specs.Results.{ok_err}
+use Rattle.run_step.specs.Steps.{Stands, Goes, way_of, gone_of, went_to, Did, done_of, shown_of, shown_done, gone_done, flag_of, bits_of, after}
 use Rattle.run_step.specs.Dropped.{mem, sharing, Lands, walk_shared}
 use Rattle.run_step.specs.Standing.{level_is, frame_is, frame_long}
 
 -- the bytes of a value in the log, from its flag on
-pub entry_bytes_lem : (o : Option ℤ) → ◌≡◌ {A = List ℕ} (flag_of o ∷ word (bits_of o)) (flagged o)
+pub entry_bytes_lem : (o : Option ℤ) → ◌≡◌ {A = List ℕ} (flag_of (shown_of o) ∷ word (bits_of (shown_of o))) (flagged o)
 entry_bytes_lem none = refl
 entry_bytes_lem (some x) = refl
 
 -- ---- a walk's end
-
--- a node that shows a value
-abbrev pub shown_done : Option ℤ → Gone → Done
-shown_done v e = record { stop = 0; flag = flag_of v; bits = bits_of v; used = e.used }
 
 abbrev pub shared_in : State → List ℕ → List Entries → State
 shared_in s a b = with_queues (with_sems s a) b
@@ -41,19 +38,19 @@ abbrev pub ends_in : State → ℕ → Entry → List ℕ → List Entries → W
 ends_in s f e a b w = settled e s (f / 8) (f % 8) (frame_in s.frames f).proc (sharing a b w)
 
 -- its answer and its state
-pub record Ends (vs : List ℤ) (s : State) (z : Step) (d : Done) (s₂ : State) : Type 0 where
+pub record Ends (vs : List ℤ) (s : State) (z : Step) (d : Result Done Stop) (s₂ : State) : Type 0 where
   pub done : done_of vs z ≡ d
   pub state : after s z ≡ s₂
 
 module _ (vs : List ℤ) (s : State) (f : ℕ) (e : Entry) (a : List ℕ) (b : List Entries) where
-  end_stopped : (w : Walk) → ((gone_of vs w).stop ≡ 0 → ⊥) → Ends vs s (ends_in s f e a b w) (gone_done (gone_of vs w)) (went_to s f w)
-  end_stopped (halts c) h = record { done = refl; state = refl }
-  end_stopped (arrives o m ws ns) h = absurd (h refl)
+  end_stopped : (w : Walk) (c : Stop) → gone_of vs w ≡ Err c → Ends vs s (ends_in s f e a b w) (Err c) (went_to s f w)
+  end_stopped (halts k) c h = record { done = ap gone_done h; state = refl }
+  end_stopped (arrives o m ws ns) c h = absurd (ok_err h)
 
-  end_gone : (w : Walk) → (gone_of vs w).stop ≡ 0 → Ends vs s (ends_in s f e a b w) (shown_done e.value (gone_of vs w)) (shared_in (went_to s f w) a b)
-  end_gone (halts c) h = absurd (stop_number_lem c h)
-  end_gone (arrives none m ws ns) h = record { done = refl; state = refl }
-  end_gone (arrives (some n) m ws ns) h = record { done = refl; state = refl }
+  end_gone : (w : Walk) (u : ℕ) → gone_of vs w ≡ Ok u → Ends vs s (ends_in s f e a b w) (shown_done e.value (Ok u)) (shared_in (went_to s f w) a b)
+  end_gone (halts k) u h = absurd (ok_err (sym h))
+  end_gone (arrives none m ws ns) u h = record { done = ap (shown_done e.value) h; state = refl }
+  end_gone (arrives (some n) m ws ns) u h = record { done = ap (shown_done e.value) h; state = refl }
 
 module _ (s : State) (f n : ℕ) where
   -- semaphores and queues are as before it
@@ -97,7 +94,7 @@ pub record Onto (t : Table) (s : State) (vs : List ℤ) (used f : ℕ) (o : Effe
   pub vars : m.vars ≡ set (frame_in s.frames f).vars o.var o.value
 
 -- what a step leaves, as an arm's answer
-pub did_by : (vs : List ℤ) (s : State) (z : Step) (d : Done) (s₂ : State) (y : Done) (marks : List ℕ) (cells : List (List ℤ))
+pub did_by : (vs : List ℤ) (s : State) (z : Step) (d : Result Done Stop) (s₂ : State) (y : Result Done Stop) (marks : List ℕ) (cells : List (List ℤ))
     → Ends vs s z d s₂ → y ≡ d → marks ≡ marks_of s₂ → cells ≡ cells_of s₂ → Did vs s z y marks cells
 did_by vs s z d s₂ y marks cells h a b c = record { answer = a ∙ sym h.done; marks_are = b ∙ ap marks_of (sym h.state); cells_are = c ∙ ap cells_of (sym h.state) }
 
@@ -123,45 +120,40 @@ module _ {t : Table} {s : State} {keep : List ℕ} {code words : List (List ℕ)
         ap (λ (w : Walk). settled (entry_of (f / 8) fr v) s (f / 8) (f % 8) fr.proc w)
         ((walk_shared t (f / 8) fr.proc most (set fr.vars o.var o.value) c).same s.sems m.sems s.queues m.queues)
 
-    module _ {r : Gone} {marks₁ : List ℕ} {cells₁ : List (List ℤ)} (g : Goes vs s f (way_of t most s vs f o) r marks₁ cells₁) where
+    module _ {r : Result ℕ Stop} {marks₁ : List ℕ} {cells₁ : List (List ℤ)} (g : Goes vs s f (way_of t most s vs f o) r marks₁ cells₁) where
       -- the arc stops the step
-      pub did_stop : (r.stop ≡ 0 → ⊥) → Did vs s (step_of t (kept_in t) most s (f / 8) (drop used vs)) (gone_done r) marks₁ cells₁
-      did_stop n =
+      pub did_stop : (c : Stop) → r ≡ Err c → Did vs s (step_of t (kept_in t) most s (f / 8) (drop used vs)) (Err c) marks₁ cells₁
+      did_stop c n =
           let w = way_of t most s vs f o in
           rw step_onto
-          (did_by vs s (ends_in s f (entry_of (f / 8) (frame_in s.frames f) v) m.sems m.queues w) (gone_done (gone_of vs w)) (went_to s f w) (gone_done r) marks₁ cells₁
-          (end_stopped vs s f (entry_of (f / 8) (frame_in s.frames f) v) m.sems m.queues w (λ e. n (ap (λ (x : Gone). x.stop) g.answer ∙ e)))
-          (ap gone_done g.answer) g.marks_are g.cells_are)
+          (did_by vs s (ends_in s f (entry_of (f / 8) (frame_in s.frames f) v) m.sems m.queues w) (Err c) (went_to s f w) (Err c) marks₁ cells₁
+          (end_stopped vs s f (entry_of (f / 8) (frame_in s.frames f) v) m.sems m.queues w c (sym g.answer ∙ n))
+          refl g.marks_are g.cells_are)
 
       -- the arc is taken, and semaphores and queues are stored
-      pub did_go : r.stop ≡ 0 → (y : Done) (marks₂ : List ℕ) (cells₂ : List (List ℤ)) → y ≡ shown_done v r
+      pub did_go : (u : ℕ) → r ≡ Ok u → (y : Result Done Stop) (marks₂ : List ℕ) (cells₂ : List (List ℤ)) → y ≡ shown_done v (Ok u)
           → marks₂ ≡ marks_of (shared_in (went_to s f (way_of t most s vs f o)) m.sems m.queues)
           → cells₂ ≡ cells_of (shared_in (went_to s f (way_of t most s vs f o)) m.sems m.queues)
           → Did vs s (step_of t (kept_in t) most s (f / 8) (drop used vs)) y marks₂ cells₂
-      did_go n y marks₂ cells₂ d p q =
+      did_go u n y marks₂ cells₂ d p q =
           let w = way_of t most s vs f o in
           rw step_onto
-          (did_by vs s (ends_in s f (entry_of (f / 8) (frame_in s.frames f) v) m.sems m.queues w) (shown_done v (gone_of vs w)) (shared_in (went_to s f w) m.sems m.queues) y marks₂ cells₂
-          (end_gone vs s f (entry_of (f / 8) (frame_in s.frames f) v) m.sems m.queues w (sym (ap (λ (x : Gone). x.stop) g.answer) ∙ n))
-          (d ∙ ap (shown_done v) g.answer) p q)
+          (did_by vs s (ends_in s f (entry_of (f / 8) (frame_in s.frames f) v) m.sems m.queues w) (shown_done v (Ok u)) (shared_in (went_to s f w) m.sems m.queues) y marks₂ cells₂
+          (end_gone vs s f (entry_of (f / 8) (frame_in s.frames f) v) m.sems m.queues w u (sym g.answer ∙ n))
+          d p q)
 
       -- a node that leaves semaphores and queues alone
-      pub did_shown : m.sems ≡ s.sems → m.queues ≡ s.queues → r.stop ≡ 0 → (y : Done) → y ≡ shown_done v r
+      pub did_shown : m.sems ≡ s.sems → m.queues ≡ s.queues → (u : ℕ) → r ≡ Ok u → (y : Result Done Stop) → y ≡ shown_done v (Ok u)
           → Did vs s (step_of t (kept_in t) most s (f / 8) (drop used vs)) y marks₁ cells₁
-      did_shown a b n y d =
+      did_shown a b u n y d =
           let w = way_of t most s vs f o in
           let e : shared_in (went_to s f w) m.sems m.queues ≡ went_to s f w =
           (λ i. shared_in (went_to s f w) (a i) (b i)) ∙ went_same s f 16 w (way_lands t most s vs f o (frame_long z)) in
-          did_go n y marks₁ cells₁ d (g.marks_are ∙ ap marks_of (sym e)) (g.cells_are ∙ ap cells_of (sym e))
+          did_go u n y marks₁ cells₁ d (g.marks_are ∙ ap marks_of (sym e)) (g.cells_are ∙ ap cells_of (sym e))
 
   -- and shows no value
   pub did_plain : (o : Effect) (m : Memory) → Onto t s vs used f o m none → m.sems ≡ s.sems → m.queues ≡ s.queues
-      → (r : Gone) (marks₁ : List ℕ) (cells₁ : List (List ℤ)) → Goes vs s f (way_of t most s vs f o) r marks₁ cells₁
+      → (r : Result ℕ Stop) (marks₁ : List ℕ) (cells₁ : List (List ℤ)) → Goes vs s f (way_of t most s vs f o) r marks₁ cells₁
       → Did vs s (step_of t (kept_in t) most s (f / 8) (drop used vs)) (gone_done r) marks₁ cells₁
-  did_plain o m h a b r marks₁ cells₁ g = go (eqb r.stop 0) refl
-    where
-      go : (c : Bool) → eqb r.stop 0 ≡ c → Did vs s (step_of t (kept_in t) most s (f / 8) (drop used vs)) (gone_done r) marks₁ cells₁
-      go true e =
-          let n : r.stop ≡ 0 = eqb-true r.stop 0 e in
-          did_shown o m none h g a b n (gone_done r) (ap (λ (x : ℕ). record { stop = x; flag = 0; bits = 0; used = r.used }) n)
-      go false e = did_stop o m none h g (eqb-false r.stop 0 e)
+  did_plain o m h a b (Ok u) marks₁ cells₁ g = did_shown o m none h g a b u refl (gone_done (Ok u)) refl
+  did_plain o m h a b (Err c) marks₁ cells₁ g = did_stop o m none h g c refl

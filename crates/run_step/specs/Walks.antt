@@ -1,9 +1,11 @@
 -- The walk over dropped nodes, as the code goes: a node is executed and its arc taken, until a kept node is met.
 use Rattle.std.specs.Prelude.{◌≡◌, Bool, List, [], length, get_or, set, drop, eqb, ℤ, pos}
 use Rattle.std.proofs.Math.Path.{refl, ap}
-use Rattle.std.proofs.Common.{sym, ◌∙◌, length-set, drop_of_length-le, drop-cons}
+use Rattle.std.proofs.Common.{sym, ◌∙◌, subst, length-set, drop_of_length-le, drop-cons}
 use Rattle.std.proofs.Math.Bool.{true, false}
-use Rattle.std.proofs.Math.Option.{Option, none, some}
+use Rattle.std.specs.Prelude.{Option, Some, None, Result, Ok, Err}
+use Rattle.std.proofs.Math.Option as maybe
+use Rattle.std.proofs.Math.Option.{none, some}
 use Prim.Native.Nat.{ℕ, zero, suc, ◌+◌, ◌-◌, ◌*◌, ◌<◌, ◌≤◌}
 use native.Mathlib.Omega.{arith}
 use Rattle.std.proofs.Math.Seq.{set_out}
@@ -18,22 +20,26 @@ use Rattle.table.specs.declared.Node.TheVariants.{Absent, Start, Set, Test, Read
 use Rattle.table.specs.declared.Table.{Table}
 use Rattle.closing.specs.Dirty.{Fact}
 use Rattle.closing.specs.Closing.{dirty, kept_by, kept}
-use Rattle.machine.specs.Step.{stop_number, Memory, operand_in, assign, Does, goes, stops, read_of, exec, Choice, nowhere, node, bad, choose, kept_of, kept_in, Walk, halts, arrives, along, onward, noting, walk}
-use Rattle.tosses.specs.Tosses.{halting, arrived_of}
-use Rattle.tosses.specs.TossLaws.{StopOf, Named, Sound, Arrived, arrived as arrived-at}
-use Rattle.tosses.specs.declared.Chosen.{Chosen}
+use Rattle.machine.specs.Step.{Memory, operand_in, assign, Does, goes, stops, read_of, exec, Choice, nowhere, node, bad, choose, kept_of, kept_in, Walk, halts, arrives, along, onward, noting, walk}
+use Rattle.tosses.specs.declared.Stop.{Stop}
+use Rattle.tosses.specs.declared.Stop.TheVariants.{TooMany, ValuesSpent}
+use Rattle.tosses.specs.declared.Target.{Target}
+use Rattle.tosses.specs.declared.Target.TheVariants.{Nowhere, Kept, Dropped}
+use Rattle.tosses.specs.Stops.{said, meant, said_meant}
+use Rattle.tosses.specs.Tosses.{arrived_of}
+use Rattle.tosses.specs.TossLaws.{choice_of, Sound, Arrived, arrived as arrived-at}
 use Rattle.run_code.specs.Code.{byte, node_of}
 use Rattle.run_step.specs.declared.Effect.{Effect}
-use Rattle.run_step.specs.Effects.{goes_to, halts_at, read_to, pass_of}
+use Rattle.run_step.specs.Effects.{goes_to, read_to, pass_of}
 
 -- ---- where a walk ends, without the nodes on the way
 
 pub data Met : Type 0 where
-  halted : ℕ → Met
-  arrived : Option ℕ → Memory → List ℤ → Met
+  halted : Stop → Met
+  arrived : maybe.Option ℕ → Memory → List ℤ → Met
 
 abbrev pub met : Walk → Met
-met (halts c) = halted (stop_number c)
+met (halts c) = halted (said c)
 met (arrives w m vs ns) = arrived w m vs
 
 met_noting : (n : ℕ) (w : Walk) → met (noting n w) ≡ met w
@@ -43,8 +49,24 @@ met_noting n (arrives w m vs ns) = refl
 abbrev pub with_vars : Memory → List ℤ → Memory
 with_vars m l = record { vars = l; sems = m.sems; queues = m.queues }
 
-abbrev pub met_of : List ℤ → Memory → Chosen → Met
-met_of vs m r = pick (eqb r.stop 0) (arrived (pick r.lost none (some r.node)) m (drop r.used vs)) (halted r.stop)
+-- the kept node that is met, or none
+abbrev pub node_in : Option ℕ → maybe.Option ℕ
+node_in None = none
+node_in (Some n) = some n
+
+-- an arc that leads to it
+abbrev pub ending : Option ℕ → Target
+ending None = Nowhere
+ending (Some n) = Kept n
+
+abbrev pub met_of : List ℤ → Memory → Result (Option ℕ × ℕ) Stop → Met
+met_of vs m (Ok p) = arrived (node_in p.0) m (drop p.1 vs)
+met_of vs m (Err c) = halted c
+
+-- no more values are used than there are
+abbrev pub Within : List ℤ → Result (Option ℕ × ℕ) Stop → Type 0
+Within vs (Ok p) = p.1 ≤ length vs
+Within vs (Err c) = Unit {0}
 
 -- ---- the procedure's rows
 
@@ -74,34 +96,33 @@ unkept t false p n e k = false_true (kept (dirty t) p n (node_at t p n)) e (kept
 
 -- ---- a dropped node executed as the code does it
 
-abbrev pub did_of : List ℤ → Memory → Effect → Does
-did_of vs m r = pick (eqb r.stop 0) (goes r.arc (assign r.var r.value m) (drop r.used vs) none) (stops (StopOf r.stop))
+abbrev pub did_of : List ℤ → Memory → Result Effect Stop → Does
+did_of vs m (Ok o) = goes o.arc (assign o.var o.value m) (drop o.used vs) none
+did_of vs m (Err c) = stops (meant c)
 
 unset : (m : Memory) (x : ℤ) → length m.vars ≡ 16 → assign removed x m ≡ m
 unset m x h = ap (λ (l : List ℤ). with_vars m l) (set_out m.vars removed x (omega arith))
 
--- its stop is 0 or the number of a stop, and it uses no more values than there are
-pub record Sane (vs : List ℤ) (used : ℕ) (r : Effect) : Type 0 where
-  pub named : Named r.stop
-  pub within : used ≤ length vs → r.used ≤ length vs
+-- it uses no more values than there are
+abbrev pub Sane : List ℤ → ℕ → Result Effect Stop → Type 0
+Sane vs used (Ok o) = used ≤ length vs → o.used ≤ length vs
+Sane vs used (Err c) = Unit {0}
 
 module _ (vs : List ℤ) (used : ℕ) where
-  goes_sane : (v : ℕ) (x : ℤ) (arc near : ℕ) → Sane vs used (goes_to v x used arc near)
-  goes_sane v x arc near = record { named = refl; within = λ u. u }
+  goes_sane : (v : ℕ) (x : ℤ) (arc near : ℕ) → Sane vs used (Ok (goes_to v x used arc near))
+  goes_sane v x arc near = λ u. u
 
   read_sane : (v arc : ℕ) → Sane vs used (read_to v vs used arc 0)
-  unfolding stop_number
   read_sane v arc = go (leb (length vs) used) refl
     where
-      go : (b : Bool) → leb (length vs) used ≡ b → Sane vs used (pick b (halts_at 15 used) (goes_to v (get_or vs used (pos 0)) (used + 1) arc 0))
-      go true e = record { named = refl; within = λ u. u }
-      go false e = record { named = refl; within = λ u. omega (arith, leb-false (length vs) used e) }
+      go : (b : Bool) → leb (length vs) used ≡ b → Sane vs used (pick b (Err ValuesSpent) (Ok (goes_to v (get_or vs used (pos 0)) (used + 1) arc 0)))
+      go true e = tt
+      go false e = λ u. omega (arith, leb-false (length vs) used e)
 
   read_did : (v arc : ℕ) (m : Memory) → read_of v arc m (drop used vs) ≡ did_of vs m (read_to v vs used arc 0)
-  unfolding stop_number
   read_did v arc m = go (leb (length vs) used) refl
     where
-      go : (b : Bool) → leb (length vs) used ≡ b → read_of v arc m (drop used vs) ≡ did_of vs m (pick b (halts_at 15 used) (goes_to v (get_or vs used (pos 0)) (used + 1) arc 0))
+      go : (b : Bool) → leb (length vs) used ≡ b → read_of v arc m (drop used vs) ≡ did_of vs m (pick b (Err ValuesSpent) (Ok (goes_to v (get_or vs used (pos 0)) (used + 1) arc 0)))
       go true e = rw (drop_of_length-le vs (leb-true (length vs) used e)) refl
       go false e = let s : used + 1 ≡ suc used = omega arith in rw (drop-cons vs used (pos 0) (leb-false (length vs) used e), s) refl
 
@@ -125,9 +146,6 @@ module _ (vs : List ℤ) (used : ℕ) where
   passes t k (Out v to) m s h = absurd (s refl)
   passes t k Return m s h = absurd (s refl)
 
-named_stop : (n : ℕ) → Named n → (n ≡ 0 → ⊥) → stop_number (StopOf n) ≡ n
-named_stop n h z = let e = ne_eqb n 0 z in rw e at h
-
 -- ---- the walk
 
 -- of task k from node n of procedure p on, at most d dropped nodes, `used` values being used
@@ -140,7 +158,7 @@ heading t k vs p d m arc used = along (λ n m ws. walk t (kept_in t) k p d n m w
 
 module _ (t : Table) (k : ℕ) (vs : List ℤ) (p : ℕ) where
   -- an arc's answer: the walk is over, or a dropped node is met
-  module _ (keep : ℕ) (keeps : (n : ℕ) → n < 32 → bit n keep ≡ kept_in t p n) (d : ℕ) (m : Memory) (arc used : ℕ) (r : Chosen) (a : Arrived arc keep vs used r) where
+  module _ (keep : ℕ) (keeps : (n : ℕ) → n < 32 → bit n keep ≡ kept_in t p n) (d : ℕ) (m : Memory) (arc used : ℕ) (r : Result (Target × ℕ) Stop) (a : Arrived arc keep vs used r) where
     at_kept : (d n : ℕ) (m : Memory) (ws : List ℤ) → kept_in t p n ≡ true → walk t (kept_in t) k p d n m ws ≡ arrives (some n) m ws []
     unfolding walk
     at_kept zero n m ws e = rw (walk, e) refl
@@ -149,43 +167,26 @@ module _ (t : Table) (k : ℕ) (vs : List ℤ) (p : ℕ) where
     abbrev on : Choice → Met
     on z = met (along (λ n m ws. walk t (kept_in t) k p d n m ws) m z)
 
-    pub arc_over : r.over ≡ true → met (heading t k vs p d m arc used) ≡ met_of vs m r
-    arc_over o = ap on a.choice ∙ by_stop (eqb r.stop 0) refl
-      where
-        by_lost : (b : Bool) → eqb r.stop 0 ≡ true → r.lost ≡ b → on (pick b (nowhere (drop r.used vs)) (node r.node (drop r.used vs))) ≡ arrived (pick b none (some r.node)) m (drop r.used vs)
-        by_lost true e l = refl
-        by_lost false e l =
-            let h : bit r.node keep ≡ true = sym (ap (λ (x : Bool). pick x (pick r.lost true (bit r.node keep)) true) e ∙ ap (λ (x : Bool). pick x true (bit r.node keep)) l) ∙ sym a.sound.over ∙ o in
-            ap met (at_kept d r.node m (drop r.used vs) (sym (keeps r.node a.sound.place) ∙ h))
+    pub arc_halts : (c : Stop) → r ≡ Err c → met (heading t k vs p d m arc used) ≡ halted c
+    arc_halts c e = ap on (a.choice ∙ ap (choice_of vs) e) ∙ ap halted (said_meant c)
 
-        by_stop : (b : Bool) → eqb r.stop 0 ≡ b → on (pick b (pick r.lost (nowhere (drop r.used vs)) (node r.node (drop r.used vs))) (bad (StopOf r.stop)))
-            ≡ pick b (arrived (pick r.lost none (some r.node)) m (drop r.used vs)) (halted r.stop)
-        by_stop true e = by_lost r.lost e refl
-        by_stop false e = ap halted (named_stop r.stop a.sound.named (eqb-false r.stop 0 e))
+    pub arc_over : (at : Option ℕ) (u : ℕ) → r ≡ Ok (ending at, u) → met (heading t k vs p d m arc used) ≡ arrived (node_in at) m (drop u vs)
+    arc_over None u e = ap on (a.choice ∙ ap (choice_of vs) e)
+    arc_over (Some n) u e =
+        let s : Sound keep vs (Ok (Kept n, u)) = rw e at a.sound in
+        ap on (a.choice ∙ ap (choice_of vs) e) ∙ ap met (at_kept d n m (drop u vs) (sym (keeps n s.0.0) ∙ s.0.1))
 
-    pub arc_on : r.over ≡ false → met (heading t k vs p d m arc used) ≡ met (walking t k vs p d r.node m r.used)
-    arc_on o = ap on a.choice ∙ by_stop (eqb r.stop 0) refl (sym a.sound.over ∙ o)
-      where
-        never : ◌≡◌ {A = Bool} true false → ⊥
-        never z = let y : ◌≡◌ {A = ℕ} 0 1 = cc in omega arith
-
-        by_lost : (b : Bool) → pick b true (bit r.node keep) ≡ false → on (pick b (nowhere (drop r.used vs)) (node r.node (drop r.used vs))) ≡ met (walking t k vs p d r.node m r.used)
-        by_lost true h = absurd (never h)
-        by_lost false h = refl
-
-        by_stop : (b : Bool) → eqb r.stop 0 ≡ b → pick b (pick r.lost true (bit r.node keep)) true ≡ false
-            → on (pick b (pick r.lost (nowhere (drop r.used vs)) (node r.node (drop r.used vs))) (bad (StopOf r.stop))) ≡ met (walking t k vs p d r.node m r.used)
-        by_stop true e h = by_lost r.lost h
-        by_stop false e h = absurd (never h)
+    pub arc_on : (n u : ℕ) → r ≡ Ok (Dropped n, u) → met (heading t k vs p d m arc used) ≡ met (walking t k vs p d n m u)
+    arc_on n u e = ap on (a.choice ∙ ap (choice_of vs) e)
 
   -- from a dropped node on
   module _ (n : ℕ) (u : kept_in t p n ≡ false) (m : Memory) (used : ℕ) where
-    pub walk_spent : (d : ℕ) → d ≡ 0 → met (walking t k vs p d n m used) ≡ halted 14
-    unfolding walk stop_number
+    pub walk_spent : (d : ℕ) → d ≡ 0 → met (walking t k vs p d n m used) ≡ halted TooMany
+    unfolding walk
     walk_spent zero z = rw (walk, u) refl
     walk_spent (suc d) z = absurd (omega arith)
 
-    module _ (a : Effect) (long : length m.vars ≡ 16) (e : a ≡ pass_of (node_at t p n) m.vars vs used) where
+    module _ (a : Result Effect Stop) (long : length m.vars ≡ 16) (e : a ≡ pass_of (node_at t p n) m.vars vs used) where
       step_on : (d : ℕ) → (d ≡ 0 → ⊥) → met (walking t k vs p d n m used) ≡ met (onward (λ n m ws. walk t (kept_in t) k p (d - 1) n m ws) m (drop used vs) (did_of vs m a))
       unfolding walk
       step_on zero z = absurd (z refl)
@@ -196,23 +197,11 @@ module _ (t : Table) (k : ℕ) (vs : List ℤ) (p : ℕ) where
           (met_noting n (onward (λ n m ws. walk t (kept_in t) k p d n m ws) m (drop used vs) (exec t k (node_at t p n) m (drop used vs))) ∙
           ap (λ (y : Does). met (onward (λ n m ws. walk t (kept_in t) k p d n m ws) m (drop used vs) y)) x)
 
-      pub walk_halts : (d : ℕ) → (d ≡ 0 → ⊥) → (a.stop ≡ 0 → ⊥) → met (walking t k vs p d n m used) ≡ halted a.stop
-      walk_halts d z h = step_on d z ∙ rw (ne_eqb a.stop 0 h) (ap halted (named_stop a.stop (rw e (pass_sane vs used m.vars (node_at t p n)).named) h))
+      pub walk_halts : (d : ℕ) → (d ≡ 0 → ⊥) → (c : Stop) → a ≡ Err c → met (walking t k vs p d n m used) ≡ halted c
+      walk_halts d z c h = step_on d z ∙ rw h (ap halted (said_meant c))
 
-      pub walk_goes : (d : ℕ) → (d ≡ 0 → ⊥) → a.stop ≡ 0 → met (walking t k vs p d n m used) ≡ met (heading t k vs p (d - 1) (assign a.var a.value m) a.arc a.used)
-      walk_goes d z h = step_on d z ∙ rw (eq-eqb a.stop 0 h) refl
-
--- where the walk is not over, the node met is dropped
-pub dropped_node : (keep : ℕ) (vs : List ℤ) (r : Chosen) → Sound keep vs r → r.over ≡ false → bit r.node keep ≡ false
-dropped_node keep vs r s o = go (eqb r.stop 0) r.lost (sym s.over ∙ o)
-  where
-    never : ◌≡◌ {A = Bool} true false → ⊥
-    never z = let y : ◌≡◌ {A = ℕ} 0 1 = cc in omega arith
-
-    go : (a b : Bool) → pick a (pick b true (bit r.node keep)) true ≡ false → bit r.node keep ≡ false
-    go true true h = absurd (never h)
-    go true false h = h
-    go false b h = absurd (never h)
+      pub walk_goes : (d : ℕ) → (d ≡ 0 → ⊥) → (o : Effect) → a ≡ Ok o → met (walking t k vs p d n m used) ≡ met (heading t k vs p (d - 1) (assign o.var o.value m) o.arc o.used)
+      walk_goes d z o h = step_on d z ∙ rw h refl
 
 -- ---- what the code's walk leans on and leaves
 
@@ -228,8 +217,8 @@ module _ (code words : List (List ℕ)) (base keep first : ℕ) (w vs : List ℤ
 
   module _ (most : ℕ) where
     -- where it stops, the variables are of no meaning
-    pub record Walked (r : Chosen) (w' : List ℤ) : Type 0 where
-      pub sound : Sound keep vs r
+    pub record Walked (r : Result (Option ℕ × ℕ) Stop) (w' : List ℤ) : Type 0 where
+      pub within : Within vs r
       pub long : length w' ≡ 16
       pub ends : (t : Table) (p k : ℕ) (m : Memory) → Rows t p code words base keep → met (walking t k vs p most first (with_vars m w) before) ≡ met_of vs (with_vars m w') r
 
@@ -249,59 +238,59 @@ module _ (code words : List (List ℕ)) (base keep first : ℕ) (w vs : List ℤ
       dropped : (t : Table) (p : ℕ) → Rows t p code words base keep → kept_in t p n ≡ false
       dropped t p r = sym (r.keeps n g.place) ∙ g.unkept
 
-      pub spent : d ≡ 0 → (r : Chosen) → r ≡ halting 14 used → Walked r l
-      unfolding stop_number
-      spent z r e = rw e (record {
-        sound = record { over = refl; named = refl; within = g.within; place = omega arith; gone = refl };
-        long = g.long;
-        ends = λ t p k m r. g.same t p k m r ∙ walk_spent t k vs p n (dropped t p r) (with_vars m l) used d z;
-      })
+      pub spent : d ≡ 0 → Walked (Err TooMany) l
+      spent z = record { within = tt; long = g.long; ends = λ t p k m r. g.same t p k m r ∙ walk_spent t k vs p n (dropped t p r) (with_vars m l) used d z }
 
-      module _ (z : d ≡ 0 → ⊥) (o : Effect) (e : o ≡ pass_of (node_of (get_or code (base + n) []) (get_or words (base + n) [])) l vs used) where
-        sane : Sane vs used o
-        sane = rw e (pass_sane vs used l (node_of (get_or code (base + n) []) (get_or words (base + n) [])))
-
-        pub pass_within : o.used ≤ length vs
-        pass_within = sane.within g.within
-
-        of_node : (t : Table) (p : ℕ) → Rows t p code words base keep → o ≡ pass_of (node_at t p n) l vs used
+      module _ (z : d ≡ 0 → ⊥) (a : Result Effect Stop) (e : a ≡ pass_of (node_of (get_or code (base + n) []) (get_or words (base + n) [])) l vs used) where
+        of_node : (t : Table) (p : ℕ) → Rows t p code words base keep → a ≡ pass_of (node_at t p n) l vs used
         of_node t p r = e ∙ ap (λ (x : Node). pass_of x l vs used) (r.nodes n g.place)
 
-        pub stops_at : (o.stop ≡ 0 → ⊥) → (r : Chosen) → r ≡ halting o.stop used → Walked r l
-        stops_at h r i =
-            let b : eqb o.stop 0 ≡ false = ne_eqb o.stop 0 h in
-            rw i (record {
-              sound = record { over = rw b refl; named = sane.named; within = g.within; place = omega arith; gone = refl };
-              long = g.long;
-              ends = λ t p k m r. g.same t p k m r ∙ walk_halts t k vs p n (dropped t p r) (with_vars m l) used o g.long (of_node t p r) d z h ∙ rw b refl;
-            })
+        pub stops_at : (c : Stop) → a ≡ Err c → Walked (Err c) l
+        stops_at c h = record { within = tt; long = g.long; ends = λ t p k m r. g.same t p k m r ∙ walk_halts t k vs p n (dropped t p r) (with_vars m l) used a g.long (of_node t p r) d z c h }
 
-        module _ (h : o.stop ≡ 0) (y : Chosen) (i : y ≡ arrived_of o.arc keep vs o.used) (l' : List ℤ) (j : l' ≡ set l o.var o.value) where
-          taken : Arrived o.arc keep vs o.used y
-          taken = arrived-at o.arc keep vs o.used pass_within i
+        module _ (o : Effect) (h : a ≡ Ok o) where
+          pub pass_within : o.used ≤ length vs
+          pass_within =
+              let s : Sane vs used (Ok o) = subst (Sane vs used) (sym e ∙ h) (pass_sane vs used l (node_of (get_or code (base + n) []) (get_or words (base + n) []))) in
+              s g.within
 
-          still_long : length l' ≡ 16
-          still_long = ap length j ∙ length-set l o.var o.value ∙ g.long
+          module _ (y : Result (Target × ℕ) Stop) (i : y ≡ arrived_of o.arc keep vs o.used) (l' : List ℤ) (j : l' ≡ set l o.var o.value) where
+            taken : Arrived o.arc keep vs o.used y
+            taken = arrived-at o.arc keep vs o.used pass_within i
 
-          going : (t : Table) (p k : ℕ) (m : Memory) → Rows t p code words base keep → met (walking t k vs p most first (with_vars m w) before) ≡ met (heading t k vs p (d - 1) (with_vars m l') o.arc o.used)
-          going t p k m r =
-              g.same t p k m r
-              ∙ walk_goes t k vs p n (dropped t p r) (with_vars m l) used o g.long (of_node t p r) d z h
-              ∙ ap (λ (x : List ℤ). met (heading t k vs p (d - 1) (with_vars m x) o.arc o.used)) (sym j)
+            still_long : length l' ≡ 16
+            still_long = ap length j ∙ length-set l o.var o.value ∙ g.long
 
-          pub ends_there : y.over ≡ true → Walked y l'
-          ends_there b = record {
-            sound = taken.sound;
-            long = still_long;
-            ends = λ t p k m r. going t p k m r ∙ arc_over t k vs p keep r.keeps (d - 1) (with_vars m l') o.arc o.used y taken b;
-          }
+            going : (t : Table) (p k : ℕ) (m : Memory) → Rows t p code words base keep → met (walking t k vs p most first (with_vars m w) before) ≡ met (heading t k vs p (d - 1) (with_vars m l') o.arc o.used)
+            going t p k m r =
+                g.same t p k m r
+                ∙ walk_goes t k vs p n (dropped t p r) (with_vars m l) used a g.long (of_node t p r) d z o h
+                ∙ ap (λ (x : List ℤ). met (heading t k vs p (d - 1) (with_vars m x) o.arc o.used)) (sym j)
 
-          pub goes_on : y.over ≡ false → Midway l' y.node y.used (d - 1)
-          goes_on b = record {
-            place = taken.sound.place;
-            unkept = dropped_node keep vs y taken.sound b;
-            long = still_long;
-            within = taken.sound.within;
-            fewer = omega (arith, g.fewer);
-            same = λ t p k m r. going t p k m r ∙ arc_on t k vs p keep r.keeps (d - 1) (with_vars m l') o.arc o.used y taken b;
-          }
+            pub halts_there : (c : Stop) → y ≡ Err c → Walked (Err c) l'
+            halts_there c b = record {
+              within = tt;
+              long = still_long;
+              ends = λ t p k m r. going t p k m r ∙ arc_halts t k vs p keep r.keeps (d - 1) (with_vars m l') o.arc o.used y taken c b;
+            }
+
+            pub ends_there : (at : Option ℕ) (u : ℕ) → y ≡ Ok (ending at, u) → Walked (Ok (at, u)) l'
+            ends_there at u b =
+                let s : Sound keep vs (Ok (ending at, u)) = rw b at taken.sound in
+                record {
+                  within = s.1;
+                  long = still_long;
+                  ends = λ t p k m r. going t p k m r ∙ arc_over t k vs p keep r.keeps (d - 1) (with_vars m l') o.arc o.used y taken at u b;
+                }
+
+            pub goes_on : (n' u : ℕ) → y ≡ Ok (Dropped n', u) → Midway l' n' u (d - 1)
+            goes_on n' u b =
+                let s : Sound keep vs (Ok (Dropped n', u)) = rw b at taken.sound in
+                record {
+                  place = s.0.0;
+                  unkept = s.0.1;
+                  long = still_long;
+                  within = s.1;
+                  fewer = omega (arith, g.fewer);
+                  same = λ t p k m r. going t p k m r ∙ arc_on t k vs p keep r.keeps (d - 1) (with_vars m l') o.arc o.used y taken n' u b;
+                }

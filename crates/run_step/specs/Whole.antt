@@ -1,5 +1,5 @@
 -- A step is what stops it before, or its node executed.
-use Rattle.std.specs.Prelude.{ℕ, ◌+◌, ◌-◌, ◌*◌, ◌/◌, ◌<◌, ◌≤◌, ◌≡◌, Bool, List, length, drop, ℤ}
+use Rattle.std.specs.Prelude.{ℕ, ◌+◌, ◌-◌, ◌*◌, ◌/◌, ◌<◌, ◌≤◌, ◌≡◌, Bool, List, length, drop, ℤ, Result, Ok, Err}
 use Rattle.std.proofs.Common.{arith, sym, ◌∙◌, subst}
 use Rattle.std.proofs.Math.Path.{refl, ap}
 use Rattle.std.proofs.Math.Bool.{true, false}
@@ -10,13 +10,16 @@ use Rattle.table.specs.declared.Table.{Table}
 use Rattle.machine.specs.declared.Frame.{Frame}
 use Rattle.machine.specs.declared.State.{State}
 use Rattle.machine.specs.State.{open_frames, is_lost, place, frame_at, topmost, stands_before, blocked}
-use Rattle.machine.specs.Step.{Stop, task_lost, task_blocked, Does, opens, closes, goes, stops, exec, choose, Kept, kept_in, Walk, halts, arrives, along, Step, stopped, stepped, settled, returned, memory, entry_of, dropping, step_as, step_of, before, unless, step}
-use Rattle.machine.proofs.RunLaws.{stop_number_lem}
+use Rattle.machine.specs.Step as step
+use Rattle.machine.specs.Step.{task_lost, task_blocked, Does, opens, closes, goes, stops, exec, choose, Kept, kept_in, Walk, halts, arrives, along, Step, stopped, stepped, settled, returned, memory, entry_of, dropping, step_as, step_of, before, unless, step}
+use Rattle.tosses.specs.declared.Stop.{Stop}
 use Rattle.run_code.specs.Code.{byte}
 use Rattle.run_state.specs.Good.{frame_in}
 use Rattle.run_state.specs.Arrays.{marks_of, cells_of}
+use Rattle.run_step.specs.declared.Stepped.{Stepped}
 use Rattle.run_step.specs.declared.Done.{Done}
-use Rattle.run_step.specs.Steps.{Held, Asked, before_of, top_in, row_in, Stands, Plain, Shown, Did, stopped_by, Steps}
+use Rattle.run_step.specs.Results.{ok_err, ok_same, err_same}
+use Rattle.run_step.specs.Steps.{Held, Asked, before_of, top_in, row_in, Stands, Plain, Shown, Did, Steps}
 use Rattle.run_step.specs.GoLaws.{proc_is, node_is}
 use Rattle.run_step.specs.BlockedLaws.{top_is, top_asks, row_asks}
 
@@ -45,16 +48,19 @@ module _ (t : Table) (keep : Kept) (most : ℕ) (s : State) (k : ℕ) where
 
 -- ---- from its node's arm
 
-module _ (vs : List ℤ) (used : ℕ) (s : State) (fr : Frame) (r : Done) (marks : List ℕ) (cells : List (List ℤ)) where
-  pub stops_by : (z : Step) → Did vs s z r marks cells → (r.stop ≡ 0 → ⊥) → Steps vs used s z (stopped_by r.stop used) marks cells
-  stops_by (stopped c) d h = record { answer = ap (λ (x : Done). stopped_by x.stop used) d.answer; marks_are = d.marks_are; cells_are = d.cells_are }
-  stops_by (stepped e ns s₂ rest) d h = absurd (h (ap (λ (x : Done). x.stop) d.answer))
+-- the log's entry of a node that names it
+abbrev pub entry_as : Frame → Done → Stepped
+entry_as fr d = record { proc = fr.proc; node = fr.node; shown = d.shown; used = d.used }
 
-  pub steps_by : (z : Step) → Did vs s z r marks cells → r.stop ≡ 0 → Names fr z
-      → Steps vs used s z (record { stop = 0; proc = fr.proc; node = fr.node; flag = r.flag; bits = r.bits; used = r.used }) marks cells
-  steps_by (stopped c) d h n = absurd (stop_number_lem c (sym (ap (λ (x : Done). x.stop) d.answer) ∙ h))
-  steps_by (stepped e ns s₂ rest) d h n = record {
-    answer = λ i. record { stop = 0; proc = sym n.0 i; node = sym n.1 i; flag = (d.answer i).flag; bits = (d.answer i).bits; used = (d.answer i).used };
+module _ (vs : List ℤ) (s : State) (fr : Frame) (marks : List ℕ) (cells : List (List ℤ)) where
+  pub stops_by : (z : Step) (c : Stop) → Did vs s z (Err c) marks cells → Steps vs s z (Err c) marks cells
+  stops_by (stopped k) c d = record { answer = ap (λ (x : Stop). Err x) (err_same d.answer); marks_are = d.marks_are; cells_are = d.cells_are }
+  stops_by (stepped e ns s₂ rest) c d = absurd (ok_err (sym d.answer))
+
+  pub steps_by : (z : Step) (x : Done) → Did vs s z (Ok x) marks cells → Names fr z → Steps vs s z (Ok (entry_as fr x)) marks cells
+  steps_by (stopped c) x d n = absurd (ok_err d.answer)
+  steps_by (stepped e ns s₂ rest) x d n = record {
+    answer = λ i. Ok (record { proc = sym n.0 i; node = sym n.1 i; shown = (ok_same d.answer i).shown; used = (ok_same d.answer i).used });
     marks_are = d.marks_are;
     cells_are = d.cells_are;
   }
@@ -68,28 +74,28 @@ module _ (t : Table) (s : State) (k : ℕ) where
     pub here : is_lost s k ≡ false
     pub free : blocked t s k ≡ false
 
-  pub before_open : before_of (before t s k) ≡ 0 → Open
+  pub before_open : before_of (before t s k) ≡ Ok tt → Open
   unfolding before
   before_open e = go (is_lost s k) (blocked t s k) refl refl e
     where
-      go : (l b : Bool) → is_lost s k ≡ l → blocked t s k ≡ b → before_of (elim l [ true ↦ some task_lost | false ↦ pick b (some task_blocked) none ]) ≡ 0 → Open
-      go true b x y h = absurd (stop_number_lem task_lost h)
-      go false true x y h = absurd (stop_number_lem task_blocked h)
+      go : (l b : Bool) → is_lost s k ≡ l → blocked t s k ≡ b → before_of (elim l [ true ↦ some task_lost | false ↦ pick b (some task_blocked) none ]) ≡ Ok tt → Open
+      go true b x y h = absurd (ok_err (sym h))
+      go false true x y h = absurd (ok_err (sym h))
       go false false x y h = record { nothing = rw (before, x, y) refl; here = x; free = y }
 
   module _ (vs : List ℤ) (used most : ℕ) (marks : List ℕ) (cells : List (List ℤ)) where
-    unless_stops : (o : Option Stop) (z : Step) → (before_of o ≡ 0 → ⊥) → marks ≡ marks_of s → cells ≡ cells_of s → Steps vs used s (unless o z) (stopped_by (before_of o) used) marks cells
-    unless_stops none z h m c = absurd (h refl)
-    unless_stops (some x) z h m c = record { answer = refl; marks_are = m; cells_are = c }
+    unless_stops : (o : Option step.Stop) (z : Step) (c : Stop) → before_of o ≡ Err c → marks ≡ marks_of s → cells ≡ cells_of s → Steps vs s (unless o z) (Err c) marks cells
+    unless_stops none z c h m e = absurd (ok_err h)
+    unless_stops (some x) z c h m e = record { answer = ap (λ (y : Stop). Err y) (sym (err_same h)); marks_are = m; cells_are = e }
 
-    pub before_stops : (n : ℕ) → n ≡ before_of (before t s k) → (n ≡ 0 → ⊥) → marks ≡ marks_of s → cells ≡ cells_of s
-        → Steps vs used s (step t (kept_in t) most s k (drop used vs)) (stopped_by n used) marks cells
+    pub before_stops : (c : Stop) → before_of (before t s k) ≡ Err c → marks ≡ marks_of s → cells ≡ cells_of s
+        → Steps vs s (step t (kept_in t) most s k (drop used vs)) (Err c) marks cells
     unfolding step
-    before_stops n e h m c = rw e (unless_stops (before t s k) (step_of t (kept_in t) most s k (drop used vs)) (λ x. h (e ∙ x)) m c)
+    before_stops c e m x = unless_stops (before t s k) (step_of t (kept_in t) most s k (drop used vs)) c e m x
 
   pub step_opens : (most : ℕ) (ws : List ℤ) → Open → step t (kept_in t) most s k ws ≡ step_of t (kept_in t) most s k ws
   unfolding step
-  step_opens most ws o = ap (λ (x : Option Stop). unless x (step_of t (kept_in t) most s k ws)) o.nothing
+  step_opens most ws o = ap (λ (x : Option step.Stop). unless x (step_of t (kept_in t) most s k ws)) o.nothing
 
 -- ---- where task i stands
 
@@ -129,18 +135,19 @@ module _ {t : Table} {s : State} {keep : List ℕ} {code words : List (List ℕ)
         within = u;
       }
 
-      module _ (vs : List ℤ) (used most : ℕ) (r : Done) (marks₁ : List ℕ) (cells₁ : List (List ℤ)) (did : Did vs s (step_of t (kept_in t) most s (f / 8) (drop used vs)) r marks₁ cells₁) where
-        did_here : Did vs s (step_of t (kept_in t) most s i (drop used vs)) r marks₁ cells₁
-        did_here = subst (λ (k : ℕ). Did vs s (step_of t (kept_in t) most s k (drop used vs)) r marks₁ cells₁) top_task did
+      module _ (vs : List ℤ) (used most : ℕ) (marks₁ : List ℕ) (cells₁ : List (List ℤ)) where
+        did_here : (r : Result Done Stop) → Did vs s (step_of t (kept_in t) most s (f / 8) (drop used vs)) r marks₁ cells₁ → Did vs s (step_of t (kept_in t) most s i (drop used vs)) r marks₁ cells₁
+        did_here r did = subst (λ (k : ℕ). Did vs s (step_of t (kept_in t) most s k (drop used vs)) r marks₁ cells₁) top_task did
 
-        pub step_stops : (r.stop ≡ 0 → ⊥) → Steps vs used s (step t (kept_in t) most s i (drop used vs)) (stopped_by r.stop used) marks₁ cells₁
-        step_stops n = rw (step_opens t s i most (drop used vs) o) (stops_by vs used s (topmost s i) r marks₁ cells₁ (step_of t (kept_in t) most s i (drop used vs)) did_here n)
+        pub step_stops : (c : Stop) → Did vs s (step_of t (kept_in t) most s (f / 8) (drop used vs)) (Err c) marks₁ cells₁
+            → Steps vs s (step t (kept_in t) most s i (drop used vs)) (Err c) marks₁ cells₁
+        step_stops c did = rw (step_opens t s i most (drop used vs) o) (stops_by vs s (topmost s i) marks₁ cells₁ (step_of t (kept_in t) most s i (drop used vs)) c (did_here (Err c) did))
 
-        pub step_done : r.stop ≡ 0
-            → Steps vs used s (step t (kept_in t) most s i (drop used vs)) (record { stop = 0; proc = byte marks (32 + f); node = byte marks (64 + f); flag = r.flag; bits = r.bits; used = r.used }) marks₁ cells₁
-        step_done n =
+        pub step_done : (x : Done) → Did vs s (step_of t (kept_in t) most s (f / 8) (drop used vs)) (Ok x) marks₁ cells₁
+            → Steps vs s (step t (kept_in t) most s i (drop used vs)) (Ok (record { proc = byte marks (32 + f); node = byte marks (64 + f); shown = x.shown; used = x.used })) marks₁ cells₁
+        step_done x did =
             rw (step_opens t s i most (drop used vs) o, proc_top, node_top)
-            (steps_by vs used s (topmost s i) r marks₁ cells₁ (step_of t (kept_in t) most s i (drop used vs)) did_here n (step_names t (kept_in t) most s i (drop used vs)))
+            (steps_by vs s (topmost s i) marks₁ cells₁ (step_of t (kept_in t) most s i (drop used vs)) x (did_here (Ok x) did) (step_names t (kept_in t) most s i (drop used vs)))
 
 -- ---- the kinds, by the keys of the code's match
 

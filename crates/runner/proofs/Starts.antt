@@ -1,45 +1,44 @@
 -- A run from its start: where the values are spent, and where the first state is begun with.
 use mathlib.Core.Path.{◌≡◌, refl, sym, ◌∙◌, ap, subst}
-use mathlib.Core.Bool.{true, false, true≢false}
 use mathlib.Core.List.{List}
 use Prim.Native.Nat.{ℕ, ◌-◌, ◌≤◌}
 use native.Mathlib.Omega.{arith}
 use lib.ListN.{length, drop}
 use lib.IntN.{ℤ}
-use Rattle.table.specs.Cases.{cases}
 use Rattle.table.specs.declared.Table.{Table}
 use Rattle.text.specs.Writer.{fault}
 use Rattle.machine.specs.declared.State.{State}
 use Rattle.machine.specs.declared.Running.{Running}
 use Rattle.machine.specs.State.{Begun as Beginning, spent, begun, begin, first_state}
-use Rattle.machine.specs.Step.{values_spent, stop_number, kept_in}
+use Rattle.machine.specs.Step.{kept_in}
 use Rattle.machine.specs.Run.{Ran, run_begun, run, run_from}
 use Rattle.machine.proofs.RunLaws.{run_begun_lem}
-use Rattle.run_state.specs.declared.Begun.{Begun}
 use Rattle.run_state.specs.Good.{Shape}
 use Rattle.run_state.specs.Arrays.{marks_of, cells_of}
 use Rattle.run_state.specs.Begins.{Begins, Stated, running_of}
 use Rattle.run_state.specs.GoodLaws.{first_shape, begun_good}
 use Rattle.run_state.specs.StepGood.{run_good}
+use Rattle.std.specs.Prelude.{Option, Some, None}
+use Rattle.run_step.specs.Stops.{ValuesSpent}
 use Rattle.run_step.specs.Steps.{Held}
 use Rattle.runner.specs.declared.Advanced.{Advanced}
-use Rattle.runner.specs.Advances.{Advances, Starting}
+use Rattle.runner.specs.Advances.{stop_in, answer, Advances, Starting}
 
 -- what `run_state::answer` answers for a state that the arrays hold
 abbrev pub Answering : ℕ → ℕ → ℕ → List ℕ → List (List ℤ) → Running → Type 0
 Answering steps used stop marks cells r = (s : State) → Shape s → marks ≡ marks_of s → cells ≡ cells_of s → r ≡ running_of steps used stop s
 
-module _ {t : Table} {keep : List ℕ} {vs : List ℤ} {code words : List (List ℕ)} {r : Begun} {marks : List ℕ} {cells : List (List ℤ)} (st : Starting t keep vs code words r marks cells) where
+module _ {t : Table} {keep : List ℕ} {vs : List ℤ} {code words : List (List ℕ)} {r : Option ℕ} {marks : List ℕ} {cells : List (List ℤ)} (st : Starting t keep vs code words r marks cells) where
   -- ---- the values are spent
 
-  spent_is : r.spent ≡ true → (begin t vs ≡ spent) × (cells ≡ cells_of (first_state t))
-  spent_is e = go (begin t vs) refl st.begins
+  spent_is : r ≡ None → (begin t vs ≡ spent) × (cells ≡ cells_of (first_state t))
+  spent_is e = go (begin t vs) refl (rw e at st.begins)
     where
-      go : (b : Beginning) → begin t vs ≡ b → Begins t vs b r cells → (begin t vs ≡ spent) × (cells ≡ cells_of (first_state t))
-      go spent i h = (i, h.1)
-      go (begun s rest) i h = absurd (true≢false (sym e ∙ ap (λ (x : Begun). x.spent) h.answer))
+      go : (b : Beginning) → begin t vs ≡ b → Begins t vs b None cells → (begin t vs ≡ spent) × (cells ≡ cells_of (first_state t))
+      go spent i h = (i, h)
+      go (begun s rest) i h = absurd h
 
-  pub spent_runs : r.spent ≡ true → (ks : List ℕ) (most : ℕ) (log : List ℕ) → Advances (run_begun t ks vs most log (begin t vs)) (record { stop = stop_number values_spent; steps = 0; used = 0 }) marks cells log
+  pub spent_runs : r ≡ None → (ks : List ℕ) (most : ℕ) (log : List ℕ) → Advances (run_begun t ks vs most log (begin t vs)) (answer (Some ValuesSpent) 0 0) marks cells log
   spent_runs e ks most log =
       let u : 0 ≡ length vs - length vs = omega arith in
       let b = spent_is e in
@@ -47,18 +46,18 @@ module _ {t : Table} {keep : List ℕ} {vs : List ℤ} {code words : List (List 
 
   -- ---- the first state, with its inputs
 
-  module _ (on : r.spent ≡ false) where
+  module _ (given : ℕ) (on : r ≡ Some given) where
     pub record Goes : Type 0 where
       pub s : State
       pub held : Held t s keep code words marks cells
-      pub is : begin t vs ≡ begun s (drop r.used vs)
-      pub within : r.used ≤ length vs
+      pub is : begin t vs ≡ begun s (drop given vs)
+      pub within : given ≤ length vs
 
     pub goes : Goes
-    goes = go (begin t vs) refl st.begins
+    goes = go (begin t vs) refl (rw on at st.begins)
       where
-        go : (b : Beginning) → begin t vs ≡ b → Begins t vs b r cells → Goes
-        go spent i h = absurd (true≢false (sym (ap (λ (x : Begun). x.spent) h.0) ∙ on))
+        go : (b : Beginning) → begin t vs ≡ b → Begins t vs b (Some given) cells → Goes
+        go spent i h = absurd h
         go (begun s rest) i h = record {
           s = s;
           held = record {
@@ -72,16 +71,16 @@ module _ {t : Table} {keep : List ℕ} {vs : List ℤ} {code words : List (List 
 
     module _ (ks : List ℕ) (most : ℕ) (log : List ℕ) where
       abbrev ran : Ran
-      ran = run_from t (kept_in t) most vs ks 0 goes.s (drop r.used vs) log
+      ran = run_from t (kept_in t) most vs ks 0 goes.s (drop given vs) log
 
       is_run : ran ≡ run_begun t ks vs most log (begin t vs)
-      is_run = sym (ap (run_begun t ks vs most log) goes.is ∙ run_begun_lem t ks vs most log goes.s (drop r.used vs))
+      is_run = sym (ap (run_begun t ks vs most log) goes.is ∙ run_begun_lem t ks vs most log goes.s (drop given vs))
 
       pub goes_runs : {a : Advanced} {marks' : List ℕ} {cells' : List (List ℤ)} {log' : List ℕ} → Advances ran a marks' cells' log' → Advances (run_begun t ks vs most log (begin t vs)) a marks' cells' log'
       goes_runs {a} {marks'} {cells'} {log'} h = subst (λ (x : Ran). Advances x a marks' cells' log') is_run h
 
       goes_shape : Shape (run_begun t ks vs most log (begin t vs)).answer.state
-      goes_shape = subst (λ (x : Ran). Shape x.answer.state) is_run (run_good t keep st.ready most vs ks 0 goes.s (drop r.used vs) log goes.held.marked.good).shape
+      goes_shape = subst (λ (x : Ran). Shape x.answer.state) is_run (run_good t keep st.ready most vs ks 0 goes.s (drop given vs) log goes.held.marked.good).shape
 
   -- ---- the answer
 
@@ -90,13 +89,17 @@ module _ {t : Table} {keep : List ℕ} {vs : List ℤ} {code words : List (List 
     whole = run_begun t ks vs most log (begin t vs)
 
     shape : Shape whole.answer.state
-    shape = cases r.spent (λ e. rw (spent_is e).0 (first_shape t keep st.ready)) (λ e. goes_shape e ks most log)
+    shape = by r refl
+      where
+        by : (o : Option ℕ) → r ≡ o → Shape whole.answer.state
+        by None e = rw (spent_is e).0 (first_shape t keep st.ready)
+        by (Some u) e = goes_shape u e ks most log
 
     module _ {a : Advanced} {marks' : List ℕ} {cells' : List (List ℤ)} {log' : List ℕ} (h : Advances whole a marks' cells' log') where
       pub stated : Stated marks' cells'
       stated = record { s = whole.answer.state; shape = shape; marks_are = h.marks_are; cells_are = h.cells_are }
 
-      pub answers : (z : Running) → Answering a.steps a.used a.stop marks' cells' z → (z ≡ whole.answer) × (log' ≡ whole.log)
+      pub answers : (z : Running) → Answering a.steps a.used (stop_in a.stop) marks' cells' z → (z ≡ whole.answer) × (log' ≡ whole.log)
       answers z e = (e whole.answer.state shape h.marks_are h.cells_are ∙ (λ i. running_of (h.steps i) (h.used i) (h.stop i) whole.answer.state), h.log_is)
 
 -- the run of a table that has no fault

@@ -6,7 +6,6 @@ use Prim.Native.Nat.{ℕ, ◌-◌, ◌/◌, ◌%◌, ◌^◌, ◌<◌}
 use native.Mathlib.Omega.{arith}
 use lib.Bits.{bit_and, and_le_l}
 use lib.Count.{count_trailing_zeros}
-use lib.ListN.{get_or, get_or-eq_default}
 use lib.IntN.{ℤ, pos, negsuc}
 use mir.Syntax.{w32}
 use mir.Val.{SFits, of_z}
@@ -14,8 +13,12 @@ use borrow.Author.Tests.{eq-eqb, ne_eqb}
 use Rattle.table.specs.Mask.{pick, bit, members}
 use Rattle.table.specs.MaskLaws.{members_few}
 use Rattle.masks.specs.Lowest.{members_none, members_lowest}
-use Rattle.tosses.specs.Tosses.{meeting, losing, target_at, tossed, arrived_among, arrived_of, one_kept, straight_of}
-use Rattle.tosses.specs.declared.Chosen.{Chosen}
+use Rattle.std.proofs.lemmas.Option.{slice_get_past}
+use Rattle.std.specs.Prelude.{slice_get, Result, Ok}
+use Rattle.tosses.specs.declared.Stop.{Stop}
+use Rattle.tosses.specs.declared.Target.{Target}
+use Rattle.tosses.specs.declared.Target.TheVariants.{Nowhere}
+use Rattle.tosses.specs.Tosses.{meeting, target_at, tossed, arrived_among, arrived_of, one_kept, straight_of}
 
 module _ (m : ℕ) (fits : m < 4294967296) (some_in : m ≡ 0 → ⊥) where
   abbrev low : ℕ
@@ -39,21 +42,21 @@ module _ (m : ℕ) (fits : m < 4294967296) (some_in : m ≡ 0 → ⊥) where
       (low, count_trailing_zeros 32 others, members (bit_and others (others - 1)), low_is ∙ ap (λ (l : List ℕ). low ∷ l) next)
 
 -- a negative value is past every target when its bits are taken
-pub target_is : (m : ℕ) (x : ℤ) → SFits w32 x → get_or (members m) (of_z w32 x) 32 ≡ target_at (members m) x
+pub target_is : (m : ℕ) (x : ℤ) → SFits w32 x → slice_get (members m) (of_z w32 x) ≡ target_at (members m) x
 target_is m (pos i) f = refl
-target_is m (negsuc i) f = get_or-eq_default (members m) 32 (omega (arith, members_few m, f.sfits))
+target_is m (negsuc i) f = slice_get_past (members m) (of_z w32 (negsuc i)) (omega (arith, members_few m, f.sfits))
 
 -- ---- an arc taken, by the number of its targets
 
 module _ (arc keep : ℕ) (vs : List ℤ) (used : ℕ) where
-  pub arrives_nowhere : arc ≡ 0 → losing used ≡ arrived_of arc keep vs used
+  pub arrives_nowhere : arc ≡ 0 → Ok (Nowhere, used) ≡ arrived_of arc keep vs used
   arrives_nowhere e = sym (ap (λ (ms : List ℕ). arrived_among ms keep vs used) (ap members e ∙ members_none))
 
-  pub arrives_at : {r : Chosen} (j : ℕ) → members arc ≡ j ∷ [] → r ≡ meeting keep j used → r ≡ arrived_of arc keep vs used
-  arrives_at j e h = h ∙ sym (ap (λ (ms : List ℕ). arrived_among ms keep vs used) e)
+  pub arrives_at : {o : Target} (j : ℕ) → members arc ≡ j ∷ [] → o ≡ meeting keep j → Ok (o, used) ≡ arrived_of arc keep vs used
+  arrives_at j e h = ap (λ (o : Target). Ok (o, used)) h ∙ sym (ap (λ (ms : List ℕ). arrived_among ms keep vs used) e)
 
-  pub arrives_tossed : {r : Chosen} (a b : ℕ) (l : List ℕ) → members arc ≡ a ∷ b ∷ l → r ≡ tossed (members arc) keep vs used → r ≡ arrived_of arc keep vs used
-  arrives_tossed a b l e h = h ∙ ap (λ (ms : List ℕ). tossed ms keep vs used) e ∙ sym (ap (λ (ms : List ℕ). arrived_among ms keep vs used) e)
+  pub arrives_tossed : {r : Result (Target × ℕ) Stop} (a b : ℕ) (l : List ℕ) → members arc ≡ a ∷ b ∷ l → r ≡ tossed (members arc) keep used (slice_get vs used) → r ≡ arrived_of arc keep vs used
+  arrives_tossed a b l e h = h ∙ ap (λ (ms : List ℕ). tossed ms keep used (slice_get vs used)) e ∙ sym (ap (λ (ms : List ℕ). arrived_among ms keep vs used) e)
 
 -- ---- the one target of an arc, where it is kept
 

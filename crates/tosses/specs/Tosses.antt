@@ -1,39 +1,38 @@
--- An arc taken, as the record that the code answers with.
-use Rattle.std.specs.Prelude.{ℕ, ◌+◌, true, false, List, [], ◌∷◌, length, get_or, eqb, leb, ℤ, pos, negsuc}
+-- An arc taken, as the code answers.
+use Rattle.std.specs.Prelude.{ℕ, ◌+◌, List, [], ◌∷◌, ℤ, pos, negsuc, slice_get, Option, Some, None, Result, Ok, Err}
 use Rattle.table.specs.Mask.{pick, bit, members}
-use Rattle.tosses.specs.declared.Chosen.{Chosen}
+use Rattle.tosses.specs.declared.Stop.{Stop}
+use Rattle.tosses.specs.declared.Stop.TheVariants.{ValuesSpent, BadToss}
+use Rattle.tosses.specs.declared.Target.{Target}
+use Rattle.tosses.specs.declared.Target.TheVariants.{Nowhere, Kept, Dropped}
 
--- a node is met; if it is kept, the walk over dropped nodes is over
-abbrev pub meeting : ℕ → ℕ → ℕ → Chosen
-meeting keep j used = record { over = bit j keep; stop = 0; lost = false; node = j; used = used }
+-- a node is met
+abbrev pub meeting : ℕ → ℕ → Target
+meeting keep j = pick (bit j keep) (Kept j) (Dropped j)
 
--- the walk ends with a stop
-abbrev pub halting : ℕ → ℕ → Chosen
-halting stop used = record { over = true; stop = stop; lost = false; node = 0; used = used }
+-- the target that a value chooses
+abbrev pub target_at : List ℕ → ℤ → Option ℕ
+target_at ms (pos i) = slice_get ms i
+target_at ms (negsuc i) = None
 
--- no target: the task is lost, and stands before node 0
-abbrev pub losing : ℕ → Chosen
-losing used = record { over = true; stop = 0; lost = true; node = 0; used = used }
+-- a toss that chooses a target, or none
+abbrev pub chosen : ℕ → ℕ → Option ℕ → Result (Target × ℕ) Stop
+chosen keep used None = Err BadToss
+chosen keep used (Some j) = Ok (meeting keep j, used)
 
--- the target that a value chooses, 32 if there is none
-abbrev pub target_at : List ℕ → ℤ → ℕ
-target_at ms (pos i) = get_or ms i 32
-target_at ms (negsuc i) = 32
-
--- a toss among targets; where the values are spent, or the toss chooses none, no value is used
-abbrev pub tossed : List ℕ → ℕ → List ℤ → ℕ → Chosen
-tossed ms keep vs used =
-    pick (leb (length vs) used) (halting 15 used)
-    (let j = target_at ms (get_or vs used (pos 0)) in pick (eqb j 32) (halting 16 used) (meeting keep j (used + 1)))
+-- a toss among targets, by the next value
+abbrev pub tossed : List ℕ → ℕ → ℕ → Option ℤ → Result (Target × ℕ) Stop
+tossed ms keep used None = Err ValuesSpent
+tossed ms keep used (Some x) = chosen keep (used + 1) (target_at ms x)
 
 -- "One target: a plain arc. Two or more: a toss .. None: `none`."
-abbrev pub arrived_among : List ℕ → ℕ → List ℤ → ℕ → Chosen
-arrived_among [] keep vs used = losing used
-arrived_among (j ∷ []) keep vs used = meeting keep j used
-arrived_among (j ∷ k ∷ ms) keep vs used = tossed (j ∷ k ∷ ms) keep vs used
+abbrev pub arrived_among : List ℕ → ℕ → List ℤ → ℕ → Result (Target × ℕ) Stop
+arrived_among [] keep vs used = Ok (Nowhere, used)
+arrived_among (j ∷ []) keep vs used = Ok (meeting keep j, used)
+arrived_among (j ∷ k ∷ ms) keep vs used = tossed (j ∷ k ∷ ms) keep used (slice_get vs used)
 
 -- an arc taken, `used` values being used
-abbrev pub arrived_of : ℕ → ℕ → List ℤ → ℕ → Chosen
+abbrev pub arrived_of : ℕ → ℕ → List ℤ → ℕ → Result (Target × ℕ) Stop
 arrived_of arc keep vs used = arrived_among (members arc) keep vs used
 
 -- the kept node that an arc leads straight to: its one target, if that is kept; else 0

@@ -2,107 +2,113 @@
 
 #![tactic(auto)]
 
-ghost use Rattle.std.specs.Prelude.{◌≡◌, ◌<◌, ◌≤◌, length, get_or};
+ghost use Rattle.std.specs.Prelude.{◌≡◌, ◌<◌, ◌≤◌, length, slice_get};
 ghost use Rattle.table.specs.Mask.{members};
-ghost use Rattle.tosses.specs.Tosses.{meeting, halting, tossed, arrived_of, straight_of};
+ghost use Rattle.tosses.specs.Stops.{number_of};
+ghost use Rattle.tosses.specs.Tosses.{meeting, tossed, arrived_of, straight_of};
 
-// An arc taken: the node met, or lost, or the stop's number; and whether the walk over dropped nodes is over.
-#[derive(Clone, Copy)]
-pub struct Chosen {
-    pub over: bool,
-    pub stop: u8,
-    pub lost: bool,
-    pub node: u8,
-    pub used: usize,
+// Why a run stops.
+#[derive(Clone, Copy, PartialEq, Eq)]
+pub enum Stop {
+    NoSuchTask,
+    LogFull,
+    TaskLost,
+    TaskBlocked,
+    TooMany,
+    ValuesSpent,
+    BadToss,
 }
 
-// The i-th number in a mask, 32 if there is none.
-fn nth(m: u32, i: u32) -> u8
-    ensures { result ≡ get_or (members m) i 32 }
+// Document 01's number of a stop.
+#[tactic(auto, unfolding(machine::specs::Step::stop_number))]
+pub fn number(stop: Stop) -> u8
+    ensures { result ≡ number_of stop }
+{
+    match stop {
+        Stop::NoSuchTask => machine::NO_SUCH_TASK,
+        Stop::LogFull => machine::LOG_FULL,
+        Stop::TaskLost => machine::TASK_LOST,
+        Stop::TaskBlocked => machine::TASK_BLOCKED,
+        Stop::TooMany => machine::TOO_MANY,
+        Stop::ValuesSpent => machine::VALUES_SPENT,
+        Stop::BadToss => machine::BAD_TOSS,
+    }
+}
+
+// Where an arc leads: to no node, to a kept one, or to a dropped one.
+#[derive(Clone, Copy)]
+pub enum Target {
+    Nowhere,
+    Kept(u8),
+    Dropped(u8),
+}
+
+// The i-th number in a mask.
+fn nth(m: u32, i: u32) -> Option<u8>
+    ensures { result ≡ slice_get (members m) i }
 {
     let mut rest = m;
-    let mut left = i;
-    while rest != 0 {
-        if left == 0 {
-            return u32::trailing_zeros(rest) as u8;
+    for _k in 0..i {
+        if rest == 0 {
+            return None;
         }
-        rest = rest & (rest - 1);
-        left = left - 1;
+        rest &= rest - 1;
     }
-    32
+    if rest == 0 {
+        None
+    } else {
+        Some(rest.trailing_zeros() as u8)
+    }
 }
 
-fn meets(j: u8, keep: u32, used: usize) -> Chosen
+// Node j, which is met.
+#[tactic(auto, unfolding(table::specs::Mask::bit))]
+fn met(j: u8, keep: u32) -> Target
     requires { j < 32 }
-    ensures { result ≡ meeting keep j used }
+    ensures { result ≡ meeting keep j }
 {
-    Chosen {
-        over: (keep >> j) % 2 == 1,
-        stop: 0,
-        lost: false,
-        node: j,
-        used,
-    }
-}
-
-// The walk ends with a stop.
-pub fn halted(stop: u8, used: usize) -> Chosen
-    ensures { result ≡ halting stop used }
-{
-    Chosen {
-        over: true,
-        stop,
-        lost: false,
-        node: 0,
-        used,
+    if (keep >> j) % 2 == 1 {
+        Target::Kept(j)
+    } else {
+        Target::Dropped(j)
     }
 }
 
 // Two or more targets: the next value chooses.
-fn toss(arc: u32, keep: u32, values: &[i32], used: usize) -> Chosen
+fn toss(arc: u32, keep: u32, values: &[i32], used: usize) -> Result<(Target, usize), Stop>
     requires { used ≤ length values.now }
-    ensures { result ≡ tossed (members arc) keep values.now used }
+    ensures { result ≡ tossed (members arc) keep used (slice_get values.now used) }
 {
-    if values.len() <= used {
-        return halted(machine::VALUES_SPENT, used);
-    }
-    let x = values[used];
-    let j = nth(arc, values::bits_of(x));
-    if j == 32 {
-        return halted(machine::BAD_TOSS, used);
-    }
-    meets(j, keep, used + 1)
+    let Some(x) = values.get(used) else {
+        return Err(Stop::ValuesSpent);
+    };
+    let Some(j) = nth(arc, values::bits_of(*x)) else {
+        return Err(Stop::BadToss);
+    };
+    Ok((met(j, keep), used + 1))
 }
 
-pub fn arrive(arc: u32, keep: u32, values: &[i32], used: usize) -> Chosen
+// Where an arc leads, and the values then used.
+pub fn arrive(arc: u32, keep: u32, values: &[i32], used: usize) -> Result<(Target, usize), Stop>
     requires { used ≤ length values.now }
     ensures { result ≡ arrived_of arc keep values.now used }
 {
     if arc == 0 {
-        return Chosen {
-            over: true,
-            stop: 0,
-            lost: true,
-            node: 0,
-            used,
-        };
+        return Ok((Target::Nowhere, used));
     }
     if arc & (arc - 1) == 0 {
-        return meets(u32::trailing_zeros(arc) as u8, keep, used);
+        return Ok((met(arc.trailing_zeros() as u8, keep), used));
     }
     toss(arc, keep, values, used)
 }
 
-// The kept node that an arc leads straight to: its one target, if that is kept; else 0.
+// The kept node that an arc leads straight to: its one target, if that is kept; else 0, which a row of bytes has for none.
 pub fn straight(arc: u32, keep: u32) -> u8
     ensures { result ≡ straight_of arc keep }
 {
-    if arc == 0 {
+    if arc == 0 || arc & (arc - 1) != 0 {
         return 0;
     }
-    if arc & (arc - 1) != 0 {
-        return 0;
-    }
-    let low = u32::trailing_zeros(arc);
+    let low = arc.trailing_zeros();
     if (keep >> low) % 2 == 1 { low as u8 } else { 0 }
 }

@@ -4,7 +4,7 @@ use Rattle.run_state.specs.BeginLaws.{tops_few, tops_low, takes_few, sum_first, 
 use Rattle.run_state.proofs.needed.Goals as goal
 
 pub loop-i-init : goal.loop-i-init
-loop-i-init c = (refl, sum_first c.args.task c.args.takes.now c.args.tasks)
+loop-i-init c = sum_first c.args.task c.args.takes.now c.args.tasks
 
 pub bounds-takes-p : goal.bounds-takes-p
 bounds-takes-p c = tops_low c.requires c.loop-i.i (omega arith)
@@ -15,11 +15,11 @@ overflow_cast-sum c = let h = takes_few c.requires c.loop-i.i (omega arith) in
 
 pub overflow_add-sum : goal.overflow_add-sum
 overflow_add-sum c = let l = c.loop-i in
-    omega (arith, takes_few c.requires l.i (omega arith), l.invariant.1.small, l.invariant.1.within, tops_few c.requires)
+    omega (arith, takes_few c.requires l.i (omega arith), l.invariant.small, l.invariant.within, tops_few c.requires)
 
 pub loop-i-preserved : goal.loop-i-preserved
 loop-i-preserved c = let l = c.loop-i in
-    (refl, sum_more c.args.task c.args.takes.now c.args.tasks l.invariant.1 (omega arith) (takes_few c.requires l.i (omega arith)))
+    sum_more c.args.task c.args.takes.now c.args.tasks l.invariant (omega arith) (takes_few c.requires l.i (omega arith))
 
 pub returns : goal.returns
-returns c = sum_done c.args.task c.args.takes.now c.args.tasks c.loop-i.invariant.1 (omega arith)
+returns c = sum_done c.args.task c.args.takes.now c.args.tasks c.loop-i.invariant (omega arith)

@@ -5,7 +5,7 @@ use Rattle.table.specs.Places.{fill}
 use Rattle.run_state.proofs.queues.Goals as goal
 
 pub loop-i-init : goal.loop-i-init
-loop-i-init c = (omega arith, (refl, λ j h. absurd (omega arith)))
+loop-i-init c = (refl, λ j h. absurd (omega arith))
 
 pub entries-requires : goal.entries-requires
 entries-requires c = c.requires (32 + c.loop-i.i) (omega arith)
@@ -13,8 +13,8 @@ entries-requires c = c.requires (32 + c.loop-i.i) (omega arith)
 pub loop-i-preserved : goal.loop-i-preserved
 loop-i-preserved c = let l = c.loop-i in
     let a = c.args in
-    (omega arith, fill (record { len = 0; items = [] }) 8 (queue_of a.marks.now a.cells.now) l.r l.i _ (omega arith) c.entries.ensures l.invariant.1)
+    fill (record { len = 0; items = [] }) 8 (queue_of a.marks.now a.cells.now) l.r l.i _ (omega arith) c.entries.ensures l.invariant
 
 pub returns : goal.returns
 returns c = let l = c.loop-i in
-    record { long = l.invariant.1.0; places = λ j k. l.invariant.1.1 j (omega arith) }
+    record { long = l.invariant.0; places = λ j k. l.invariant.1 j (omega arith) }

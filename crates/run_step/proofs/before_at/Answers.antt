@@ -1,5 +1,6 @@
 -- A lost task is stopped first, then a blocked one.
-use Rattle.std.proofs.Common.{sym, ap, ◌∙◌, Bool}
+use Rattle.std.proofs.Common.{sym, ap, ◌∙◌, Bool, Ok, Err}
+use Rattle.tosses.specs.declared.Stop.TheVariants.{TaskBlocked}
 use Rattle.table.specs.Mask.{pick}
 use Rattle.run_step.specs.BlockedLaws.{row_here, before_lost, before_here}
 use Rattle.run_step.proofs.before_at.Goals as goal
@@ -15,8 +16,8 @@ blocked_at-requires c = let a = c.args in
 
 pub returns-then-blocked_at : goal.returns-then-blocked_at
 returns-then-blocked_at c = let a = c.args in
-    λ t s keep marked task. ap (λ (b : Bool). pick b 13 0) (sym c.if-blocked_at.true ∙ c.blocked_at.ensures) ∙ before_here t s keep a.code.now a.marks.now marked a.i task a.a c.requires.1.0 a.d c.requires.1.1 c.if-marks-i-ne0.false
+    λ t s keep marked task. ap (λ (b : Bool). pick b (Err TaskBlocked) (Ok tt)) (sym c.if-blocked_at.true ∙ c.blocked_at.ensures) ∙ before_here t s keep a.code.now a.marks.now marked a.i task a.a c.requires.1.0 a.d c.requires.1.1 c.if-marks-i-ne0.false
 
-pub returns-else-blocked_at : goal.returns-else-blocked_at
-returns-else-blocked_at c = let a = c.args in
-    λ t s keep marked task. ap (λ (b : Bool). pick b 13 0) (sym c.if-blocked_at.false ∙ c.blocked_at.ensures) ∙ before_here t s keep a.code.now a.marks.now marked a.i task a.a c.requires.1.0 a.d c.requires.1.1 c.if-marks-i-ne0.false
+pub returns : goal.returns
+returns c = let a = c.args in
+    λ t s keep marked task. ap (λ (b : Bool). pick b (Err TaskBlocked) (Ok tt)) (sym c.if-blocked_at.false ∙ c.blocked_at.ensures) ∙ before_here t s keep a.code.now a.marks.now marked a.i task a.a c.requires.1.0 a.d c.requires.1.1 c.if-marks-i-ne0.false

@@ -8,41 +8,11 @@ use Rattle.run_step.proofs.call_step.Goals as goal
 pub entered-w-requires : goal.entered-w-requires
 entered-w-requires c = let z = c.requires.0.standing.stands in (rows_here z, args_here z c.requires.1)
 
-pub overflow_add-w : goal.overflow_add-w
-overflow_add-w c = let z = c.requires.0.standing.stands in omega (arith, call_low z 0 c.requires.1)
-
-pub offset_bounds-cells-f : goal.offset_bounds-cells-f
-offset_bounds-cells-f c = let z = c.requires.0.standing.stands in omega (arith, call_low z 0 c.requires.1)
-
-pub bounds-cells-f : goal.bounds-cells-f
-bounds-cells-f c = let z = c.requires.0.standing.stands in omega (arith, call_low z 0 c.requires.1)
-
-pub offset_bounds-code-a : goal.offset_bounds-code-a
-offset_bounds-code-a c = omega (arith, row_low c.requires.0.standing.stands)
-
-pub bounds-code-a : goal.bounds-code-a
-bounds-code-a c = row_low c.requires.0.standing.stands
-
-pub overflow_add-marks : goal.overflow_add-marks
-overflow_add-marks c = let z = c.requires.0.standing.stands in omega (arith, call_low z 0 c.requires.1)
-
-pub bounds-marks-f : goal.bounds-marks-f
-bounds-marks-f c = let z = c.requires.0.standing.stands in omega (arith, call_low z 0 c.requires.1)
-
-pub overflow_add-marks-2 : goal.overflow_add-marks-2
-overflow_add-marks-2 c = let z = c.requires.0.standing.stands in omega (arith, call_low z 0 c.requires.1)
-
 pub bounds-marks-f-2 : goal.bounds-marks-f-2
 bounds-marks-f-2 c = let z = c.requires.0.standing.stands in omega (arith, call_low z 0 c.requires.1)
 
-pub bounds-marks-f-3 : goal.bounds-marks-f-3
-bounds-marks-f-3 c = let z = c.requires.0.standing.stands in omega (arith, task_low z)
-
 pub overflow_add-marks-3 : goal.overflow_add-marks-3
 overflow_add-marks-3 c = let z = c.requires.0.standing.stands in omega (arith, call_depth z 0 c.requires.1, call_room z 0 c.requires.1)
-
-pub bounds-marks-f-4 : goal.bounds-marks-f-4
-bounds-marks-f-4 c = let z = c.requires.0.standing.stands in omega (arith, task_low z)
 
 pub returns : goal.returns
 returns c = λ keep words vs most t s z.

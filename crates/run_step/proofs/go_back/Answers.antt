@@ -22,8 +22,8 @@ returns-then-o-ne0 c = let o = c.by_arc-o in
     let a = c.args in
     λ t s going. back_lands a.keep.now a.code.now a.words.now a.marks.now a.cells.now a.values.now a.g a.used a.most r.result r.ensures o.result o.ensures c.if-o-ne0.true t s going
 
-pub go_far-e-requires : goal.go_far-e-requires
-go_far-e-requires c = let g = c.goes-far in
+pub go_far-requires : goal.go_far-requires
+go_far-requires c = let g = c.goes-far in
     let o = c.by_arc-o in
     let r = c.row_at-a in
     let a = c.args in
@@ -39,5 +39,5 @@ returns c = let g = c.goes-far in
     let a = c.args in
     let back = goes_to removed (pos 0) a.used (arc_in a.words.now a.marks.now a.g) 0 in
     let f = back_effect a.keep.now a.code.now a.words.now a.marks.now a.cells.now a.values.now a.g a.used a.most r.result r.ensures o.result o.ensures g.result g.ensures in
-    let e = c.go_far-e in
+    let e = c.go_far in
     λ t s going. far_goes a.keep.now a.code.now a.words.now a.marks.now a.cells.now a.values.now a.g back a.most t s going g.result f e.result e.new.marks e.new.cells (e.ensures t s (far_going a.keep.now a.code.now a.words.now a.marks.now a.cells.now a.values.now a.g back a.most t s going g.result f))

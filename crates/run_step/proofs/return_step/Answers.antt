@@ -2,49 +2,28 @@
 use Rattle.std.proofs.Common.{arith}
 use Rattle.run_step.specs.Standing.{task_low, frame_low}
 use Rattle.run_step.specs.FrameLaws.{return_deep, return_next, going_back, return_depth, return_did, return_stop}
+use Rattle.std.proofs.lemmas.Result.{err_from_is_err_and}
 use Rattle.run_step.proofs.return_step.Goals as goal
 
 pub overflow_sub-f : goal.overflow_sub-f
 overflow_sub-f c = return_next c.requires.0.stands c.args.most c.requires.1
 
-pub go_back-e-requires : goal.go_back-e-requires
-go_back-e-requires c = record { t = c.requires.0.t; s = c.requires.0.s; going = going_back c.requires.0.stands c.args.most c.requires.1 }
-
-pub offset_bounds-cells-f : goal.offset_bounds-cells-f
-offset_bounds-cells-f c = let z = c.requires.0.stands in omega (arith, frame_low z)
-
-pub bounds-cells-f : goal.bounds-cells-f
-bounds-cells-f c = let z = c.requires.0.stands in omega (arith, frame_low z)
-
-pub overflow_add-marks : goal.overflow_add-marks
-overflow_add-marks c = let z = c.requires.0.stands in omega (arith, frame_low z)
-
-pub bounds-marks-f : goal.bounds-marks-f
-bounds-marks-f c = let z = c.requires.0.stands in omega (arith, frame_low z)
-
-pub overflow_add-marks-then-e-eq0 : goal.overflow_add-marks-then-e-eq0
-overflow_add-marks-then-e-eq0 c = let z = c.requires.0.stands in omega (arith, frame_low z)
-
-pub bounds-marks-f-then-e-eq0 : goal.bounds-marks-f-then-e-eq0
-bounds-marks-f-then-e-eq0 c = let z = c.requires.0.stands in omega (arith, frame_low z)
-
-pub bounds-marks-f-then-e-eq0-2 : goal.bounds-marks-f-then-e-eq0-2
-bounds-marks-f-then-e-eq0-2 c = omega (arith, task_low c.requires.0.stands)
+pub go_back-requires : goal.go_back-requires
+go_back-requires c = record { t = c.requires.0.t; s = c.requires.0.s; going = going_back c.requires.0.stands c.args.most c.requires.1 }
 
 pub overflow_sub-marks : goal.overflow_sub-marks
 overflow_sub-marks c = let z = c.requires.0.stands in let t = c.requires.0.t in let s = c.requires.0.s in
-    let g = c.go_back-e.ensures t s (going_back z c.args.most c.requires.1) in
+    let g = c.go_back.ensures t s (going_back z c.args.most c.requires.1) in
     omega (arith, return_depth z c.args.most c.requires.1 g, return_deep z c.args.most c.requires.1)
 
-pub bounds-marks-f-then-e-eq0-3 : goal.bounds-marks-f-then-e-eq0-3
-bounds-marks-f-then-e-eq0-3 c = omega (arith, task_low c.requires.0.stands)
-
-pub returns-then-e-eq0 : goal.returns-then-e-eq0
-returns-then-e-eq0 c = λ t s z.
-    let g = c.go_back-e.ensures t s (going_back z c.args.most c.requires.1) in
-    rw c.ended.ensures (return_did z c.args.most c.requires.1 g c.if-e-eq0.true)
+pub returns-in_err-end : goal.returns-in_err-end
+returns-in_err-end c =
+    let p = err_from_is_err_and c.from_residual.result c.from_residual.ensures.1 in
+    rw (p.1, p.2) (λ t s z.
+    let g = c.go_back.ensures t s (going_back z c.args.most c.requires.1) in
+    return_stop z c.args.most c.requires.1 g _ c.in_err-end.was)
 
 pub returns : goal.returns
 returns c = λ t s z.
-    let g = c.go_back-e.ensures t s (going_back z c.args.most c.requires.1) in
-    rw c.ended-2.ensures (return_stop z c.args.most c.requires.1 g c.if-e-eq0.false)
+    let g = c.go_back.ensures t s (going_back z c.args.most c.requires.1) in
+    return_did z c.args.most c.requires.1 g c.in_ok-end.end c.in_ok-end.was

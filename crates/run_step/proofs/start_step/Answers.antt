@@ -5,13 +5,10 @@ use Rattle.run_step.specs.Standing.{row_low, goings_to, goes_to_lem}
 use Rattle.run_step.specs.Arms.{plain_did}
 use Rattle.run_step.proofs.start_step.Goals as goal
 
-pub by_arc-o-requires : goal.by_arc-o-requires
-by_arc-o-requires c = row_low c.requires.0.stands
-
 pub go_on-requires : goal.go_on-requires
 go_on-requires c = goings_to c.requires.0 c.by_arc-o.result removed (pos 0) c.args.used c.requires.0.stands.within c.by_arc-o.ensures
 
 pub returns : goal.returns
 returns c = λ t s z.
     let g = goes_to_lem z c.args.most c.go_on.ensures removed (pos 0) c.args.used z.within c.by_arc-o.ensures in
-    rw c.ended.ensures (plain_did z c.args.most c.requires.1 g)
+    (plain_did z c.args.most c.requires.1 g)

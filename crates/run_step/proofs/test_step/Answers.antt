@@ -1,4 +1,4 @@
--- A test: it goes on by the arc that what it rows-here says.
+-- A test: it goes on by the arc that what it computes says.
 use Rattle.std.proofs.Common.{pos}
 use Rattle.table.specs.Table.{removed}
 use Rattle.run_step.specs.Standing.{rows_here, row_low, goings_to, goings_no, goes_to_lem, goes_no}
@@ -9,20 +9,14 @@ use Rattle.run_step.proofs.test_step.Goals as goal
 pub computed_at-x-requires : goal.computed_at-x-requires
 computed_at-x-requires c = rows_here c.requires.0.stands
 
-pub by_arc-yes-requires : goal.by_arc-yes-requires
-by_arc-yes-requires c = row_low c.requires.0.stands
-
 pub go_on-requires : goal.go_on-requires
 go_on-requires c = goings_to c.requires.0 c.by_arc-yes.result removed (pos 0) c.args.used c.requires.0.stands.within c.by_arc-yes.ensures
 
 pub returns-then-x-ne0 : goal.returns-then-x-ne0
 returns-then-x-ne0 c = λ t s z.
     let x = c.computed_at-x in
-    rw c.ended.ensures (yes_did z c.args.most c.requires.1 x.result (result_is z c.args.most x.result x.ensures) (holds_yes x.result c.if-x-ne0.true)
+    (yes_did z c.args.most c.requires.1 x.result (result_is z c.args.most x.result x.ensures) (holds_yes x.result c.if-x-ne0.true)
     (goes_to_lem z c.args.most c.go_on.ensures removed (pos 0) c.args.used z.within c.by_arc-yes.ensures))
-
-pub by_no-no-requires : goal.by_no-no-requires
-by_no-no-requires c = row_low c.requires.0.stands
 
 pub go_on-requires-2 : goal.go_on-requires-2
 go_on-requires-2 c = goings_no c.requires.0 c.by_no-no.result removed (pos 0) c.args.used c.requires.0.stands.within c.requires.1 c.by_no-no.ensures
@@ -30,5 +24,5 @@ go_on-requires-2 c = goings_no c.requires.0 c.by_no-no.result removed (pos 0) c.
 pub returns : goal.returns
 returns c = λ t s z.
     let x = c.computed_at-x in
-    rw c.ended-2.ensures (no_did z c.args.most c.requires.1 x.result (result_is z c.args.most x.result x.ensures) (holds_no x.result (record { sfits = x.type_inv }) c.if-x-ne0.false)
+    (no_did z c.args.most c.requires.1 x.result (result_is z c.args.most x.result x.ensures) (holds_no x.result (record { sfits = x.type_inv }) c.if-x-ne0.false)
     (goes_no z c.args.most c.go_on-2.ensures removed (pos 0) c.args.used z.within c.requires.1 c.by_no-no.ensures))

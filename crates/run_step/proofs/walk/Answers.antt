@@ -1,77 +1,58 @@
 -- The walk, by what is left of it at each turn.
-use Rattle.std.proofs.Common.{arith, sym, ap, ◌∙◌, set, ℤ}
-use Rattle.table.specs.Table.{arc_to}
+use Rattle.std.proofs.Common.{rules, ℕ, ◌≡◌, ◌+◌, ◌-◌, arith, sym, ap, subst, ◌∙◌, set, ℤ, w32, SFits, Ok, Some, None}
+use Rattle.std.proofs.lemmas.Result.{err_from_is_err_and}
 use Rattle.values.proofs.Again.{again}
-use Rattle.run_step.specs.Walks.{begins, spent, pass_within, stops_at, ends_there, goes_on}
+use Rattle.tosses.specs.declared.Target.{Target}
+use Rattle.run_step.specs.Walks.{Midway, begins, spent, pass_within, stops_at, halts_there, ends_there, goes_on}
 use Rattle.run_step.proofs.walk.Goals as goal
 
-pub loop-m-init : goal.loop-m-init
-loop-m-init c = let a = c.args in
-    begins a.code.now a.words.now a.base a.keep a.first a.w.now a.values.now a.before a.most c.requires
-
-pub overflow_cast-a : goal.overflow_cast-a
-overflow_cast-a c = omega (arith, c.loop-m.invariant.place)
-
-pub overflow_add-a : goal.overflow_add-a
-overflow_add-a c = omega (arith, c.loop-m.invariant.place, c.requires.rows.from, c.requires.rows.inside)
-
-pub offset_bounds-code-a : goal.offset_bounds-code-a
-offset_bounds-code-a c = omega (arith, c.loop-m.invariant.place, c.requires.rows.from, c.requires.rows.inside)
-
-pub bounds-code-a : goal.bounds-code-a
-bounds-code-a c = omega (arith, c.loop-m.invariant.place, c.requires.rows.from, c.requires.rows.inside)
-
-pub offset_bounds-words-a : goal.offset_bounds-words-a
-offset_bounds-words-a c = omega (arith, c.loop-m.invariant.place, c.requires.rows.from, c.requires.rows.inside)
-
-pub bounds-words-a : goal.bounds-words-a
-bounds-words-a c = omega (arith, c.loop-m.invariant.place, c.requires.rows.from, c.requires.rows.inside)
-
-pub pass-o-requires : goal.pass-o-requires
-pass-o-requires c = let l = c.loop-m in
-    let r = c.requires.rows in
-    (l.invariant.long, (l.invariant.within, r.arcs l.n l.invariant.place ∙ ap arc_to (sym (r.nodes l.n l.invariant.place))))
-
-pub set_var-requires : goal.set_var-requires
-set_var-requires c = c.loop-m.invariant.long
-
-pub arrive-y-requires : goal.arrive-y-requires
-arrive-y-requires c = let l = c.loop-m in
+pub returns-in_err-o : goal.returns-in_err-o
+returns-in_err-o c = let l = c.loop-k in
     let a = c.args in
-    let p = c.pass-o in
-    pass_within a.code.now a.words.now a.base a.keep a.first a.w.now a.values.now a.before a.most l.w l.n l.used l.m l.invariant c.if-m-eq0.false p.result p.ensures
+    let p = err_from_is_err_and c.from_residual.result c.from_residual.ensures.1 in
+    rw (p.1, p.2) (stops_at a.code.now a.words.now a.base a.keep a.first a.w.now a.values.now a.before a.most l.w l.n l.used (a.most - l._k) l.invariant (omega (arith, c.loop-k-test.true)) c.pass.result c.pass.ensures _ c.in_err-o.was)
 
-pub overflow_sub-m : goal.overflow_sub-m
-overflow_sub-m c = omega (arith, c.if-m-eq0.false)
-
-pub loop-m-smaller : goal.loop-m-smaller
-loop-m-smaller c = omega (arith, c.if-m-eq0.false)
-
-pub loop-m-preserved : goal.loop-m-preserved
-loop-m-preserved c = let l = c.loop-m in
+pub arrive-requires : goal.arrive-requires
+arrive-requires c = let l = c.loop-k in
     let a = c.args in
-    let p = c.pass-o in
-    let y = c.arrive-y in
-    let s = c.set_var in
-    let j = s.ensures ∙ ap (λ (z : ℤ). set l.w p.result.var z) (again p.result.value (record { sfits = c.struct_told-1.given.1.1.0.1 })) in
-    goes_on a.code.now a.words.now a.base a.keep a.first a.w.now a.values.now a.before a.most l.w l.n l.used l.m l.invariant c.if-m-eq0.false p.result p.ensures c.if-o-ne0.false y.result y.ensures s.new.vars j c.if-y.false
+    pass_within a.code.now a.words.now a.base a.keep a.first a.w.now a.values.now a.before a.most l.w l.n l.used (a.most - l._k) l.invariant (omega (arith, c.loop-k-test.true)) c.pass.result c.pass.ensures c.in_ok-o.o c.in_ok-o.was
 
-pub returns-then-m-eq0 : goal.returns-then-m-eq0
-returns-then-m-eq0 c = let l = c.loop-m in
+pub returns-in_err-to : goal.returns-in_err-to
+returns-in_err-to c = let l = c.loop-k in
     let a = c.args in
-    spent a.code.now a.words.now a.base a.keep a.first a.w.now a.values.now a.before a.most l.w l.n l.used l.m l.invariant c.if-m-eq0.true c.halted-z.result c.halted-z.ensures
+    let o = c.in_ok-o.o in
+    let f : SFits w32 o.value = search rules in
+    let j = c.set_var.ensures ∙ ap (λ (z : ℤ). set l.w o.var z) (again o.value f) in
+    let p = err_from_is_err_and c.from_residual-in_err-to.result c.from_residual-in_err-to.ensures.1 in
+    rw (p.1, p.2) (halts_there a.code.now a.words.now a.base a.keep a.first a.w.now a.values.now a.before a.most l.w l.n l.used (a.most - l._k) l.invariant (omega (arith, c.loop-k-test.true)) c.pass.result c.pass.ensures o c.in_ok-o.was c.arrive.result c.arrive.ensures c.set_var.new.vars j _ c.in_err-to.was)
 
-pub returns-then-o-ne0 : goal.returns-then-o-ne0
-returns-then-o-ne0 c = let l = c.loop-m in
+pub returns-in-Nowhere : goal.returns-in-Nowhere
+returns-in-Nowhere c = let l = c.loop-k in
     let a = c.args in
-    let p = c.pass-o in
-    stops_at a.code.now a.words.now a.base a.keep a.first a.w.now a.values.now a.before a.most l.w l.n l.used l.m l.invariant c.if-m-eq0.false p.result p.ensures c.if-o-ne0.true c.halted-z-then-o-ne0.result c.halted-z-then-o-ne0.ensures
+    let o = c.in_ok-o.o in
+    let f : SFits w32 o.value = search rules in
+    let j = c.set_var.ensures ∙ ap (λ (z : ℤ). set l.w o.var z) (again o.value f) in
+    ends_there a.code.now a.words.now a.base a.keep a.first a.w.now a.values.now a.before a.most l.w l.n l.used (a.most - l._k) l.invariant (omega (arith, c.loop-k-test.true)) c.pass.result c.pass.ensures o c.in_ok-o.was c.arrive.result c.arrive.ensures c.set_var.new.vars j None c.in_ok-to.u (c.in_ok-to.was ∙ ap (λ (x : Target). Ok (x, c.in_ok-to.u)) c.in-Nowhere.is)
 
-pub returns-then-y : goal.returns-then-y
-returns-then-y c = let l = c.loop-m in
+pub returns-in-Kept : goal.returns-in-Kept
+returns-in-Kept c = let l = c.loop-k in
     let a = c.args in
-    let p = c.pass-o in
-    let y = c.arrive-y in
-    let s = c.set_var in
-    let j = s.ensures ∙ ap (λ (z : ℤ). set l.w p.result.var z) (again p.result.value (record { sfits = c.struct_told-1.given.1.1.0.1 })) in
-    ends_there a.code.now a.words.now a.base a.keep a.first a.w.now a.values.now a.before a.most l.w l.n l.used l.m l.invariant c.if-m-eq0.false p.result p.ensures c.if-o-ne0.false y.result y.ensures s.new.vars j c.if-y.true
+    let o = c.in_ok-o.o in
+    let f : SFits w32 o.value = search rules in
+    let j = c.set_var.ensures ∙ ap (λ (z : ℤ). set l.w o.var z) (again o.value f) in
+    ends_there a.code.now a.words.now a.base a.keep a.first a.w.now a.values.now a.before a.most l.w l.n l.used (a.most - l._k) l.invariant (omega (arith, c.loop-k-test.true)) c.pass.result c.pass.ensures o c.in_ok-o.was c.arrive.result c.arrive.ensures c.set_var.new.vars j (Some c.in-Kept.m) c.in_ok-to.u (c.in_ok-to.was ∙ ap (λ (x : Target). Ok (x, c.in_ok-to.u)) c.in-Kept.is)
+
+pub loop-k-preserved : goal.loop-k-preserved
+loop-k-preserved c = let l = c.loop-k in
+    let a = c.args in
+    let o = c.in_ok-o.o in
+    let f : SFits w32 o.value = search rules in
+    let j = c.set_var.ensures ∙ ap (λ (z : ℤ). set l.w o.var z) (again o.value f) in
+    let e : a.most - l._k - 1 ≡ a.most - (l._k + 1) = omega arith in
+    subst (λ (d : ℕ). Midway a.code.now a.words.now a.base a.keep a.first a.w.now a.values.now a.before a.most c.set_var.new.vars c.in-Dropped.m c.in_ok-to.u d) e
+    (goes_on a.code.now a.words.now a.base a.keep a.first a.w.now a.values.now a.before a.most l.w l.n l.used (a.most - l._k) l.invariant (omega (arith, c.loop-k-test.true)) c.pass.result c.pass.ensures o c.in_ok-o.was c.arrive.result c.arrive.ensures c.set_var.new.vars j c.in-Dropped.m c.in_ok-to.u (c.in_ok-to.was ∙ ap (λ (x : Target). Ok (x, c.in_ok-to.u)) c.in-Dropped.is))
+
+pub returns : goal.returns
+returns c = let l = c.loop-k in
+    let a = c.args in
+    spent a.code.now a.words.now a.base a.keep a.first a.w.now a.values.now a.before a.most l.w l.n l.used (a.most - l._k) l.invariant (omega (arith, c.loop-k-test.false))

@@ -1,68 +1,61 @@
 -- `runner::advance` runs a schedule as `run_from` says, for every table and state that the arrays hold.
-use Rattle.std.proofs.Common.{arith, ◌-◌, ◌<◌, ◌≤◌, refl, length}
-use Rattle.runner.proofs.Turns.{rest_less, first, ends_as, ends_last, ends_before, asked, fits, ends_step, turned}
+use Rattle.std.proofs.Common.{arith, ◌≡◌, ◌∷◌, ℕ, ◌-◌, ◌+◌, ◌<◌, sym, ap, subst, ◌∙◌, length, get_or, drop, length-drop, Ok, Err}
+use lib.Seq.{sets, get_or-drop}
+use Rattle.table.specs.declared.Table.{Table}
+use Rattle.machine.specs.declared.State.{State}
+use Rattle.machine.specs.Step.{kept_in, step}
+use Rattle.machine.specs.Run.{word}
+use Rattle.run_step.specs.Steps.{Held, Steps}
+use Rattle.runner.specs.Advances.{stop_before}
+use Rattle.runner.proofs.Turns.{first, ends_last, ends_before, asked, fits, ends_step, turned, turning_next}
 use Rattle.runner.proofs.advance.Goals as goal
-use Rattle.runner.proofs.advance.Goals.{then-rest-eq0, else-rest-eq0+then-b-ne0, else-rest-eq0+else-b-ne0+then-e-ne0}
 
-pub loop-rest-init : goal.loop-rest-init
-loop-rest-init c = let p = c.requires in first _ _ _ _ _ _ _ _ _ _ p.0 p.1
+pub returns-in-Err : goal.returns-in-Err
+returns-in-Err c = let v = c.loop-k.invariant in
+    let l = c.args.schedule.now in
+    let i = c.loop-k.k-index in
+    let at : get_or (drop i l) 0 0 ≡ get_or l i 0 = get_or-drop i l 0 0 ∙ ap (λ (n : ℕ). get_or l n 0) (omega arith) in
+    let some : length (drop i l) ≡ 0 → ⊥ = λ e. omega (arith, e, length-drop i l, c.loop-k-test.true) in
+    let b = ap (λ (k : ℕ). stop_before k c.loop-k.marks (length c.loop-k.log - c.loop-k.at)) at ∙ sym c.before-in-loop-k.ensures in
+    rw c.halted.ensures (ends_before _ _ _ _ _ _ _ _ _ _ v some c.in-Err.stop (b ∙ c.in-Err.is))
 
-pub overflow_sub-log : goal.overflow_sub-log
-overflow_sub-log c = c.loop-rest.invariant.room
+pub step-requires : goal.step-requires
+step-requires c = let v = c.loop-k.invariant in
+    let l = c.args.schedule.now in
+    let i = c.loop-k.k-index in
+    let at : get_or (drop i l) 0 0 ≡ get_or l i 0 = get_or-drop i l 0 0 ∙ ap (λ (n : ℕ). get_or l n 0) (omega arith) in
+    let some : length (drop i l) ≡ 0 → ⊥ = λ e. omega (arith, e, length-drop i l, c.loop-k-test.true) in
+    let b = ap (λ (k : ℕ). stop_before k c.loop-k.marks (length c.loop-k.log - c.loop-k.at)) at ∙ sym c.before-in-loop-k.ensures in
+    (asked _ _ _ _ _ _ _ _ _ _ v some (b ∙ c.in_default.is) (get_or l i 0) (sym at), v.within)
 
-pub before-b-requires : goal.before-b-requires
-before-b-requires c = tt
+pub returns-in-Err-step : goal.returns-in-Err-step
+returns-in-Err-step c = let v = c.loop-k.invariant in
+    let l = c.args.schedule.now in
+    let i = c.loop-k.k-index in
+    let at : get_or (drop i l) 0 0 ≡ get_or l i 0 = get_or-drop i l 0 0 ∙ ap (λ (n : ℕ). get_or l n 0) (omega arith) in
+    let some : length (drop i l) ≡ 0 → ⊥ = λ e. omega (arith, e, length-drop i l, c.loop-k-test.true) in
+    let b = ap (λ (k : ℕ). stop_before k c.loop-k.marks (length c.loop-k.log - c.loop-k.at)) at ∙ sym c.before-in-loop-k.ensures in
+    let did = subst
+    (λ (k : ℕ). (t : Table) (s : State) → Held t s c.args.keep.now c.args.code.now c.args.words.now c.loop-k.marks c.loop-k.cells → k < t.tasks → Steps c.args.values.now s (step t (kept_in t) c.args.most s k (drop c.loop-k.used c.args.values.now)) (Err c.in-Err-step.stop) c.step.new.marks c.step.new.cells)
+    (sym at) c.in-Err-step.ensures in
+    rw c.halted-in-Err-step.ensures (ends_step _ _ _ _ _ _ _ _ _ _ v some (b ∙ c.in_default.is) c.in-Err-step.stop _ _ did)
 
--- nothing stops the turn before the step
-pub overflow_cast-k : goal.overflow_cast-k
-overflow_cast-k c =
-    let a = asked _ _ _ _ _ _ _ _ _ _ c.loop-rest.invariant c.if-rest-eq0.false _ c.before-b.ensures c.if-b-ne0.false _ refl in
-    record { fits = omega (arith, a.task, a.held.marked.ready.tasks) }
-
-pub step-e-requires : goal.step-e-requires
-step-e-requires c =
-    let v = c.loop-rest.invariant in
-    (asked _ _ _ _ _ _ _ _ _ _ v c.if-rest-eq0.false _ c.before-b.ensures c.if-b-ne0.false _ refl, v.within)
-
--- the step is completed
-pub put-requires : goal.put-requires
-put-requires c =
-    let v = c.loop-rest.invariant in
-    let r : 8 ≤ length c.loop-rest.log - c.loop-rest.at = fits _ _ _ _ _ _ _ _ _ _ v c.if-rest-eq0.false _ c.before-b.ensures c.if-b-ne0.false in
-    omega (arith, r, v.room)
-
-pub overflow_add-at : goal.overflow_add-at
-overflow_add-at c =
-    let v = c.loop-rest.invariant in
-    let r : 8 ≤ length c.loop-rest.log - c.loop-rest.at = fits _ _ _ _ _ _ _ _ _ _ v c.if-rest-eq0.false _ c.before-b.ensures c.if-b-ne0.false in
-    let f : length c.args.log.now < 18446744073709551616 = omega arith in
-    record { fits = omega (arith, r, v.room, v.same, f) }
-
-pub slice_bounds-rest-count : goal.slice_bounds-rest-count
-slice_bounds-rest-count c = omega (arith, c.if-rest-eq0.false)
-
-pub slice_bounds-rest-start : goal.slice_bounds-rest-start
-slice_bounds-rest-start c = omega (arith, c.if-rest-eq0.false)
-
-pub loop-rest-smaller : goal.loop-rest-smaller
-loop-rest-smaller c = rest_less c.loop-rest.rest.now c.if-rest-eq0.false
-
-pub loop-rest-preserved : goal.loop-rest-preserved
-loop-rest-preserved c =
-    turned _ _ _ _ _ _ _ _ _ _ c.loop-rest.invariant c.if-rest-eq0.false _ c.before-b.ensures c.if-b-ne0.false c.step-e.result _ _ c.step-e.ensures c.if-e-ne0.false _ c.put.ensures
-
-pub shape_of-log : goal.shape_of-log
-shape_of-log c = c.loop-rest.invariant.same
+pub loop-k-preserved : goal.loop-k-preserved
+loop-k-preserved c = let v = c.loop-k.invariant in
+    let l = c.args.schedule.now in
+    let i = c.loop-k.k-index in
+    let at : get_or (drop i l) 0 0 ≡ get_or l i 0 = get_or-drop i l 0 0 ∙ ap (λ (n : ℕ). get_or l n 0) (omega arith) in
+    let some : length (drop i l) ≡ 0 → ⊥ = λ e. omega (arith, e, length-drop i l, c.loop-k-test.true) in
+    let b = ap (λ (k : ℕ). stop_before k c.loop-k.marks (length c.loop-k.log - c.loop-k.at)) at ∙ sym c.before-in-loop-k.ensures in
+    let did = subst
+    (λ (k : ℕ). (t : Table) (s : State) → Held t s c.args.keep.now c.args.code.now c.args.words.now c.loop-k.marks c.loop-k.cells → k < t.tasks → Steps c.args.values.now s (step t (kept_in t) c.args.most s k (drop c.loop-k.used c.args.values.now)) (Ok c.in-Ok.e) c.step.new.marks c.step.new.cells)
+    (sym at) c.in-Ok.ensures in
+    let e = c.in-Ok.e in
+    let puts = c.put.ensures ∙ (λ j. sets c.loop-k.log c.loop-k.at (sym at j ∷ e.proc ∷ e.node ∷ (c.logged-flag.ensures j).0 ∷ word (c.logged-flag.ensures j).1)) in
+    turning_next _ _ _ _ _ _ _ _ _ _ i (turned _ _ _ _ _ _ _ _ _ _ v some (b ∙ c.in_default.is) e _ _ did c.put.new.log puts)
 
 pub returns : goal.returns
-returns c =
-    let v = c.loop-rest.invariant in
-    elim c.if-rest-eq0.branch [
-      | then-rest-eq0 w ↦ ends_as _ _ _ _ _ _ _ _ _ _ v (ends_last _ _ _ _ _ _ _ _ _ _ v w.if-rest-eq0.true) w.marks-is w.cells-is w.stop-is
-      | else-rest-eq0+then-b-ne0 w ↦
-          ends_as _ _ _ _ _ _ _ _ _ _ v (ends_before _ _ _ _ _ _ _ _ _ _ v w.if-rest-eq0.false _ w.before-b.ensures w.if-b-ne0.true) w.marks-is w.cells-is w.stop-is
-      | else-rest-eq0+else-b-ne0+then-e-ne0 w ↦
-          ends_as _ _ _ _ _ _ _ _ _ _ v
-          (ends_step _ _ _ _ _ _ _ _ _ _ v w.if-rest-eq0.false _ w.before-b.ensures w.if-b-ne0.false w.step-e.result _ _ w.step-e.ensures w.if-e-ne0.true)
-          w.marks-is w.cells-is w.stop-is
-    ]
+returns c = let v = c.loop-k.invariant in
+    let l = c.args.schedule.now in
+    let i = c.loop-k.k-index in
+    ends_last _ _ _ _ _ _ _ _ _ _ v (omega (arith, length-drop i l, c.loop-k-test.false))

@@ -1,9 +1,9 @@
 -- `runner::run_ready` runs a ready table as `run_begun` says.
-use Rattle.std.proofs.Common.{refl, ◌∙◌}
+use Rattle.std.proofs.Common.{ℕ, refl, subst, ◌∙◌}
 use Rattle.run_state.specs.Begins.{Takes}
 use Rattle.run_state.specs.BeginLaws.{first_marks_lem}
 use Rattle.runner.specs.Advances.{Starting}
-use Rattle.runner.proofs.Starts.{stated, answers}
+use Rattle.runner.proofs.Starts.{Answering, stated, answers}
 use Rattle.runner.proofs.run_ready.Goals as goal
 
 pub begin-b-requires : goal.begin-b-requires
@@ -46,5 +46,7 @@ returns c =
       first = c.first-marks.ensures ∙ first_marks_lem c.args.t _ c.requires;
       begins = c.begin-b.ensures c.args.t k;
     } in
-    let a = answers s _ _ _ (c.run_begun-e.ensures c.args.t s) _ c.answer.ensures in
+    let e = c.run_begun-e in
+    let w = subst (λ (n : ℕ). Answering e.result.steps e.result.used n e.new.marks e.new.cells c.answer.result) c.number.ensures c.answer.ensures in
+    let a = answers s _ _ _ (e.ensures c.args.t s) _ w in
     record { answer = a.0; log = a.1 }
