@@ -17,7 +17,6 @@ pub fn put_byte(out: &mut [u8], at: usize, b: u8) -> usize
 {
     if at < out.len() {
         out[at] = b;
-        return at + 1;
     }
     at + 1
 }
@@ -26,12 +25,9 @@ pub fn fill_text(out: &mut [u8], at: usize, t: &[u8]) -> usize
     requires { at + length t.now ≤ length out.old }
     ensures { Put (length t.now) out.old at t.now out.new result }
 {
-    let mut i = 0;
-    while i < t.len() {
-        out[at + i] = t[i];
-        i += 1;
-    }
-    at + t.len()
+    let end = at + t.len();
+    out[at..end].copy_from_slice(t);
+    end
 }
 
 pub fn fill_byte(out: &mut [u8], at: usize, b: u8) -> usize
@@ -72,15 +68,15 @@ pub fn fill_small(out: &mut [u8], at: usize, n: u8) -> usize
     ensures { Put 3 out.old at (digits n) out.new result }
 {
     if n < 10 {
-        return fill_byte(out, at, 48 + n);
+        return fill_byte(out, at, b'0' + n);
     }
     if n < 100 {
-        let a = fill_byte(out, at, 48 + n / 10);
-        return fill_byte(out, a, 48 + n % 10);
+        let a = fill_byte(out, at, b'0' + n / 10);
+        return fill_byte(out, a, b'0' + n % 10);
     }
-    let a = fill_byte(out, at, 48 + n / 100);
-    let b = fill_byte(out, a, 48 + n / 10 % 10);
-    fill_byte(out, b, 48 + n % 10)
+    let a = fill_byte(out, at, b'0' + n / 100);
+    let b = fill_byte(out, a, b'0' + n / 10 % 10);
+    fill_byte(out, b, b'0' + n % 10)
 }
 
 fn put_digits(out: &mut [u8], at: usize, n: u8) -> usize
@@ -98,7 +94,7 @@ pub fn put_small(out: &mut [u8], at: usize, n: u8) -> usize
     ensures { Put 3 out.old at (digits n) out.new result }
 {
     if n < 10 {
-        return put_byte(out, at, 48 + n);
+        return put_byte(out, at, b'0' + n);
     }
     put_digits(out, at, n)
 }
@@ -109,7 +105,7 @@ pub fn fill_variable(out: &mut [u8], at: usize, v: u8) -> usize
     ensures { Put 3 out.old at (spell_variable (name_of v)) out.new result }
 {
     if v == table::REMOVED {
-        return fill_byte(out, at, 45);
+        return fill_byte(out, at, b'-');
     }
     fill_small(out, at, v)
 }
@@ -119,12 +115,12 @@ fn fill_item(out: &mut [u8], at: usize, t: u8, k: u8) -> usize
     requires { (at + 3 ≤ length out.old) × ((t < 10) × (k < 10)) }
     ensures { Put 3 out.old at (44 ∷ digits (t * 10 + k)) out.new result }
 {
-    let a = fill_byte(out, at, 44);
+    let a = fill_byte(out, at, b',');
     if t == 0 {
-        return fill_byte(out, a, 48 + k);
+        return fill_byte(out, a, b'0' + k);
     }
-    let b = fill_byte(out, a, 48 + t);
-    fill_byte(out, b, 48 + k)
+    let b = fill_byte(out, a, b'0' + t);
+    fill_byte(out, b, b'0' + k)
 }
 
 // The numbers in a mask of ten, each behind a comma, with t tens before.
@@ -135,9 +131,8 @@ fn fill_ten(out: &mut [u8], at: usize, t: u8, m: u32) -> usize
     let mut p = at;
     let mut rest = m;
     while rest != 0 {
-        let k = u32::trailing_zeros(rest);
-        p = fill_item(out, p, t, k as u8);
-        rest = rest & (rest - 1);
+        p = fill_item(out, p, t, rest.trailing_zeros() as u8);
+        rest &= rest - 1;
     }
     p
 }
@@ -152,7 +147,7 @@ fn fill_further(out: &mut [u8], at: usize, m: u32) -> usize
     let mut t: u8 = 0;
     while rest != 0 {
         p = fill_ten(out, p, t, rest % 1024);
-        rest = rest / 1024;
+        rest /= 1024;
         t += 1;
     }
     p
@@ -163,8 +158,7 @@ fn fill_items(out: &mut [u8], at: usize, m: u32) -> usize
     requires { (at + 96 ≤ length out.old) × (1 ≤ m) }
     ensures { Put 86 out.old at (items_text m) out.new result }
 {
-    let k = u32::trailing_zeros(m);
-    let p = fill_small(out, at, k as u8);
+    let p = fill_small(out, at, m.trailing_zeros() as u8);
     fill_further(out, p, m & (m - 1))
 }
 
