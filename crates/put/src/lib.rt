@@ -3,11 +3,13 @@
 
 #![tactic(auto)]
 
-ghost use Rattle.std.specs.Prelude.{◌∷◌, [], ◌+◌, ◌*◌, ◌≤◌, ◌<◌, length};
+ghost use Rattle.std.specs.Prelude.{◌∷◌, [], ◌+◌, ◌*◌, ◌≤◌, ◌<◌, length, ℕ, List};
+ghost use Rattle.text.specs.Reader.{concat_from};
 ghost use Rattle.text.specs.Number.{digits};
 ghost use Rattle.text.specs.Value.{spell_variable};
 ghost use Rattle.text.specs.Format.{name_of};
 ghost use Rattle.put.specs.Put.{Put, ByteAt, DigitsAt};
+ghost use Rattle.put.specs.Calls.{TakesRows, ShortRows, WritesRows, TakesBuffer, FillsShort, Fills};
 ghost use Rattle.masks.specs.Lowest.{above};
 ghost use Rattle.put.specs.Lists.{further, ten_of, items_text, list_text};
 
@@ -79,13 +81,27 @@ pub fn fill_small(out: &mut [u8], at: usize, n: u8) -> usize
     fill_byte(out, b, b'0' + n % 10)
 }
 
+// What fill writes at the start of a buffer of N bytes, as far as out reaches.
+pub fn put_filled<const N: usize, F: Fn(&mut [u8]) -> usize>(
+    out: &mut [u8],
+    at: usize,
+    fill: F,
+) -> usize
+    requires place { (ByteAt at) × (N ≤ 256) }
+    requires takes { TakesBuffer (F.pre fill) N }
+    requires short { FillsShort (F.post fill) N }
+    ensures { (k : ℕ) (t : List ℕ) → Fills (F.post fill) N k t → Put k out.old at t out.new result }
+{
+    let mut t = [0u8; N];
+    let k = fill(&mut t);
+    put_bytes(out, at, &t[..k])
+}
+
 fn put_digits(out: &mut [u8], at: usize, n: u8) -> usize
     requires { DigitsAt at }
     ensures { Put 3 out.old at (digits n) out.new result }
 {
-    let mut t = [0u8; 3];
-    let k = fill_small(&mut t, 0, n);
-    put_text(out, at, &t[..k])
+    put_filled::<3, _>(out, at, |t| fill_small(t, 0, n))
 }
 
 // As far as the buffer reaches: one digit, which is the most, is compiled into the lines that use it.
@@ -170,4 +186,22 @@ pub fn fill_list(out: &mut [u8], at: usize, m: u32) -> usize
         return fill_text(out, at, b"none");
     }
     fill_items(out, at, m)
+}
+
+// n rows of at most MOST bytes each, one after another.
+pub fn put_rows<const MOST: usize, F: Fn(&mut [u8], usize, usize) -> usize>(
+    out: &mut [u8],
+    at: usize,
+    n: usize,
+    row: F,
+) -> usize
+    requires takes { TakesRows (F.pre row) MOST n at }
+    requires short { ShortRows (F.post row) MOST n }
+    ensures { (f : ℕ → List ℕ) → WritesRows (F.post row) MOST n f → Put (MOST * n) out.old at (concat_from f n 0) out.new result }
+{
+    let mut p = at;
+    for i in 0..n {
+        p = row(out, p, i);
+    }
+    p
 }
