@@ -197,7 +197,8 @@ pub fn put_rows<const MOST: usize, F: Fn(&mut [u8], usize, usize) -> usize>(
 ) -> usize
     requires takes { TakesRows (F.pre row) MOST n at }
     requires short { ShortRows (F.post row) MOST n }
-    ensures { (f : ℕ → List ℕ) → WritesRows (F.post row) MOST n f → Put (MOST * n) out.old at (concat_from f n 0) out.new result }
+    ensures within { result ≤ at + MOST * n }
+    ensures rows { (f : ℕ → List ℕ) → WritesRows (F.post row) MOST n f → Put (MOST * n) out.old at (concat_from f n 0) out.new result }
 {
     let mut p = at;
     for i in 0..n {

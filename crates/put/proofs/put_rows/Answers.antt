@@ -1,5 +1,5 @@
 -- The loop's invariant: the rows before stand one after another, whatever they say.
-use Rattle.std.proofs.Common.{arith, rules}
+use Rattle.std.proofs.Common.{◌≡◌, arith, rules}
 use Rattle.put.specs.RowLaws.{rows_start, rows_turn, rows_end}
 use Rattle.put.proofs.put_rows.Goals as goal
 
@@ -16,4 +16,7 @@ loop-i-preserved g c = (
 )
 
 pub returns : goal.returns
-returns g c = λ f h. rows_end (c.loop-i.invariant.1 f h) (omega arith) (omega arith)
+returns g c = record {
+  within = let e : c.loop-i.i ≡ c.args.n = omega arith in rw e at c.loop-i.invariant.0;
+  rows = λ f h. rows_end (c.loop-i.invariant.1 f h) (omega arith) (omega arith);
+}
