@@ -1,5 +1,5 @@
 -- Nothing stands for a node that is no call.
-use Rattle.std.proofs.Common.{◌≡◌, refl, arith, ℕ, List, []}
+use Rattle.std.proofs.Common.{◌≡◌, refl, arith, ℕ, []}
 use Rattle.table.specs.Table.{parts, act}
 use Rattle.table.specs.ByKind.{by_kind}
 use Rattle.table.specs.declared.Args.{Args}
