@@ -1,10 +1,14 @@
 -- Laws of the numbers in a mask, taken one by one, and of rows of text, one for each of them.
-use Prim.Native.Nat.{ℕ, zero, suc, ◌+◌, ◌*◌, ◌%◌, ◌≤◌, ◌<◌}
-use Rattle.std.specs.Prelude.{◌≡◌, refl, Bool, List, [], ◌∷◌, get_or, ltb}
-use Rattle.std.proofs.Common.{sym, ◌∙◌, append-nil, arith, mul-le-mul_left, add-one, drop-cons, ne_eqb}
+use Prim.Native.Nat.{ℕ, zero, suc, ◌+◌, ◌*◌, ◌/◌, ◌%◌, ◌^◌, ◌≤◌, ◌<◌}
+use Rattle.std.specs.Prelude.{◌≡◌, refl, Bool, true, false, List, [], ◌∷◌, get_or, ltb}
+use Rattle.std.proofs.Common.{sym, ◌∙◌, append-nil, arith, mul-le-mul_left, add-one, drop-cons, ne_eqb, pow-suc}
 use Rattle.std.proofs.Math.Path.{ap}
 use Rattle.std.proofs.Math.ListN.{length, drop, length-drop}
+use Rattle.std.specs.Int.Count.{ones, ones-ones}
+use Rattle.std.proofs.lemmas.Nat.{ones_cat}
 use Rattle.table.specs.Cases.{cases}
+use Rattle.text.proofs.NumberLaws.{by_order}
+use Rattle.std.proofs.Math.Nat.{div-div-eq-div-mul}
 use Rattle.table.specs.Mask.{pick, bit, members_from, members}
 use Rattle.text.specs.Reader.{concat_from}
 use Rattle.put.specs.Put.{Put}
@@ -17,42 +21,23 @@ mod_small k h = omega arith
 
 -- ---- how many numbers a mask holds
 
--- n of them are below k
-pub record Counting (m n k : ℕ) : Type 0 where
-  pub left : ℕ
-  pub places : k + left ≡ 32
-  pub few : n ≤ k
-  pub sum : n + length (members_from left k m) ≡ length (members m)
+ones_half : (r : ℕ) → ones r ≡ ones (r / 2) + ones (r % 2)
+ones_half r = let e : r / 2 * 2 + r % 2 ≡ r = omega arith in rw e at (ones_cat 1 (r / 2) (r % 2) (omega arith))
 
-pub counting_start : (m : ℕ) → Counting m 0 0
-counting_start m = record { left = 32; places = refl; few = omega arith; sum = omega arith }
+count_from : (n k m : ℕ) → m / 2 ^ k < 2 ^ n → length (members_from n k m) ≡ ones (m / 2 ^ k)
+unfolding members_from bit
+count_from zero k m h = let z : m / 2 ^ k ≡ 0 = omega arith in rw z (sym (ones-ones 0))
+count_from (suc n) k m h =
+    let r = m / 2 ^ k in
+    let g : r < 2 ^ n * 2 = rw pow-suc at h in
+    let e : m / 2 ^ suc k ≡ r / 2 = ap (λ (x : ℕ). m / x) (pow-suc 2 k) ∙ sym (div-div-eq-div-mul m (2 ^ k) 2) in
+    let i : length (members_from n (suc k) m) ≡ ones (r / 2) = count_from n (suc k) m (rw e (omega arith)) ∙ ap ones e in
+    by_order (r % 2) 1
+    (λ d. let z : r % 2 ≡ 0 = omega arith in rw z (omega (arith, i, ones_half r, ap ones z, ones-ones 0)))
+    (λ d. let z : r % 2 ≡ 1 = omega arith in rw z (omega (arith, i, ones_half r, ap ones z, ones-ones 1)))
 
-pub counting_turn : {m n k : ℕ} {held : Bool} {r : ℕ} → Counting m n k → k < 32 → held ≡ bit (k % 32) m → r ≡ pick held (n + 1) n → Counting m r (k + 1)
-unfolding members_from
-counting_turn {m} {n} {k} {held} {r} a h e g = go a.left a.places a.sum
-  where
-    b : held ≡ bit k m
-    b = e ∙ ap (λ (i : ℕ). bit i m) (mod_small k h)
-
-    go : (left : ℕ) → k + left ≡ 32 → n + length (members_from left k m) ≡ length (members m) → Counting m r (k + 1)
-    go zero p s = absurd (omega arith)
-    go (suc left) p s = cases held
-        (λ y.
-        let u : r ≡ n + 1 = rw y at g in
-        let v : n + suc (length (members_from left (suc k) m)) ≡ length (members m) = rw (sym b ∙ y) at s in
-        record { left = left; places = omega arith; few = omega (arith, a.few); sum = rw (add-one k) (omega arith) })
-        (λ y.
-        let u : r ≡ n = rw y at g in
-        let v : n + length (members_from left (suc k) m) ≡ length (members m) = rw (sym b ∙ y) at s in
-        record { left = left; places = omega arith; few = omega (arith, a.few); sum = rw (add-one k) (omega arith) })
-
-pub counting_end : {m n k : ℕ} → Counting m n k → 32 ≤ k → n ≡ length (members m)
-unfolding members_from
-counting_end {m} {n} {k} a h = go a.left a.places a.sum
-  where
-    go : (left : ℕ) → k + left ≡ 32 → n + length (members_from left k m) ≡ length (members m) → n ≡ length (members m)
-    go zero p s = omega arith
-    go (suc left) p s = absurd (omega arith)
+pub count_members : (m : ℕ) → m < 4294967296 → ones m ≡ length (members m)
+count_members m h = let e : m / 1 ≡ m = omega arith in sym (count_from 32 0 m (omega arith) ∙ ap ones e)
 
 -- ---- their rows
 
@@ -114,6 +99,12 @@ module _ {f : ℕ → ℕ → List ℕ} {w m at a i k : ℕ} {l o : List ℕ} (b
           let u : r ≡ i = rw z at g in
           let v : members_from left (suc k) m ≡ drop i (members m) = rw (sym y ∙ z) at s in
           rw u (record { left = left; places = omega arith; few = omega (arith, b.few); within = b.within; rest = rw (add-one k) v; rows = rows_same b.rows (rw z at x) }))
+
+  pub listed_held : {o' : List ℕ} {a' : ℕ} → k < 32 → true ≡ bit (k % 32) m → Put w o a (f i k) o' a' → Listed w f m l at o' a' (i + 1) (k + 1)
+  listed_held h e x = listed_turn {held = true} h e x refl
+
+  pub listed_passed : k < 32 → false ≡ bit (k % 32) m → Listed w f m l at o a i (k + 1)
+  listed_passed h e = listed_turn {held = false} h e (record { few = omega arith; bytes = refl; same = refl; next = omega arith }) refl
 
   pub listed_end : k ≤ 32 → 32 ≤ k → Put (w * 32) l at (concat_from (λ j. f j (get_or (members m) j 0)) (length (members m)) 0) o a
   unfolding members_from

@@ -3,45 +3,13 @@
 
 #![tactic(auto)]
 
-ghost use Rattle.std.specs.Prelude.{◌≡◌, ◌+◌, ◌≤◌, length};
-ghost use Rattle.table.specs.Mask.{pick, members};
+ghost use Rattle.std.specs.Prelude.{◌≡◌, ◌≤◌, length};
+ghost use Rattle.table.specs.Mask.{members};
 ghost use Rattle.put.specs.Put.{Put, LineAt};
 ghost use Rattle.labels.specs.Graph.{edges_text, arc_text};
-ghost use Rattle.arcs.specs.Edges.{edge_if, ArcAt};
+ghost use Rattle.arcs.specs.Edges.{ArcAt};
 
 use edges::{put_dead_end, put_edge};
-
-// The edge from node n to node m, target i of its arc, if m is a target.
-fn put_edge_if(
-    out: &mut [u8],
-    at: usize,
-    p: u8,
-    n: u8,
-    word: &[u8],
-    toss: bool,
-    i: u8,
-    m: u8,
-    yes: bool,
-) -> usize
-    requires { (LineAt at) × (length word.now ≤ 4) }
-    ensures { Put 54 out.old at (edge_if p n word.now toss i m yes) out.new result }
-{
-    if yes {
-        return put_edge(out, at, p, n, word, toss, i, m);
-    }
-    at
-}
-
-// One more, if yes.
-pub fn next(i: u8, yes: bool) -> u8
-    requires { i ≤ 32 }
-    ensures { result ≡ pick yes (i + 1) i }
-{
-    if yes {
-        return i + 1;
-    }
-    i
-}
 
 // The edges to the targets of an arc.
 fn put_edges(out: &mut [u8], at: usize, p: u8, n: u8, word: &[u8], toss: bool, to: u32) -> usize
@@ -50,12 +18,11 @@ fn put_edges(out: &mut [u8], at: usize, p: u8, n: u8, word: &[u8], toss: bool, t
 {
     let mut a = at;
     let mut i: u8 = 0;
-    let mut m: u8 = 0;
-    while m < 32 {
-        let yes = flow::has(to, m);
-        a = put_edge_if(out, a, p, n, word, toss, i, m, yes);
-        i = next(i, yes);
-        m += 1;
+    for m in 0..32 {
+        if flow::has(to, m) {
+            a = put_edge(out, a, p, n, word, toss, i, m);
+            i += 1;
+        }
     }
     a
 }
@@ -64,14 +31,7 @@ fn put_edges(out: &mut [u8], at: usize, p: u8, n: u8, word: &[u8], toss: bool, t
 pub fn count(m: u32) -> u8
     ensures { result ≡ length (members m) }
 {
-    let mut n: u8 = 0;
-    let mut k: u8 = 0;
-    while k < 32 {
-        let yes = flow::has(m, k);
-        n = next(n, yes);
-        k += 1;
-    }
-    n
+    m.count_ones() as u8
 }
 
 // An arc, with its word.

@@ -9,7 +9,7 @@ ghost use Rattle.text.specs.Reader.{concat_from};
 ghost use Rattle.put.specs.Put.{Put, ByteAt, LineAt, TableAt};
 ghost use Rattle.labels.specs.Graph.{form_text, sem_text, blank_text, queue_text, caption_text};
 
-use put::put_text;
+use put::{put_rows, put_text};
 use put_fields::put_count;
 use table::{Queue, Sem, Table};
 
@@ -32,31 +32,13 @@ fn put_sem(out: &mut [u8], at: usize, i: u8, x: Sem) -> usize
     put_text(out, b, b"\\l")
 }
 
-fn put_sems(out: &mut [u8], at: usize, sems: [Sem; 8], n: u8) -> usize
-    requires { (TableAt at) × (n ≤ 8) }
-    ensures { Put (20 * n) out.old at (concat_from (λ i. sem_text i (get_or sems i no_sem)) n 0) out.new result }
-{
-    let mut a = at;
-    let mut i: u8 = 0;
-    while i < n {
-        let k = i as usize;
-        let x = sems[k];
-        a = put_sem(out, a, i, x);
-        i += 1;
-    }
-    a
-}
-
 // The end of a queue's line: whether a closed table's queue is blank.
 fn put_blank(out: &mut [u8], at: usize, closed: bool, blank: bool) -> usize
     requires { ByteAt at }
     ensures { Put 9 out.old at (blank_text closed blank) out.new result }
 {
-    if closed {
-        if blank {
-            return put_text(out, at, b", blank\\l");
-        }
-        return put_text(out, at, b"\\l");
+    if closed && blank {
+        return put_text(out, at, b", blank\\l");
     }
     put_text(out, at, b"\\l")
 }
@@ -70,21 +52,6 @@ fn put_queue(out: &mut [u8], at: usize, closed: bool, i: u8, x: Queue) -> usize
     put_blank(out, b, closed, x.blank)
 }
 
-fn put_queues(out: &mut [u8], at: usize, closed: bool, queues: [Queue; 8], n: u8) -> usize
-    requires { (TableAt at) × (n ≤ 8) }
-    ensures { Put (32 * n) out.old at (concat_from (λ i. queue_text closed i (get_or queues i no_queue)) n 0) out.new result }
-{
-    let mut a = at;
-    let mut i: u8 = 0;
-    while i < n {
-        let k = i as usize;
-        let x = queues[k];
-        a = put_queue(out, a, closed, i, x);
-        i += 1;
-    }
-    a
-}
-
 // The caption of a table: the trap, its semaphores and its queues.
 pub fn put_caption(out: &mut [u8], at: usize, t: Table) -> usize
     requires { (at ≤ 400000000) × (t.sems ≤ 8) × (t.queues ≤ 8) }
@@ -92,9 +59,11 @@ pub fn put_caption(out: &mut [u8], at: usize, t: Table) -> usize
 {
     let a = put_count(out, at, b"label=\"trap ", t.trap);
     let b = put_form(out, a, t.closed);
-    let sems = t.sem;
-    let c = put_sems(out, b, sems, t.sems);
-    let queues = t.queue;
-    let d = put_queues(out, c, t.closed, queues, t.queues);
+    let c = put_rows::<20, _>(out, b, t.sems as usize, |out, at, i| {
+        put_sem(out, at, i as u8, t.sem[i])
+    });
+    let d = put_rows::<32, _>(out, c, t.queues as usize, |out, at, i| {
+        put_queue(out, at, t.closed, i as u8, t.queue[i])
+    });
     put_text(out, d, b"\";\n")
 }

@@ -4,7 +4,7 @@ use Rattle.std.proofs.Common.{◌∙◌, ap, arith}
 use Rattle.table.specs.Mask.{bit, members, mask_of}
 use Rattle.table.specs.MaskLaws.{bit_mask_of}
 use Rattle.table.specs.Table.{no_task, no_slot}
-use Rattle.table.specs.declared.Slot.{Slot}
+use Rattle.table.specs.declared.Node.{Node}
 use Rattle.table.specs.declared.Task.{Task}
 use Rattle.table.specs.declared.Proc.{Proc}
 use Rattle.text.specs.Number.{bytes}
@@ -21,9 +21,9 @@ unfolding concat_from
 concat_below f g zero i h = refl
 concat_below f g (suc n) i h = rw (h i (omega arith), concat_below f g n (suc i) (λ k l. h k (omega arith)))
 
-pub node_put : {l o : List ℕ} {at a : ℕ} {b d : Bool} (p keep seen : ℕ) (slots : List Slot) (j : ℕ) → j < 32 → b ≡ bit (j % 32) keep → d ≡ bit (j % 32) seen → Put 3576 l at (node_text p j b d (get_or slots j no_slot).node) o a
-    → Put 3576 l at (mask_nodes p keep seen slots j) o a
-node_put p keep seen slots j h e f w =
+pub node_put : {l o : List ℕ} {at a : ℕ} {b d : Bool} (p keep seen j : ℕ) (x : Node) → j < 32 → b ≡ bit (j % 32) keep → d ≡ bit (j % 32) seen → Put 3576 l at (node_text p j b d x) o a
+    → Put 3576 l at (node_text p j (bit j keep) (bit j seen) x) o a
+node_put p keep seen j x h e f w =
     let z : j % 32 ≡ j = omega arith in
     rw (e ∙ ap (λ (i : ℕ). bit i keep) z, f ∙ ap (λ (i : ℕ). bit i seen) z) at w
 

@@ -1,15 +1,11 @@
 -- A procedure's graph as it is written: the nodes that count as kept, and those that are reached, are held in masks.
-use Rattle.std.specs.Prelude.{ℕ, Bool, List, []}
-use Rattle.table.specs.Mask.{pick, bit}
+use Rattle.std.specs.Prelude.{ℕ, Bool, List}
+use Rattle.table.specs.Mask.{bit}
 use Rattle.table.specs.declared.Slot.{Slot}
 use Rattle.table.specs.declared.Task.{Task}
 use Rattle.table.specs.declared.Proc.{Proc}
 use Rattle.reached.specs.Reached.{is_reached}
-use Rattle.labels.specs.Graph.{top_text, slot_text, proc_text}
-
--- the task k, number i of the tasks that have the procedure as their top, if it is one of them
-abbrev pub top_if : Bool → ℕ → ℕ → Bool → List ℕ
-top_if several i k held = pick held (top_text several i k) []
+use Rattle.labels.specs.Graph.{slot_text, proc_text}
 
 abbrev pub mask_nodes : ℕ → ℕ → ℕ → List Slot → ℕ → List ℕ
 mask_nodes p keep seen = slot_text p (λ n. bit n keep) (λ n. bit n seen)

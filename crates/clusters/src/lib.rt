@@ -3,35 +3,34 @@
 
 #![tactic(auto)]
 
-ghost use Rattle.std.specs.Prelude.{◌≡◌, ◌*◌, ◌≤◌, eqb, get_or};
+ghost use Rattle.std.specs.Prelude.{◌≡◌, ◌≤◌, ◌<◌, eqb, get_or};
 ghost use Rattle.table.specs.Mask.{members, mask_of};
 ghost use Rattle.table.specs.Table.{no_task};
 ghost use Rattle.text.specs.Number.{digits};
-ghost use Rattle.text.specs.Reader.{concat_from};
-ghost use Rattle.put.specs.Put.{Put, PutField, FieldAt, LinesAt};
-ghost use Rattle.writer.specs.Table.{NodesIn, ProcIn};
+ghost use Rattle.put.specs.Put.{Put, PutField, FieldAt};
+ghost use Rattle.writer.specs.Table.{ProcIn};
 ghost use Rattle.labels.specs.Label.{SaysAt};
 ghost use Rattle.labels.specs.Graph.{top_text, tops_text, label_key, label_end, sizes_text, cluster_text, calls_text};
 ghost use Rattle.arcs.specs.Edges.{ArcAt, NodeAt};
-ghost use Rattle.clusters.specs.Clusters.{top_if, mask_nodes, mask_proc};
+ghost use Rattle.clusters.specs.Clusters.{mask_nodes, mask_proc};
 
 use dot::{put_callee, put_node};
-use put::put_text;
+use put::{put_rows, put_text};
 use put_fields::{put_count, put_list};
-use table::{Proc, Slot, Task};
+use table::{Proc, Task};
 
 // What stands before task number i from 0, and the task.
 fn put_top(out: &mut [u8], at: usize, several: bool, i: u8, k: u8) -> usize
     requires { FieldAt at }
     ensures { Put 18 out.old at (top_text several i k) out.new result }
 {
-    if i == 0 {
-        if several {
-            return put_count(out, at, b", top of tasks ", k);
-        }
-        return put_count(out, at, b", top of task ", k);
+    if i != 0 {
+        put_count(out, at, b", ", k)
+    } else if several {
+        put_count(out, at, b", top of tasks ", k)
+    } else {
+        put_count(out, at, b", top of task ", k)
     }
-    put_count(out, at, b", ", k)
 }
 
 // The tasks that have procedure p as their top, as a mask.
@@ -40,26 +39,10 @@ fn top_tasks(tasks: [Task; 4], n: u8, p: u8) -> u32
     ensures { result ≡ mask_of n (λ i. eqb (get_or tasks i no_task).top p) }
 {
     let mut m: u32 = 0;
-    let count = n as usize;
-    let mut i: usize = 0;
-    while i < count {
-        let x = tasks[i];
-        let yes = x.top == p;
-        m = masks::with(m, i, yes);
-        i += 1;
+    for i in 0..n as usize {
+        m = masks::with(m, i, tasks[i].top == p);
     }
     m
-}
-
-// Task k, number i from 0 of the tasks that have the procedure as their top, if it is one of them.
-fn put_top_if(out: &mut [u8], at: usize, several: bool, i: u8, k: u8, yes: bool) -> usize
-    requires { FieldAt at }
-    ensures { Put 18 out.old at (top_if several i k yes) out.new result }
-{
-    if yes {
-        return put_top(out, at, several, i, k);
-    }
-    at
 }
 
 // The tasks m.
@@ -71,12 +54,11 @@ fn put_tops(out: &mut [u8], at: usize, m: u32) -> usize
     let several = 1 < n;
     let mut a = at;
     let mut i: u8 = 0;
-    let mut k: u8 = 0;
-    while k < 32 {
-        let yes = flow::has(m, k);
-        a = put_top_if(out, a, several, i, k, yes);
-        i = arcs::next(i, yes);
-        k += 1;
+    for k in 0..32 {
+        if flow::has(m, k) {
+            a = put_top(out, a, several, i, k);
+            i += 1;
+        }
     }
     a
 }
@@ -124,31 +106,14 @@ fn put_cluster(out: &mut [u8], at: usize, closed: bool, tops: u32, p: u8) -> usi
     put_tops(out, b, tops)
 }
 
-// The nodes of procedure p; bit j of keep says whether node j counts as kept, and bit j of seen whether it is reached.
-fn put_nodes(
-    out: &mut [u8],
-    at: usize,
-    p: u8,
-    keep: u32,
-    seen: u32,
-    slots: [Slot; 32],
-    n: u8,
-) -> usize
-    requires { (LinesAt at) × (NodesIn slots n) }
-    ensures { Put (3576 * n) out.old at (concat_from (mask_nodes p keep seen slots) n 0) out.new result }
+// Node j of procedure p; bit j of keep says whether it counts as kept, and bit j of seen whether it is reached.
+fn put_marked(out: &mut [u8], at: usize, p: u8, keep: u32, seen: u32, q: &Proc, j: u8) -> usize
+    requires { (at ≤ 997000000) × (ProcIn q.now) × (j < q.now.nodes) }
+    ensures { Put 3576 out.old at (mask_nodes p keep seen q.now.slots j) out.new result }
 {
-    let mut a = at;
-    let mut j: u8 = 0;
-    while j < n {
-        let k = j as usize;
-        let s = slots[k];
-        let x = s.node;
-        let kept = flow::has(keep, j);
-        let there = flow::has(seen, j);
-        a = put_node(out, a, p, j, kept, there, x);
-        j += 1;
-    }
-    a
+    let kept = flow::has(keep, j);
+    let there = flow::has(seen, j);
+    put_node(out, at, p, j, kept, there, q.slots[j as usize].node)
 }
 
 // Procedure p, with its nodes.
@@ -169,8 +134,9 @@ pub fn put_proc(
     let seen = reached::nodes(q);
     let a = put_cluster(out, at, closed, tops, p);
     let b = put_sizes(out, a, closed, q.params, q.vars, q.drop);
-    let slots = q.slots;
-    let c = put_nodes(out, b, p, keep, seen, slots, q.nodes);
+    let c = put_rows::<3576, _>(out, b, q.nodes as usize, |out, at, j| {
+        put_marked(out, at, p, keep, seen, &q, j as u8)
+    });
     put_text(out, c, b"}\n")
 }
 
@@ -179,15 +145,7 @@ pub fn put_calls(out: &mut [u8], at: usize, p: u8, q: Proc) -> usize
     requires { (at ≤ 800000000) × (ProcIn q) }
     ensures { Put 1728 out.old at (calls_text p q) out.new result }
 {
-    let n = q.nodes;
-    let mut a = at;
-    let mut j: u8 = 0;
-    while j < n {
-        let k = j as usize;
-        let s = q.slots[k];
-        let x = s.node;
-        a = put_callee(out, a, p, j, x);
-        j += 1;
-    }
-    a
+    put_rows::<54, _>(out, at, q.nodes as usize, |out, at, j| {
+        put_callee(out, at, p, j as u8, q.slots[j].node)
+    })
 }

@@ -44,7 +44,7 @@ fn put_box(out: &mut [u8], at: usize, p: u8, n: u8, kept: bool, seen: bool, x: N
 {
     let a = put_name(out, at, p, n);
     let b = put_count(out, a, b" [label=\"", n);
-    let c = put_byte(out, b, 32);
+    let c = put_byte(out, b, b' ');
     let d = put_says(out, c, x);
     let e = put_box_mark(out, d, seen);
     put_box_end(out, e, kept)
@@ -72,43 +72,18 @@ fn put_arcs(out: &mut [u8], at: usize, p: u8, n: u8, x: Node) -> usize
     ensures { Put 3456 out.old at (arcs_text p n x) out.new result }
 {
     match x {
-        Node::Absent => at,
-        Node::Start { to } => put_plain(out, at, p, n, to),
-        Node::Set {
-            var: _,
-            op: _,
-            a: _,
-            b: _,
-            to,
-        } => put_plain(out, at, p, n, to),
-        Node::Test {
-            op: _,
-            a: _,
-            b: _,
-            yes,
-            no,
-        } => put_arms(out, at, p, n, yes, no),
-        Node::Read { var: _, to } => put_plain(out, at, p, n, to),
-        Node::Call {
-            callee: _,
-            args: _,
-            to,
-        } => put_plain(out, at, p, n, to),
-        Node::Wait { sem: _, to } => put_plain(out, at, p, n, to),
-        Node::Signal { sem: _, to } => put_plain(out, at, p, n, to),
-        Node::Send {
-            queue: _,
-            var: _,
-            to,
-        } => put_plain(out, at, p, n, to),
-        Node::Recv {
-            queue: _,
-            var: _,
-            to,
-        } => put_plain(out, at, p, n, to),
-        Node::Assert { var: _, to } => put_plain(out, at, p, n, to),
-        Node::Out { var: _, to } => put_plain(out, at, p, n, to),
-        Node::Return => at,
+        Node::Absent | Node::Return => at,
+        Node::Test { yes, no, .. } => put_arms(out, at, p, n, yes, no),
+        Node::Start { to }
+        | Node::Set { to, .. }
+        | Node::Read { to, .. }
+        | Node::Call { to, .. }
+        | Node::Wait { to, .. }
+        | Node::Signal { to, .. }
+        | Node::Send { to, .. }
+        | Node::Recv { to, .. }
+        | Node::Assert { to, .. }
+        | Node::Out { to, .. } => put_plain(out, at, p, n, to),
     }
 }
 
@@ -130,42 +105,7 @@ pub fn put_callee(out: &mut [u8], at: usize, p: u8, n: u8, x: Node) -> usize
     ensures { Put 54 out.old at (callee_text p n (act x)) out.new result }
 {
     match x {
-        Node::Absent => at,
-        Node::Start { to: _ } => at,
-        Node::Set {
-            var: _,
-            op: _,
-            a: _,
-            b: _,
-            to: _,
-        } => at,
-        Node::Test {
-            op: _,
-            a: _,
-            b: _,
-            yes: _,
-            no: _,
-        } => at,
-        Node::Read { var: _, to: _ } => at,
-        Node::Call {
-            callee,
-            args: _,
-            to: _,
-        } => put_call_edge(out, at, p, n, callee),
-        Node::Wait { sem: _, to: _ } => at,
-        Node::Signal { sem: _, to: _ } => at,
-        Node::Send {
-            queue: _,
-            var: _,
-            to: _,
-        } => at,
-        Node::Recv {
-            queue: _,
-            var: _,
-            to: _,
-        } => at,
-        Node::Assert { var: _, to: _ } => at,
-        Node::Out { var: _, to: _ } => at,
-        Node::Return => at,
+        Node::Call { callee, .. } => put_call_edge(out, at, p, n, callee),
+        _ => at,
     }
 }

@@ -13,49 +13,8 @@ ghost use Rattle.graphs.specs.Graphs.{mask_procs, proc_calls, mask_kept, Drawabl
 
 use captions::put_caption;
 use clusters::{put_calls, put_proc};
-use put::put_text;
-use table::{Proc, Table, Task};
-
-fn put_procs(
-    out: &mut [u8],
-    at: usize,
-    closed: bool,
-    tasks: [Task; 4],
-    count: u8,
-    keep: [u32; 8],
-    procs: [Proc; 8],
-    n: u8,
-) -> usize
-    requires { (TableAt at) × (count ≤ 4) × (ProcsIn procs n) }
-    ensures { Put (115177 * n) out.old at (concat_from (mask_procs closed tasks count keep procs) n 0) out.new result }
-{
-    let mut a = at;
-    let mut i: u8 = 0;
-    while i < n {
-        let k = i as usize;
-        let q = procs[k];
-        let m = keep[k];
-        a = put_proc(out, a, closed, tasks, count, i, m, q);
-        i += 1;
-    }
-    a
-}
-
-// The arcs from all calls to their callees.
-fn put_all_calls(out: &mut [u8], at: usize, procs: [Proc; 8], n: u8) -> usize
-    requires { (TableAt at) × (ProcsIn procs n) }
-    ensures { Put (1728 * n) out.old at (concat_from (proc_calls procs) n 0) out.new result }
-{
-    let mut a = at;
-    let mut i: u8 = 0;
-    while i < n {
-        let k = i as usize;
-        let q = procs[k];
-        a = put_calls(out, a, i, q);
-        i += 1;
-    }
-    a
-}
+use put::{put_rows, put_text};
+use table::Table;
 
 fn put_opening(out: &mut [u8]) -> usize
     ensures { Put 125 out.old 0 opening out.new result }
@@ -76,10 +35,14 @@ pub fn put_graph(out: &mut [u8], t: Table, keep: [u32; 8]) -> usize
 {
     let a = put_opening(out);
     let b = put_caption(out, a, t);
-    let tasks = t.task;
-    let procs = t.proc;
-    let c = put_procs(out, b, t.closed, tasks, t.tasks, keep, procs, t.procs);
-    let d = put_all_calls(out, c, procs, t.procs);
+    let c = put_rows::<115177, _>(out, b, t.procs as usize, |out, at, i| {
+        put_proc(
+            out, at, t.closed, t.task, t.tasks, i as u8, keep[i], t.proc[i],
+        )
+    });
+    let d = put_rows::<1728, _>(out, c, t.procs as usize, |out, at, i| {
+        put_calls(out, at, i as u8, t.proc[i])
+    });
     put_text(out, d, b"}\n")
 }
 

@@ -1,4 +1,3 @@
 pub mod Label
-pub mod LabelLaws
 pub mod Graph
 pub mod ReasonLaws

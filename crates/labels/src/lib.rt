@@ -4,14 +4,13 @@
 #![tactic(auto)]
 
 ghost use Rattle.std.specs.Prelude.{◌≡◌, ◌++◌, ◌*◌, ◌≤◌, ◌<◌, length};
-ghost use Rattle.table.specs.Table.{arg_at};
 ghost use Rattle.text.specs.Number.{bytes, digits};
 ghost use Rattle.text.specs.Reader.{concat_from};
 ghost use Rattle.put.specs.Put.{Put, ValueAt, FieldAt};
 ghost use Rattle.node_lines.specs.NodeLines.{FewArgs};
 ghost use Rattle.labels.specs.Label.{variable_text, argument_text, operation_text, set_text, call_text, pass_text, node_says, SaysAt};
 
-use put::{put_byte, put_text};
+use put::{put_byte, put_rows, put_text};
 use put_fields::{put_count, put_op_value, put_operand_value};
 use table::{Args, Node, Op, Operand};
 
@@ -21,33 +20,17 @@ fn put_variable(out: &mut [u8], at: usize, v: u8) -> usize
     ensures { Put 11 out.old at (variable_text v) out.new result }
 {
     if v == table::REMOVED {
-        return put_byte(out, at, 45);
+        return put_byte(out, at, b'-');
     }
     put_operand_value(out, at, Operand::Var(v))
 }
 
-fn arg_at(x: Args, i: u8) -> u8
-    requires { i < 4 }
-    ensures { result ≡ arg_at x i }
+// A blank and an argument.
+fn put_argument(out: &mut [u8], at: usize, v: u8) -> usize
+    requires { FieldAt at }
+    ensures { Put 12 out.old at (bytes " " ++ variable_text v) out.new result }
 {
-    if i == 0 {
-        return x.a0;
-    }
-    if i == 1 {
-        return x.a1;
-    }
-    if i == 2 {
-        return x.a2;
-    }
-    x.a3
-}
-
-fn put_argument(out: &mut [u8], at: usize, x: Args, i: u8) -> usize
-    requires { (FieldAt at) × (i < 4) }
-    ensures { Put 12 out.old at (argument_text x i) out.new result }
-{
-    let a = put_byte(out, at, 32);
-    let v = arg_at(x, i);
+    let a = put_byte(out, at, b' ');
     put_variable(out, a, v)
 }
 
@@ -55,14 +38,13 @@ fn put_arguments(out: &mut [u8], at: usize, x: Args) -> usize
     requires { (at ≤ 1000000320) × (x.len ≤ 4) }
     ensures { Put (12 * x.len) out.old at (concat_from (argument_text x) x.len 0) out.new result }
 {
-    let n = x.len;
-    let mut p = at;
-    let mut i: u8 = 0;
-    while i < n {
-        p = put_argument(out, p, x, i);
-        i += 1;
-    }
-    p
+    let args = [x.a0, x.a1, x.a2, x.a3];
+    put_rows::<12, _>(
+        out,
+        at,
+        x.len as usize,
+        |out, at, i| put_argument(out, at, args[i]),
+    )
 }
 
 // An operation between its operands.
@@ -71,9 +53,9 @@ fn put_operation(out: &mut [u8], at: usize, o: Op, x: Operand, y: Operand) -> us
     ensures { Put 27 out.old at (operation_text o x y) out.new result }
 {
     let a = put_operand_value(out, at, x);
-    let b = put_byte(out, a, 32);
+    let b = put_byte(out, a, b' ');
     let c = put_op_value(out, b, o);
-    let d = put_byte(out, c, 32);
+    let d = put_byte(out, c, b' ');
     put_operand_value(out, d, y)
 }
 
@@ -125,7 +107,7 @@ fn put_pass(out: &mut [u8], at: usize, word: &[u8], q: u8, v: u8) -> usize
     ensures { Put 64 out.old at (pass_text word.now q v) out.new result }
 {
     let a = put_count(out, at, word, q);
-    let b = put_byte(out, a, 32);
+    let b = put_byte(out, a, b' ');
     put_variable(out, b, v)
 }
 
@@ -144,33 +126,17 @@ pub fn put_says(out: &mut [u8], at: usize, x: Node) -> usize
 {
     match x {
         Node::Absent => at,
-        Node::Start { to: _ } => put_word(out, at, b"start"),
-        Node::Set {
-            var,
-            op,
-            a,
-            b,
-            to: _,
-        } => put_set(out, at, var, op, a, b),
-        Node::Test {
-            op,
-            a,
-            b,
-            yes: _,
-            no: _,
-        } => put_test(out, at, op, a, b),
-        Node::Read { var, to: _ } => put_number(out, at, b"read v", var),
-        Node::Call {
-            callee,
-            args,
-            to: _,
-        } => put_call(out, at, callee, args),
-        Node::Wait { sem, to: _ } => put_number(out, at, b"wait sem ", sem),
-        Node::Signal { sem, to: _ } => put_number(out, at, b"signal sem ", sem),
-        Node::Send { queue, var, to: _ } => put_pass(out, at, b"send queue ", queue, var),
-        Node::Recv { queue, var, to: _ } => put_pass(out, at, b"recv queue ", queue, var),
-        Node::Assert { var, to: _ } => put_use(out, at, b"assert ", var),
-        Node::Out { var, to: _ } => put_use(out, at, b"out ", var),
+        Node::Start { .. } => put_word(out, at, b"start"),
+        Node::Set { var, op, a, b, .. } => put_set(out, at, var, op, a, b),
+        Node::Test { op, a, b, .. } => put_test(out, at, op, a, b),
+        Node::Read { var, .. } => put_number(out, at, b"read v", var),
+        Node::Call { callee, args, .. } => put_call(out, at, callee, args),
+        Node::Wait { sem, .. } => put_number(out, at, b"wait sem ", sem),
+        Node::Signal { sem, .. } => put_number(out, at, b"signal sem ", sem),
+        Node::Send { queue, var, .. } => put_pass(out, at, b"send queue ", queue, var),
+        Node::Recv { queue, var, .. } => put_pass(out, at, b"recv queue ", queue, var),
+        Node::Assert { var, .. } => put_use(out, at, b"assert ", var),
+        Node::Out { var, .. } => put_use(out, at, b"out ", var),
         Node::Return => put_word(out, at, b"return"),
     }
 }

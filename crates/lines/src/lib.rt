@@ -9,7 +9,7 @@ ghost use Rattle.lines.specs.Lines.{pair_text, counts_text, head_text, blank_tex
 ghost use Rattle.node_lines.specs.NodeLines.{node_bytes, FewArgs};
 
 use node_lines::fill_node;
-use put::{put_byte, put_bytes, put_text};
+use put::{put_byte, put_filled, put_text};
 use put_fields::{put_count, put_last_list};
 use table::Node;
 
@@ -19,7 +19,7 @@ pub fn put_pair_line(out: &mut [u8], at: usize, first: &[u8], i: u8, second: &[u
 {
     let a = put_count(out, at, first, i);
     let b = put_count(out, a, second, n);
-    put_byte(out, b, 10)
+    put_byte(out, b, b'\n')
 }
 
 pub fn put_head_line(out: &mut [u8], at: usize, trap: u8, closed: bool) -> usize
@@ -48,7 +48,7 @@ pub fn put_counts_line(
     let b = put_count(out, a, b" procs=", procs);
     let c = put_count(out, b, b" sems=", sems);
     let d = put_count(out, c, b" queues=", queues);
-    put_byte(out, d, 10)
+    put_byte(out, d, b'\n')
 }
 
 // A queue line from its blank field on.
@@ -56,13 +56,13 @@ fn put_blank(out: &mut [u8], at: usize, closed: bool, blank: bool) -> usize
     requires { FieldAt at }
     ensures { Put 16 out.old at (blank_text closed blank) out.new result }
 {
-    if closed {
-        if blank {
-            return put_text(out, at, b" blank=yes\n");
-        }
-        return put_text(out, at, b" blank=no\n");
+    if !closed {
+        put_byte(out, at, b'\n')
+    } else if blank {
+        put_text(out, at, b" blank=yes\n")
+    } else {
+        put_text(out, at, b" blank=no\n")
     }
-    put_byte(out, at, 10)
 }
 
 pub fn put_queue_line(out: &mut [u8], at: usize, closed: bool, i: u8, n: u8, blank: bool) -> usize
@@ -82,7 +82,7 @@ fn put_drop(out: &mut [u8], at: usize, closed: bool, drop: u8) -> usize
     if closed {
         return put_last_list(out, at, b" drop=", drop as u32);
     }
-    put_byte(out, at, 10)
+    put_byte(out, at, b'\n')
 }
 
 pub fn put_proc_line(
@@ -113,7 +113,5 @@ pub fn put_node(out: &mut [u8], at: usize, j: u8, x: Node) -> usize
     if at + 256 <= out.len() {
         return fill_node(out, at, j, x);
     }
-    let mut t = [0u8; 256];
-    let k = fill_node(&mut t, 0, j, x);
-    put_bytes(out, at, &t[..k])
+    put_filled::<256, _>(out, at, |t| fill_node(t, 0, j, x))
 }

@@ -26,7 +26,7 @@ fn fill_arc(out: &mut [u8], at: usize, to: u32) -> usize
 {
     let a = fill_text(out, at, b" to=");
     let b = fill_list(out, a, to);
-    fill_byte(out, b, 10)
+    fill_byte(out, b, b'\n')
 }
 
 fn fill_start(out: &mut [u8], at: usize, j: u8, to: u32) -> usize
@@ -127,7 +127,7 @@ fn fill_arcs(out: &mut [u8], at: usize, yes: u32, no: u32) -> usize
     let b = fill_list(out, a, yes);
     let c = fill_text(out, b, b" no=");
     let d = fill_list(out, c, no);
-    fill_byte(out, d, 10)
+    fill_byte(out, d, b'\n')
 }
 
 fn fill_test(

@@ -1,4 +1,5 @@
 pub mod Put
+pub mod Calls
 pub mod PutLaws
 pub mod RowLaws
 pub mod Lists

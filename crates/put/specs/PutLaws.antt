@@ -1,6 +1,6 @@
 -- Laws of writing: one piece after another, a field, a line.
-use Rattle.std.specs.Prelude.{ℕ, ◌+◌, ◌-◌, ◌/◌, ◌%◌, ◌≤◌, ◌<◌, ◌≡◌, refl, List, [], ◌∷◌, ◌++◌, length, set, get_or, take, drop}
-use Rattle.std.proofs.Common.{sym, ◌∙◌, ap, append_assoc, arith, add-one, length-append, take-append-drop, length-take, take-suc, take_all, take_at, length-take-le}
+use Rattle.std.specs.Prelude.{ℕ, ◌+◌, ◌-◌, ◌/◌, ◌%◌, ◌≤◌, ◌<◌, ◌≡◌, refl, List, [], ◌∷◌, ◌++◌, length, take, drop}
+use Rattle.std.proofs.Common.{sym, ◌∙◌, ap, append_assoc, arith, length-append, take-append-drop, take_at, length-take-le}
 use Rattle.std.proofs.lemmas.List.Edits.{sets, sets-eq}
 use Rattle.std.proofs.Math.Seq.{length-sets, set_out}
 use Rattle.table.specs.Places.{sets_append, sets_out}
@@ -25,16 +25,12 @@ pub put_tight : {k : ℕ} {l m t : List ℕ} {at p : ℕ} → Put k l at t m p �
 put_tight a = record { few = omega arith; bytes = a.bytes; same = a.same; next = a.next }
 
 -- a text written at the start of a buffer z is written on from there
-pub put_filled : {k j : ℕ} {l z m t o : List ℕ} {at n r : ℕ} → k ≤ length z → Put k z 0 t m n → Put j l at (take n m) o r → Put k l at t o r
+pub put_filled : {k j : ℕ} {l z m t o : List ℕ} {at n r : ℕ} → n ≤ length z → Put k z 0 t m n → Put j l at (take n m) o r → Put k l at t o r
 put_filled {z = z} {m = m} {t = t} {n = n} h a b =
-    let f : length t ≤ length z = omega (arith, a.few) in
     let e : n ≡ length t = omega (arith, a.next) in
     let w : take n m ≡ t = ap (λ (x : List ℕ). take n x) (a.bytes ∙ sets-eq t z 0 (omega arith)) ∙ take_at t _ n (sym e) in
     let c = rw w at b in
     record { few = a.few; bytes = c.bytes; same = c.same; next = c.next }
-
-pub filled_few : {j k : ℕ} {z m t : List ℕ} {n : ℕ} → Put k z 0 t m n → k ≤ j → length (take n m) ≤ j
-filled_few {m = m} {n = n} a h = omega (arith, length-take n m, a.few, a.next)
 
 -- a byte past the end
 pub put_past : {l : List ℕ} {at b : ℕ} → length l ≤ at → Put 1 l at (b ∷ []) l (at + 1)
@@ -50,27 +46,6 @@ put_cut {l} {m} {t} {at} {k} {r} h g a =
     let e : at + length (take n t) ≡ length l = omega (arith, length-take-le n t (omega arith)) in
     let b : sets l at t ≡ sets l at (take n t) = ap (sets l at) (sym (take-append-drop n t)) ∙ sets_append (take n t) (drop n t) l at ∙ sets_out (drop n t) (sets l at (take n t)) (at + length (take n t)) (omega (arith, length-sets l at (take n t))) in
     record { few = omega arith; bytes = a.bytes ∙ sym b; same = a.same; next = refl }
-
--- ---- a text, byte by byte
-pub record Copying (l : List ℕ) (at : ℕ) (t m : List ℕ) (i : ℕ) : Type 0 where
-  pub within : i ≤ length t
-  pub so_far : m ≡ sets l at (take i t)
-
-pub copying_start : {l t : List ℕ} {at : ℕ} → Copying l at t l 0
-copying_start = record { within = omega arith; so_far = refl }
-
-pub copying_same : {l t m : List ℕ} {at i : ℕ} → Copying l at t m i → length m ≡ length l
-copying_same {l} {t} {m} {at} {i} a = ap length a.so_far ∙ length-sets l at (take i t)
-
-pub copying_turn : {l t m : List ℕ} {at i : ℕ} → Copying l at t m i → i < length t → Copying l at t (set m (at + i) (get_or t i 0)) (i + 1)
-copying_turn {l} {t} {m} {at} {i} a h = record {
-  within = omega arith;
-  so_far = rw (add-one i, take-suc t i 0 h, sets_append (take i t) (get_or t i 0 ∷ []) l at, ← a.so_far, length-take-le i t (omega arith));
-}
-
-pub copying_end : {l t m : List ℕ} {at i : ℕ} → Copying l at t m i → length t ≤ i → Put (length t) l at t m (at + length t)
-copying_end {l} {t} {m} {at} {i} a h = record
-    { few = omega arith; bytes = a.so_far ∙ ap (sets l at) (take_all i t h); same = copying_same a; next = refl }
 
 -- ---- small numbers
 

@@ -3,11 +3,13 @@
 
 #![tactic(auto)]
 
-ghost use Rattle.std.specs.Prelude.{◌∷◌, [], ◌+◌, ◌*◌, ◌≤◌, ◌<◌, length};
+ghost use Rattle.std.specs.Prelude.{◌∷◌, [], ◌+◌, ◌*◌, ◌≤◌, ◌<◌, length, ℕ, List};
+ghost use Rattle.text.specs.Reader.{concat_from};
 ghost use Rattle.text.specs.Number.{digits};
 ghost use Rattle.text.specs.Value.{spell_variable};
 ghost use Rattle.text.specs.Format.{name_of};
 ghost use Rattle.put.specs.Put.{Put, ByteAt, DigitsAt};
+ghost use Rattle.put.specs.Calls.{TakesRows, ShortRows, WritesRows, TakesBuffer, FillsShort, Fills};
 ghost use Rattle.masks.specs.Lowest.{above};
 ghost use Rattle.put.specs.Lists.{further, ten_of, items_text, list_text};
 
@@ -17,7 +19,6 @@ pub fn put_byte(out: &mut [u8], at: usize, b: u8) -> usize
 {
     if at < out.len() {
         out[at] = b;
-        return at + 1;
     }
     at + 1
 }
@@ -26,12 +27,9 @@ pub fn fill_text(out: &mut [u8], at: usize, t: &[u8]) -> usize
     requires { at + length t.now ≤ length out.old }
     ensures { Put (length t.now) out.old at t.now out.new result }
 {
-    let mut i = 0;
-    while i < t.len() {
-        out[at + i] = t[i];
-        i += 1;
-    }
-    at + t.len()
+    let end = at + t.len();
+    out[at..end].copy_from_slice(t);
+    end
 }
 
 pub fn fill_byte(out: &mut [u8], at: usize, b: u8) -> usize
@@ -72,24 +70,38 @@ pub fn fill_small(out: &mut [u8], at: usize, n: u8) -> usize
     ensures { Put 3 out.old at (digits n) out.new result }
 {
     if n < 10 {
-        return fill_byte(out, at, 48 + n);
+        return fill_byte(out, at, b'0' + n);
     }
     if n < 100 {
-        let a = fill_byte(out, at, 48 + n / 10);
-        return fill_byte(out, a, 48 + n % 10);
+        let a = fill_byte(out, at, b'0' + n / 10);
+        return fill_byte(out, a, b'0' + n % 10);
     }
-    let a = fill_byte(out, at, 48 + n / 100);
-    let b = fill_byte(out, a, 48 + n / 10 % 10);
-    fill_byte(out, b, 48 + n % 10)
+    let a = fill_byte(out, at, b'0' + n / 100);
+    let b = fill_byte(out, a, b'0' + n / 10 % 10);
+    fill_byte(out, b, b'0' + n % 10)
+}
+
+// What fill writes at the start of a buffer of N bytes, as far as out reaches.
+pub fn put_filled<const N: usize, F: Fn(&mut [u8]) -> usize>(
+    out: &mut [u8],
+    at: usize,
+    fill: F,
+) -> usize
+    requires place { (ByteAt at) × (N ≤ 256) }
+    requires takes { TakesBuffer (F.pre fill) N }
+    requires short { FillsShort (F.post fill) N }
+    ensures { (k : ℕ) (t : List ℕ) → Fills (F.post fill) N k t → Put k out.old at t out.new result }
+{
+    let mut t = [0u8; N];
+    let k = fill(&mut t);
+    put_bytes(out, at, &t[..k])
 }
 
 fn put_digits(out: &mut [u8], at: usize, n: u8) -> usize
     requires { DigitsAt at }
     ensures { Put 3 out.old at (digits n) out.new result }
 {
-    let mut t = [0u8; 3];
-    let k = fill_small(&mut t, 0, n);
-    put_text(out, at, &t[..k])
+    put_filled::<3, _>(out, at, |t| fill_small(t, 0, n))
 }
 
 // As far as the buffer reaches: one digit, which is the most, is compiled into the lines that use it.
@@ -98,7 +110,7 @@ pub fn put_small(out: &mut [u8], at: usize, n: u8) -> usize
     ensures { Put 3 out.old at (digits n) out.new result }
 {
     if n < 10 {
-        return put_byte(out, at, 48 + n);
+        return put_byte(out, at, b'0' + n);
     }
     put_digits(out, at, n)
 }
@@ -109,7 +121,7 @@ pub fn fill_variable(out: &mut [u8], at: usize, v: u8) -> usize
     ensures { Put 3 out.old at (spell_variable (name_of v)) out.new result }
 {
     if v == table::REMOVED {
-        return fill_byte(out, at, 45);
+        return fill_byte(out, at, b'-');
     }
     fill_small(out, at, v)
 }
@@ -119,12 +131,12 @@ fn fill_item(out: &mut [u8], at: usize, t: u8, k: u8) -> usize
     requires { (at + 3 ≤ length out.old) × ((t < 10) × (k < 10)) }
     ensures { Put 3 out.old at (44 ∷ digits (t * 10 + k)) out.new result }
 {
-    let a = fill_byte(out, at, 44);
+    let a = fill_byte(out, at, b',');
     if t == 0 {
-        return fill_byte(out, a, 48 + k);
+        return fill_byte(out, a, b'0' + k);
     }
-    let b = fill_byte(out, a, 48 + t);
-    fill_byte(out, b, 48 + k)
+    let b = fill_byte(out, a, b'0' + t);
+    fill_byte(out, b, b'0' + k)
 }
 
 // The numbers in a mask of ten, each behind a comma, with t tens before.
@@ -135,9 +147,8 @@ fn fill_ten(out: &mut [u8], at: usize, t: u8, m: u32) -> usize
     let mut p = at;
     let mut rest = m;
     while rest != 0 {
-        let k = u32::trailing_zeros(rest);
-        p = fill_item(out, p, t, k as u8);
-        rest = rest & (rest - 1);
+        p = fill_item(out, p, t, rest.trailing_zeros() as u8);
+        rest &= rest - 1;
     }
     p
 }
@@ -152,7 +163,7 @@ fn fill_further(out: &mut [u8], at: usize, m: u32) -> usize
     let mut t: u8 = 0;
     while rest != 0 {
         p = fill_ten(out, p, t, rest % 1024);
-        rest = rest / 1024;
+        rest /= 1024;
         t += 1;
     }
     p
@@ -163,8 +174,7 @@ fn fill_items(out: &mut [u8], at: usize, m: u32) -> usize
     requires { (at + 96 ≤ length out.old) × (1 ≤ m) }
     ensures { Put 86 out.old at (items_text m) out.new result }
 {
-    let k = u32::trailing_zeros(m);
-    let p = fill_small(out, at, k as u8);
+    let p = fill_small(out, at, m.trailing_zeros() as u8);
     fill_further(out, p, m & (m - 1))
 }
 
@@ -176,4 +186,23 @@ pub fn fill_list(out: &mut [u8], at: usize, m: u32) -> usize
         return fill_text(out, at, b"none");
     }
     fill_items(out, at, m)
+}
+
+// n rows of at most MOST bytes each, one after another.
+pub fn put_rows<const MOST: usize, F: Fn(&mut [u8], usize, usize) -> usize>(
+    out: &mut [u8],
+    at: usize,
+    n: usize,
+    row: F,
+) -> usize
+    requires takes { TakesRows (F.pre row) MOST n at }
+    requires short { ShortRows (F.post row) MOST n }
+    ensures within { result ≤ at + MOST * n }
+    ensures rows { (f : ℕ → List ℕ) → WritesRows (F.post row) MOST n f → Put (MOST * n) out.old at (concat_from f n 0) out.new result }
+{
+    let mut p = at;
+    for i in 0..n {
+        p = row(out, p, i);
+    }
+    p
 }

@@ -2,7 +2,6 @@
 use Rattle.std.specs.Prelude.{ℕ, ◌≤◌, ◌≡◌, List, ◌∷◌}
 use Rattle.std.proofs.Common.{arith}
 use Rattle.table.specs.declared.Args.{Args}
-use Rattle.text.specs.Number.{bytes}
 use Rattle.text.specs.Value.{spell_variable, commas}
 use Rattle.text.specs.Format.{name_of}
 use Rattle.put.specs.Put.{Put}
@@ -11,9 +10,6 @@ use Rattle.put_fields.specs.Args.{args_text}
 
 abbrev arg : ℕ → List ℕ
 arg v = spell_variable (name_of v)
-
-pub args_none : {l m : List ℕ} {at r : ℕ} (x : Args) → x.len ≡ 0 → Put 4 l at (bytes "none") m r → Put 16 l at (args_text x) m r
-args_none x h a = rw h (put_more (omega arith) a)
 
 pub args_one : {l m : List ℕ} {at p : ℕ} (x : Args) → x.len ≡ 1 → Put 3 l at (arg x.a0) m p → Put 16 l at (args_text x) m p
 unfolding commas

@@ -30,13 +30,6 @@ pub number_four : {l k m : List ℕ} {at p r : ℕ} (n : ℕ) → 10000 ≤ n �
     → Put (length (digits n)) l at (digits n) m r
 number_four n h a b = put_more {k = length (digits (n / 10000)) + 4} (omega (arith, four_length n h)) (rw (four_digits n h) (put_after a b))
 
-pub two_twos : {l m k : List ℕ} {at p r : ℕ} (n : ℕ) → Put 2 l at (last_two (n / 100)) m p → Put 2 m p (last_two (n % 100)) k r → Put 4 l at (last_four n) k r
-two_twos n a b =
-    let p : n / 100 / 10 ≡ n / 1000 = omega arith in
-    let q : n % 100 / 10 ≡ n / 10 % 10 = omega arith in
-    let s : n % 100 % 10 ≡ n % 10 = omega arith in
-    rw (p, q, s) at (put_after a b)
-
 -- a number below 10,000
 pub few_one : {l m : List ℕ} {at r : ℕ} (n : ℕ) → n < 10 → Put 1 l at ((48 + n) ∷ []) m r → Put 4 l at (digits n) m r
 few_one n h a = rw (digits_small n h) (put_more (omega arith) a)
@@ -65,12 +58,6 @@ large_room at n g h = omega (arith, four_length n g)
 
 pub last_room : {l k : List ℕ} {at p : ℕ} (n : ℕ) → 10000 ≤ n → at + length (digits n) ≤ 1999999990 → Put (length (digits (n / 10000))) l at (digits (n / 10000)) k p → p ≤ 1999999990
 last_room n g h a = omega (arith, four_length n g, a.next)
-
-pub put_same : {j : ℕ} {l m t : List ℕ} {at r : ℕ} → Put j l at t m r → length m ≡ length l
-put_same a = a.same
-
-pub put_same_2 : {i j : ℕ} {l m n t u : List ℕ} {at p q r : ℕ} → Put i l at t m p → Put j m q u n r → length n ≡ length l
-put_same_2 a b = b.same ∙ a.same
 
 -- the count of a number's digits
 small_length : (n : ℕ) → n < 10 → length (digits n) ≡ 1

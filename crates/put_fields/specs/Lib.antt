@@ -1,4 +1,3 @@
 pub mod DigitLaws
-pub mod OperandLaws
 pub mod Args
 pub mod ArgLaws

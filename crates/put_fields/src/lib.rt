@@ -14,7 +14,7 @@ ghost use Rattle.put_fields.specs.DigitLaws.{last_two, last_four};
 ghost use Rattle.put_fields.specs.Args.{args_text};
 
 use put::{
-    fill_byte, fill_list, fill_small, fill_text, fill_variable, put_byte, put_bytes, put_small,
+    fill_byte, fill_list, fill_small, fill_text, fill_variable, put_byte, put_filled, put_small,
     put_text,
 };
 use table::{Args, Op, Operand};
@@ -24,8 +24,8 @@ fn fill_two(out: &mut [u8], at: usize, n: u32) -> usize
     requires { (at + 2 ≤ length out.old) × (n < 100) }
     ensures { Put 2 out.old at (last_two n) out.new result }
 {
-    let a = fill_byte(out, at, (48 + n / 10) as u8);
-    fill_byte(out, a, (48 + n % 10) as u8)
+    let a = fill_byte(out, at, b'0' + (n / 10) as u8);
+    fill_byte(out, a, b'0' + (n % 10) as u8)
 }
 
 // The last four digits of a number, zeros among them.
@@ -43,13 +43,13 @@ fn fill_few(out: &mut [u8], at: usize, n: u32) -> usize
     ensures { Put 4 out.old at (digits n) out.new result }
 {
     if n < 10 {
-        return fill_byte(out, at, (48 + n) as u8);
+        return fill_byte(out, at, b'0' + n as u8);
     }
     if n < 100 {
         return fill_two(out, at, n);
     }
     if n < 1000 {
-        let a = fill_byte(out, at, (48 + n / 100) as u8);
+        let a = fill_byte(out, at, b'0' + (n / 100) as u8);
         return fill_two(out, a, n % 100);
     }
     fill_four(out, at, n)
@@ -77,18 +77,14 @@ fn put_few(out: &mut [u8], at: usize, n: u64) -> usize
     requires { (at ≤ 1999999990) × (n < 10000) }
     ensures { Put (length (digits n)) out.old at (digits n) out.new result }
 {
-    let mut t = [0u8; 4];
-    let k = fill_few(&mut t, 0, n as u32);
-    put_text(out, at, &t[..k])
+    put_filled::<4, _>(out, at, |t| fill_few(t, 0, n as u32))
 }
 
 fn put_four(out: &mut [u8], at: usize, n: u64) -> usize
     requires { (at ≤ 1999999990) × (n < 10000) }
     ensures { Put 4 out.old at (last_four n) out.new result }
 {
-    let mut t = [0u8; 4];
-    let k = fill_four(&mut t, 0, n as u32);
-    put_text(out, at, &t[..k])
+    put_filled::<4, _>(out, at, |t| fill_four(t, 0, n as u32))
 }
 
 // The decimal digits of any number.
@@ -108,21 +104,18 @@ pub fn fill_constant(out: &mut [u8], at: usize, c: i32) -> usize
     requires { at + 13 ≤ length out.old }
     ensures { Put 11 out.old at (spell_operand (Const c)) out.new result }
 {
-    let b = values::bits_of(c);
-    if b < 2147483648 {
-        return fill_number(out, at, b);
+    if c < 0 {
+        let a = fill_byte(out, at, b'-');
+        return fill_number(out, a, c.unsigned_abs());
     }
-    let a = fill_byte(out, at, 45);
-    fill_number(out, a, 4294967295 - b + 1)
+    fill_number(out, at, c.unsigned_abs())
 }
 
 pub fn put_constant(out: &mut [u8], at: usize, c: i32) -> usize
     requires { ValueAt at }
     ensures { Put 11 out.old at (spell_operand (Const c)) out.new result }
 {
-    let mut t = [0u8; 13];
-    let k = fill_constant(&mut t, 0, c);
-    put_text(out, at, &t[..k])
+    put_filled::<13, _>(out, at, |t| fill_constant(t, 0, c))
 }
 
 pub fn fill_operand(out: &mut [u8], at: usize, o: Operand) -> usize
@@ -131,7 +124,7 @@ pub fn fill_operand(out: &mut [u8], at: usize, o: Operand) -> usize
 {
     match o {
         Operand::Var(v) => {
-            let a = fill_byte(out, at, 118);
+            let a = fill_byte(out, at, b'v');
             fill_small(out, a, v)
         }
         Operand::Const(c) => fill_constant(out, at, c),
@@ -142,9 +135,7 @@ pub fn put_operand_value(out: &mut [u8], at: usize, o: Operand) -> usize
     requires { ValueAt at }
     ensures { Put 11 out.old at (spell_operand o) out.new result }
 {
-    let mut t = [0u8; 13];
-    let k = fill_operand(&mut t, 0, o);
-    put_text(out, at, &t[..k])
+    put_filled::<13, _>(out, at, |t| fill_operand(t, 0, o))
 }
 
 pub fn fill_op(out: &mut [u8], at: usize, o: Op) -> usize
@@ -167,18 +158,14 @@ pub fn put_op_value(out: &mut [u8], at: usize, o: Op) -> usize
     requires { ValueAt at }
     ensures { Put 3 out.old at (op_word o) out.new result }
 {
-    let mut t = [0u8; 3];
-    let k = fill_op(&mut t, 0, o);
-    put_text(out, at, &t[..k])
+    put_filled::<3, _>(out, at, |t| fill_op(t, 0, o))
 }
 
 pub fn put_list_value(out: &mut [u8], at: usize, m: u32) -> usize
     requires { ValueAt at }
     ensures { Put 86 out.old at (list_text m) out.new result }
 {
-    let mut t = [0u8; 96];
-    let k = fill_list(&mut t, 0, m);
-    put_bytes(out, at, &t[..k])
+    put_filled::<96, _>(out, at, |t| fill_list(t, 0, m))
 }
 
 // A comma and a further argument.
@@ -186,7 +173,7 @@ fn fill_further(out: &mut [u8], at: usize, v: u8) -> usize
     requires { at + 4 ≤ length out.old }
     ensures { Put 4 out.old at (44 ∷ spell_variable (name_of v)) out.new result }
 {
-    let a = fill_byte(out, at, 44);
+    let a = fill_byte(out, at, b',');
     fill_variable(out, a, v)
 }
 
@@ -243,5 +230,5 @@ pub fn put_last_list(out: &mut [u8], at: usize, key: &[u8], to: u32) -> usize
     ensures { PutField (length key.now + 87) out.old at key.now (list_text to ++ (10 ∷ [])) out.new result }
 {
     let a = put_list(out, at, key, to);
-    put_byte(out, a, 10)
+    put_byte(out, a, b'\n')
 }

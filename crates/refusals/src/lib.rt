@@ -11,5 +11,5 @@ pub fn put_refused(out: &mut [u8], n: u8, line: usize) -> usize
 {
     let a = put_fields::put_count(out, 0, b"refused=", n);
     let b = put_fields::put_size(out, a, b" line=", line);
-    put::put_byte(out, b, 10)
+    put::put_byte(out, b, b'\n')
 }

@@ -12,7 +12,7 @@ ghost use Rattle.report.specs.Rows.{Shown, Reportable};
 
 use lines::put_pair_line;
 use machine::{Entries, Running, State};
-use put::put_byte;
+use put::{put_byte, put_rows};
 use put_fields::{put_count, put_size};
 use report_steps::put_steps;
 use report_tasks::{put_tasks, variable_counts};
@@ -26,22 +26,7 @@ fn put_answer_line(out: &mut [u8], at: usize, r: Running) -> usize
     let a = put_size(out, at, b"steps=", r.steps);
     let b = put_size(out, a, b" used=", r.used);
     let c = put_count(out, b, b" stop=", r.stop);
-    put_byte(out, c, 10)
-}
-
-fn put_sems(out: &mut [u8], at: usize, sems: [u8; 8], n: u8) -> usize
-    requires { (at ≤ 700000000) × (n ≤ 8) }
-    ensures { Put (40 * n) out.old at (concat_from (λ i. sem_line i (sem_count sems i)) n 0) out.new result }
-{
-    let mut p = at;
-    let mut i: u8 = 0;
-    while i < n {
-        let k = i as usize;
-        let c = sems[k];
-        p = put_pair_line(out, p, b"sem=", i, b" count=", c);
-        i += 1;
-    }
-    p
+    put_byte(out, c, b'\n')
 }
 
 fn put_queue_line(out: &mut [u8], at: usize, i: u8, x: Entries) -> usize
@@ -49,23 +34,7 @@ fn put_queue_line(out: &mut [u8], at: usize, i: u8, x: Entries) -> usize
     ensures { Put 3090 out.old at (queue_line i x) out.new result }
 {
     let a = put_count(out, at, b"queue=", i);
-    let items = x.items;
-    put_values_line(out, a, b" entries=", &items, x.len)
-}
-
-fn put_queues(out: &mut [u8], at: usize, queues: [Entries; 8], n: u8) -> usize
-    requires { (at ≤ 800000000) × (n ≤ 8) }
-    ensures { Put (3090 * n) out.old at (concat_from (λ i. queue_line i (entries_at queues i)) n 0) out.new result }
-{
-    let mut p = at;
-    let mut i: u8 = 0;
-    while i < n {
-        let k = i as usize;
-        let x = queues[k];
-        p = put_queue_line(out, p, i, x);
-        i += 1;
-    }
-    p
+    put_values_line(out, a, b" entries=", &x.items, x.len)
 }
 
 // A state: its tasks, semaphores and queues.
@@ -73,16 +42,14 @@ pub fn put_state(out: &mut [u8], at: usize, t: Table, s: State) -> usize
     requires { (at ≤ 600000000) × Shown t s }
     ensures { Put 124720 out.old at (state_lines t s) out.new result }
 {
-    let procs = t.proc;
-    let counts = variable_counts(procs);
-    let depth = s.depth;
-    let lost = s.lost;
-    let frames = s.frames;
-    let a = put_tasks(out, at, t.tasks, depth, lost, frames, counts);
-    let sems = s.sems;
-    let b = put_sems(out, a, sems, t.sems);
-    let queues = s.queues;
-    put_queues(out, b, queues, t.queues)
+    let counts = variable_counts(t.proc);
+    let a = put_tasks(out, at, t.tasks, s.depth, s.lost, s.frames, counts);
+    let b = put_rows::<40, _>(out, a, t.sems as usize, |out, at, i| {
+        put_pair_line(out, at, b"sem=", i as u8, b" count=", s.sems[i])
+    });
+    put_rows::<3090, _>(out, b, t.queues as usize, |out, at, i| {
+        put_queue_line(out, at, i as u8, s.queues[i])
+    })
 }
 
 // The report of a run, from the buffer's start.
@@ -92,6 +59,5 @@ pub fn put_report(out: &mut [u8], t: Table, r: Running, log: &[u8]) -> usize
 {
     let a = put_answer_line(out, 0, r);
     let b = put_steps(out, a, log, r.steps);
-    let s = r.state;
-    put_state(out, b, t, s)
+    put_state(out, b, t, r.state)
 }

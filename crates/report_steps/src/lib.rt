@@ -10,7 +10,7 @@ ghost use Rattle.put.specs.Put.{Put, LinesAt};
 ghost use Rattle.machine.specs.Report.{spell_value, logged_value, step_fields, step_line};
 ghost use Rattle.report_steps.specs.Entries.{Entered};
 
-use put::{put_byte, put_text};
+use put::{put_byte, put_rows, put_text};
 use put_fields::{put_constant, put_count, put_size};
 
 // Four bytes, lowest first.
@@ -61,7 +61,7 @@ fn put_step_line(out: &mut [u8], at: usize, log: &[u8], i: usize) -> usize
     ensures { Put 58 out.old at (step_line log.now i) out.new result }
 {
     let a = put_step_fields(out, at, i, log, i);
-    put_byte(out, a, 10)
+    put_byte(out, a, b'\n')
 }
 
 // The lines of the first n steps, at most 58 bytes each.
@@ -69,11 +69,5 @@ pub fn put_steps(out: &mut [u8], at: usize, log: &[u8], n: usize) -> usize
     requires { (at ≤ 1000) × (n ≤ 100000) × (8 * n ≤ length log.now) × ((i : ℕ) → i < n → Entered log.now i) }
     ensures { Put (58 * n) out.old at (concat_from (step_line log.now) n 0) out.new result }
 {
-    let mut p = at;
-    let mut i = 0;
-    while i < n {
-        p = put_step_line(out, p, log, i);
-        i += 1;
-    }
-    p
+    put_rows::<58, _>(out, at, n, |out, at, i| put_step_line(out, at, log, i))
 }

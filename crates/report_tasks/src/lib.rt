@@ -10,7 +10,7 @@ ghost use Rattle.machine.specs.Report.{frame_line, task_line};
 ghost use Rattle.report_tasks.specs.Rows.{VariableCounts, frame_row, task_row, Few};
 
 use machine::Frame;
-use put::put_text;
+use put::{put_rows, put_text};
 use put_fields::put_count;
 use report_values::put_values_line;
 use table::Proc;
@@ -20,11 +20,8 @@ pub fn variable_counts(procs: [Proc; 8]) -> [u8; 8]
     ensures { VariableCounts procs result }
 {
     let mut counts = [0u8; 8];
-    let mut i = 0;
-    while i < 8 {
-        let q = procs[i];
+    for (i, q) in procs.iter().enumerate() {
         counts[i] = q.vars;
-        i += 1;
     }
     counts
 }
@@ -33,11 +30,7 @@ pub fn variable_counts(procs: [Proc; 8]) -> [u8; 8]
 fn count_at(counts: [u8; 8], p: u8) -> u8
     ensures { result ≡ get_or counts p 0 }
 {
-    if p < 8 {
-        let i = p as usize;
-        return counts[i];
-    }
-    0
+    counts.get(p as usize).copied().unwrap_or(0)
 }
 
 fn put_frame_line(out: &mut [u8], at: usize, j: u8, f: Frame, n: u8) -> usize
@@ -47,32 +40,7 @@ fn put_frame_line(out: &mut [u8], at: usize, j: u8, f: Frame, n: u8) -> usize
     let a = put_count(out, at, b"frame=", j);
     let b = put_count(out, a, b" proc=", f.proc);
     let c = put_count(out, b, b" node=", f.node);
-    let vars = f.vars;
-    put_values_line(out, c, b" vars=", &vars, n)
-}
-
-// The frames of task k from the first.
-fn put_frames(
-    out: &mut [u8],
-    at: usize,
-    k: u8,
-    n: u8,
-    frames: [Frame; 32],
-    counts: [u8; 8],
-) -> usize
-    requires { (at ≤ 800000000) × (k < 4) × (n ≤ 8) }
-    ensures { Put (3110 * n) out.old at (concat_from (frame_row frames counts k) n 0) out.new result }
-{
-    let mut p = at;
-    let mut j: u8 = 0;
-    while j < n {
-        let i = 8 * (k as usize) + (j as usize);
-        let f = frames[i];
-        let vars = count_at(counts, f.proc);
-        p = put_frame_line(out, p, j, f, vars);
-        j += 1;
-    }
-    p
+    put_values_line(out, c, b" vars=", &f.vars, n)
 }
 
 fn put_task_line(out: &mut [u8], at: usize, k: u8, n: u8, lost: bool) -> usize
@@ -101,7 +69,10 @@ fn put_task(
     ensures { Put 24920 out.old at (task_line k n lost ++ concat_from (frame_row frames counts k) n 0) out.new result }
 {
     let a = put_task_line(out, at, k, n, lost);
-    put_frames(out, a, k, n, frames, counts)
+    put_rows::<3110, _>(out, a, n as usize, |out, at, j| {
+        let f = frames[8 * (k as usize) + j];
+        put_frame_line(out, at, j as u8, f, count_at(counts, f.proc))
+    })
 }
 
 // The lines of the first n tasks.
@@ -117,14 +88,7 @@ pub fn put_tasks(
     requires { (at ≤ 600000000) × (n ≤ 4) × (Few depth) }
     ensures { Put (24920 * n) out.old at (concat_from (task_row depth lost frames counts) n 0) out.new result }
 {
-    let mut p = at;
-    let mut k: u8 = 0;
-    while k < n {
-        let i = k as usize;
-        let d = depth[i];
-        let gone = lost[i];
-        p = put_task(out, p, k, d, gone, frames, counts);
-        k += 1;
-    }
-    p
+    put_rows::<24920, _>(out, at, n as usize, |out, at, k| {
+        put_task(out, at, k as u8, depth[k], lost[k], frames, counts)
+    })
 }

@@ -16,10 +16,7 @@ use put_fields::put_constant;
 fn value_at(l: &[i32], i: usize) -> i32
     ensures { result ≡ var_at l.now i }
 {
-    if i < l.len() {
-        return l[i];
-    }
-    0
+    l.get(i).copied().unwrap_or(0)
 }
 
 // Value i of a list, behind a comma but for the first.
@@ -30,7 +27,7 @@ fn put_value(out: &mut [u8], at: usize, i: u8, v: i32) -> usize
     if i == 0 {
         return put_constant(out, at, v);
     }
-    let a = put_byte(out, at, 44);
+    let a = put_byte(out, at, b',');
     put_constant(out, a, v)
 }
 
@@ -43,12 +40,8 @@ fn put_values(out: &mut [u8], at: usize, l: &[i32], n: u8) -> usize
         return put_text(out, at, b"none");
     }
     let mut p = at;
-    let mut i: u8 = 0;
-    while i < n {
-        let k = i as usize;
-        let v = value_at(l, k);
-        p = put_value(out, p, i, v);
-        i += 1;
+    for i in 0..n {
+        p = put_value(out, p, i, value_at(l, i as usize));
     }
     p
 }
@@ -60,5 +53,5 @@ pub fn put_values_line(out: &mut [u8], at: usize, key: &[u8], l: &[i32], n: u8) 
 {
     let a = put_text(out, at, key);
     let b = put_values(out, a, l, n);
-    put_byte(out, b, 10)
+    put_byte(out, b, b'\n')
 }

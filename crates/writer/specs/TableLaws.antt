@@ -51,8 +51,13 @@ module _ {l m n o i j : List ℕ} {p q r s u : ℕ} where
   unfolding front_bytes
   front_put f h a b c d w = put_more (omega (arith, h.tasks, h.sems, h.queues)) (put_after a (put_after b (put_after c (put_after d w))))
 
+pub table_rows : {l m n : List ℕ} {p r : ℕ} (t : Table) → Counts t → Put 880 l 0 (front_bytes (front_of t)) m p
+    → Put (7820 * t.procs) m p (concat_from (procs_bytes t.closed t.proc) t.procs 0) n r → Put 65536 l 0 (text t) n r
+table_rows t h a b = rw (table_text t) (put_more (omega (arith, h.procs.count)) (put_after a b))
+
+-- the same, where a loop writes the procedures
 pub table_put : {l m n : List ℕ} {p r i : ℕ} (t : Table) → Counts t → Put 880 l 0 (front_bytes (front_of t)) m p → PutRows 7820 (procs_bytes t.closed t.proc) m p n r i → i ≤ t.procs → t.procs ≤ i → Put 65536 l 0 (text t) n r
-table_put t h a b f g = rw (table_text t) (put_more (omega (arith, h.procs.count)) (put_after a (rows_end b f g)))
+table_put t h a b f g = table_rows t h a (rows_end b f g)
 
 -- ---- the answer
 

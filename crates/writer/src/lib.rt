@@ -13,25 +13,9 @@ ghost use Rattle.writer.specs.Table.{NodesIn, ProcIn, FrontIn, Counts, task_byte
 use lines::{
     put_counts_line, put_head_line, put_node, put_pair_line, put_proc_line, put_queue_line,
 };
-use table::{Proc, Queue, Sem, Slot, Table, Task};
+use put::put_rows;
+use table::{Proc, Queue, Sem, Table, Task};
 use text::Writing;
-
-// The node lines of a procedure.
-fn put_nodes(out: &mut [u8], at: usize, slots: [Slot; 32], n: u8) -> usize
-    requires { (LinesAt at) × (NodesIn slots n) }
-    ensures { Put (240 * n) out.old at (concat_from (slot_bytes slots) n 0) out.new result }
-{
-    let mut p = at;
-    let mut j: u8 = 0;
-    while j < n {
-        let k = j as usize;
-        let s = slots[k];
-        let x = s.node;
-        p = put_node(out, p, j, x);
-        j += 1;
-    }
-    p
-}
 
 // A procedure's line and its node lines.
 pub fn put_proc(out: &mut [u8], at: usize, closed: bool, i: u8, q: Proc) -> usize
@@ -39,67 +23,9 @@ pub fn put_proc(out: &mut [u8], at: usize, closed: bool, i: u8, q: Proc) -> usiz
     ensures { Put 7820 out.old at (proc_bytes closed i q) out.new result }
 {
     let a = put_proc_line(out, at, closed, i, q.params, q.vars, q.nodes, q.drop);
-    let slots = q.slots;
-    put_nodes(out, a, slots, q.nodes)
-}
-
-fn put_task(out: &mut [u8], at: usize, i: u8, x: Task) -> usize
-    requires { LineAt at }
-    ensures { Put 40 out.old at (task_bytes i x) out.new result }
-{
-    put_pair_line(out, at, b"task=", i, b" top=", x.top)
-}
-
-fn put_tasks(out: &mut [u8], at: usize, tasks: [Task; 4], n: u8) -> usize
-    requires { (TableAt at) × (n ≤ 4) }
-    ensures { Put (40 * n) out.old at (concat_from (λ i. task_bytes i (get_or tasks i no_task)) n 0) out.new result }
-{
-    let mut p = at;
-    let mut i: u8 = 0;
-    while i < n {
-        let k = i as usize;
-        let x = tasks[k];
-        p = put_task(out, p, i, x);
-        i += 1;
-    }
-    p
-}
-
-fn put_sem(out: &mut [u8], at: usize, i: u8, x: Sem) -> usize
-    requires { LineAt at }
-    ensures { Put 40 out.old at (sem_bytes i x) out.new result }
-{
-    put_pair_line(out, at, b"sem=", i, b" count=", x.count)
-}
-
-fn put_sems(out: &mut [u8], at: usize, sems: [Sem; 8], n: u8) -> usize
-    requires { (TableAt at) × (n ≤ 8) }
-    ensures { Put (40 * n) out.old at (concat_from (λ i. sem_bytes i (get_or sems i no_sem)) n 0) out.new result }
-{
-    let mut p = at;
-    let mut i: u8 = 0;
-    while i < n {
-        let k = i as usize;
-        let x = sems[k];
-        p = put_sem(out, p, i, x);
-        i += 1;
-    }
-    p
-}
-
-fn put_queues(out: &mut [u8], at: usize, closed: bool, queues: [Queue; 8], n: u8) -> usize
-    requires { (TableAt at) × (n ≤ 8) }
-    ensures { Put (40 * n) out.old at (concat_from (λ i. queue_bytes closed i (get_or queues i no_queue)) n 0) out.new result }
-{
-    let mut p = at;
-    let mut i: u8 = 0;
-    while i < n {
-        let k = i as usize;
-        let x = queues[k];
-        p = put_queue_line(out, p, closed, i, x.cap, x.blank);
-        i += 1;
-    }
-    p
+    put_rows::<240, _>(out, a, q.nodes as usize, |out, at, j| {
+        put_node(out, at, j as u8, q.slots[j].node)
+    })
 }
 
 // What the lines before the procedures say.
@@ -123,12 +49,15 @@ pub fn put_front(out: &mut [u8], f: Front) -> usize
 {
     let a = put_head_line(out, 0, f.trap, f.closed);
     let b = put_counts_line(out, a, f.tasks, f.procs, f.sems, f.queues);
-    let tasks = f.task;
-    let c = put_tasks(out, b, tasks, f.tasks);
-    let sems = f.sem;
-    let d = put_sems(out, c, sems, f.sems);
-    let queues = f.queue;
-    put_queues(out, d, f.closed, queues, f.queues)
+    let c = put_rows::<40, _>(out, b, f.tasks as usize, |out, at, i| {
+        put_pair_line(out, at, b"task=", i as u8, b" top=", f.task[i].top)
+    });
+    let d = put_rows::<40, _>(out, c, f.sems as usize, |out, at, i| {
+        put_pair_line(out, at, b"sem=", i as u8, b" count=", f.sem[i].count)
+    });
+    put_rows::<40, _>(out, d, f.queues as usize, |out, at, i| {
+        put_queue_line(out, at, f.closed, i as u8, f.queue[i].cap, f.queue[i].blank)
+    })
 }
 
 // A table's text, from the buffer's start. The procedures are gone through here, so that the compiler copies one at a time.
@@ -136,9 +65,6 @@ pub fn put_table(out: &mut [u8], t: Table) -> usize
     requires { Counts t }
     ensures { Put 65536 out.old 0 (text t) out.new result }
 {
-    let task = t.task;
-    let sem = t.sem;
-    let queue = t.queue;
     let front = Front {
         trap: t.trap,
         closed: t.closed,
@@ -146,19 +72,14 @@ pub fn put_table(out: &mut [u8], t: Table) -> usize
         procs: t.procs,
         sems: t.sems,
         queues: t.queues,
-        task,
-        sem,
-        queue,
+        task: t.task,
+        sem: t.sem,
+        queue: t.queue,
     };
-    let mut p = put_front(out, front);
-    let mut i: u8 = 0;
-    while i < t.procs {
-        let k = i as usize;
-        let q = t.proc[k];
-        p = put_proc(out, p, t.closed, i, q);
-        i += 1;
-    }
-    p
+    let p = put_front(out, front);
+    put_rows::<7820, _>(out, p, t.procs as usize, |out, at, i| {
+        put_proc(out, at, t.closed, i as u8, t.proc[i])
+    })
 }
 
 // The text of a table that has no fault, or 8 where the buffer is shorter. No table's text is longer than 65,536 bytes.
@@ -171,7 +92,7 @@ pub fn write_ready(t: Table, out: &mut [u8]) -> Writing
         return Writing {
             number: 0,
             line: 0,
-            len: len,
+            len,
         };
     }
     let need = put_table(&mut out[..0], t);
@@ -186,6 +107,6 @@ pub fn write_ready(t: Table, out: &mut [u8]) -> Writing
     Writing {
         number: 0,
         line: 0,
-        len: len,
+        len,
     }
 }

@@ -1,21 +1,23 @@
-use Rattle.std.proofs.Common.{arith}
-use Rattle.arcs.specs.ListedLaws.{listed_start, listed_place, listed_few, listed_turn, listed_end}
+use Rattle.std.proofs.Common.{sym, ◌∙◌, arith}
+use Rattle.arcs.specs.ListedLaws.{listed_start, listed_place, listed_few, listed_held, listed_passed, listed_end}
 use Rattle.arcs.proofs.put_edges.Goals as goal
+use Rattle.arcs.proofs.put_edges.Goals.{then-has, else-has}
 
 pub loop-m-init : goal.loop-m-init
-loop-m-init c = (listed_start _, omega arith)
+loop-m-init c = listed_start _
 
-pub put_edge_if-a-requires : goal.put_edge_if-a-requires
-put_edge_if-a-requires c = (omega (arith, listed_place c.loop-m.invariant.0 c.loop-m.invariant.1), c.requires.1)
+pub put_edge-a-requires : goal.put_edge-a-requires
+put_edge-a-requires c = (omega (arith, listed_place c.loop-m.invariant (omega arith)), c.requires.1)
 
-pub next-i-requires : goal.next-i-requires
-next-i-requires c = listed_few c.loop-m.invariant.0 c.loop-m-test.true
+pub overflow_add-i : goal.overflow_add-i
+overflow_add-i c = omega (arith, listed_few c.loop-m.invariant (omega arith))
 
 pub loop-m-preserved : goal.loop-m-preserved
-loop-m-preserved c = (listed_turn c.loop-m.invariant.0 c.loop-m-test.true c.has-yes.ensures c.put_edge_if-a.ensures c.next-i.ensures, omega arith)
-
-pub shape_of-out : goal.shape_of-out
-shape_of-out c = c.loop-m.invariant.0.rows.put.same
+loop-m-preserved c =
+    elim c.if-has.branch [
+      | then-has w ↦ rw (w.out-is, w.a-is, w.i-is) (listed_held c.loop-m.invariant c.loop-m-test.true (sym w.if-has.true ∙ c.has.ensures) w.put_edge-a.ensures)
+      | else-has w ↦ rw (w.out-is, w.a-is, w.i-is) (listed_passed c.loop-m.invariant c.loop-m-test.true (sym w.if-has.false ∙ c.has.ensures))
+    ]
 
 pub returns : goal.returns
-returns c = listed_end c.loop-m.invariant.0 c.loop-m.invariant.1 c.loop-m-test.false
+returns c = listed_end c.loop-m.invariant (omega arith) (omega arith)

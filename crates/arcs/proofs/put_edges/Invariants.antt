@@ -1,10 +1,6 @@
-use Rattle.std.proofs.Common.{◌-◌, ◌≤◌}
 use Rattle.arcs.specs.ListedLaws.{Listed}
 use Rattle.labels.specs.Graph.{edge_text}
 use Rattle.arcs.proofs.put_edges.Given as goal
 
 abbrev pub invariant-loop-m : goal.invariant-loop-m
-invariant-loop-m l = (Listed 54 (edge_text l.p l.n l.word l.toss) l.to l.initial.out l.at l.out l.a l.i l.m) × (l.m ≤ 32)
-
-abbrev pub decreases-loop-m : goal.decreases-loop-m
-decreases-loop-m l = 32 - l.m
+invariant-loop-m l = Listed 54 (edge_text l.p l.n l.word l.toss) l.to l.initial.out l.at l.out l.a l.i l.m

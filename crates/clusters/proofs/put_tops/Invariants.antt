@@ -1,10 +1,6 @@
-use Rattle.std.proofs.Common.{◌-◌, ◌≤◌}
 use Rattle.labels.specs.Graph.{top_text}
 use Rattle.arcs.specs.ListedLaws.{Listed}
 use Rattle.clusters.proofs.put_tops.Given as goal
 
 abbrev pub invariant-loop-k : goal.invariant-loop-k
-invariant-loop-k l = (Listed 18 (top_text l.several) l.m l.initial.out l.at l.out l.a l.i l.k) × (l.k ≤ 32)
-
-abbrev pub decreases-loop-k : goal.decreases-loop-k
-decreases-loop-k l = 32 - l.k
+invariant-loop-k l = Listed 18 (top_text l.several) l.m l.initial.out l.at l.out l.a l.i l.k

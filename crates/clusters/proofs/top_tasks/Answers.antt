@@ -5,10 +5,10 @@ use Rattle.clusters.proofs.top_tasks.Goals as goal
 
 pub loop-i-init : goal.loop-i-init
 unfolding mask_of
-loop-i-init c = (omega arith, refl)
+loop-i-init c = refl
 
 pub loop-i-preserved : goal.loop-i-preserved
-loop-i-preserved c = (omega arith, mask_next _ c.loop-i.i c.loop-i.m _ c.loop-i.invariant.1 refl c.with-m.ensures)
+loop-i-preserved c = mask_next _ c.loop-i.i c.loop-i.m _ c.loop-i.invariant refl c.with-m.ensures
 
 pub returns : goal.returns
-returns c = let z : c.loop-i.i ≡ c.args.n = omega (arith, c.loop-i.invariant.0) in rw z at c.loop-i.invariant.1
+returns c = let z : c.loop-i.i ≡ c.args.n = omega arith in rw z at c.loop-i.invariant

@@ -1,55 +1,48 @@
-use Rattle.std.proofs.Common.{refl, arith}
+use Rattle.std.proofs.Common.{◌≡◌, refl, inl, inr, arith, ℕ, List}
 use Rattle.table.specs.Table.{parts}
+use Rattle.table.specs.declared.Node.{Node}
+use Rattle.put.specs.Put.{Put}
+use Rattle.labels.specs.Graph.{arcs_text}
 use Rattle.dot.proofs.put_arcs.Goals as goal
+
+arcs_of : {l o : List ℕ} {at a : ℕ} (p n : ℕ) {x y : Node} → x ≡ y → Put 3456 l at (arcs_text p n y) o a → Put 3456 l at (arcs_text p n x) o a
+arcs_of p n e h = rw e h
 
 pub returns-in-Absent : goal.returns-in-Absent
 unfolding parts
-returns-in-Absent c = rw c.in-Absent.is (record { few = omega arith; bytes = refl; same = refl; next = omega arith })
-
-pub returns-in-Start : goal.returns-in-Start
-unfolding parts
-returns-in-Start c = rw c.in-Start.is c.put_plain.ensures
-
-pub returns-in-Set : goal.returns-in-Set
-unfolding parts
-returns-in-Set c = rw c.in-Set.is c.put_plain-in-Set.ensures
+returns-in-Absent c =
+    elim c.in-Absent.is [
+      | inl e ↦ arcs_of _ _ e (record { few = omega arith; bytes = refl; same = refl; next = omega arith })
+      | inr e ↦ arcs_of _ _ e (record { few = omega arith; bytes = refl; same = refl; next = omega arith })
+    ]
 
 pub returns-in-Test : goal.returns-in-Test
 unfolding parts
-returns-in-Test c = rw c.in-Test.is c.put_arms.ensures
+returns-in-Test c = arcs_of _ _ c.in-Test.is c.put_arms.ensures
 
-pub returns-in-Read : goal.returns-in-Read
+pub returns-in-Start : goal.returns-in-Start
 unfolding parts
-returns-in-Read c = rw c.in-Read.is c.put_plain-in-Read.ensures
-
-pub returns-in-Call : goal.returns-in-Call
-unfolding parts
-returns-in-Call c = rw c.in-Call.is c.put_plain-in-Call.ensures
-
-pub returns-in-Wait : goal.returns-in-Wait
-unfolding parts
-returns-in-Wait c = rw c.in-Wait.is c.put_plain-in-Wait.ensures
-
-pub returns-in-Signal : goal.returns-in-Signal
-unfolding parts
-returns-in-Signal c = rw c.in-Signal.is c.put_plain-in-Signal.ensures
-
-pub returns-in-Send : goal.returns-in-Send
-unfolding parts
-returns-in-Send c = rw c.in-Send.is c.put_plain-in-Send.ensures
-
-pub returns-in-Recv : goal.returns-in-Recv
-unfolding parts
-returns-in-Recv c = rw c.in-Recv.is c.put_plain-in-Recv.ensures
-
-pub returns-in-Assert : goal.returns-in-Assert
-unfolding parts
-returns-in-Assert c = rw c.in-Assert.is c.put_plain-in-Assert.ensures
-
-pub returns-in-Out : goal.returns-in-Out
-unfolding parts
-returns-in-Out c = rw c.in-Out.is c.put_plain-in-Out.ensures
-
-pub returns-in-Return : goal.returns-in-Return
-unfolding parts
-returns-in-Return c = rw c.in-Return.is (record { few = omega arith; bytes = refl; same = refl; next = omega arith })
+returns-in-Start c =
+    let h = c.put_plain.ensures in
+    elim c.in-Start.is [
+      | inl e ↦ arcs_of _ _ e h
+      | inr k ↦ elim k [
+        | inl q ↦ arcs_of _ _ q.4 h
+        | inr k ↦ elim k [
+          | inl q ↦ arcs_of _ _ q.1 h
+          | inr k ↦ elim k [
+            | inl q ↦ arcs_of _ _ q.2 h
+            | inr k ↦ elim k [
+              | inl q ↦ arcs_of _ _ q.1 h
+              | inr k ↦ elim k [
+                | inl q ↦ arcs_of _ _ q.1 h
+                | inr k ↦ elim k [
+                  | inl q ↦ arcs_of _ _ q.2 h
+                  | inr k ↦ elim k [ inl q ↦ arcs_of _ _ q.2 h | inr k ↦ elim k [ inl q ↦ arcs_of _ _ q.1 h | inr q ↦ arcs_of _ _ q.1 h ] ]
+                ]
+              ]
+            ]
+          ]
+        ]
+      ]
+    ]

@@ -1,55 +1,34 @@
-use Rattle.std.proofs.Common.{refl, arith}
-use Rattle.table.specs.Table.{parts}
+-- Nothing stands for a node that is no call.
+use Rattle.std.proofs.Common.{◌≡◌, refl, arith, ℕ, []}
+use Rattle.table.specs.Table.{parts, act}
+use Rattle.table.specs.ByKind.{by_kind}
+use Rattle.table.specs.declared.Args.{Args}
+use Rattle.table.specs.declared.Node.{Node}
+use Rattle.table.specs.declared.Node.TheVariants.{Call}
+use Rattle.labels.specs.Graph.{callee_text}
 use Rattle.dot.proofs.put_callee.Goals as goal
 
-pub returns-in-Absent : goal.returns-in-Absent
+no_callee : (p n : ℕ) (x : Node) → ((q : ℕ) (xs : Args) (to : ℕ) → x ≡ Call q xs to → ⊥) → callee_text p n (act x) ≡ []
 unfolding parts
-returns-in-Absent c = rw c.in-Absent.is (record { few = omega arith; bytes = refl; same = refl; next = omega arith })
-
-pub returns-in-Start : goal.returns-in-Start
-unfolding parts
-returns-in-Start c = rw c.in-Start.is (record { few = omega arith; bytes = refl; same = refl; next = omega arith })
-
-pub returns-in-Set : goal.returns-in-Set
-unfolding parts
-returns-in-Set c = rw c.in-Set.is (record { few = omega arith; bytes = refl; same = refl; next = omega arith })
-
-pub returns-in-Test : goal.returns-in-Test
-unfolding parts
-returns-in-Test c = rw c.in-Test.is (record { few = omega arith; bytes = refl; same = refl; next = omega arith })
-
-pub returns-in-Read : goal.returns-in-Read
-unfolding parts
-returns-in-Read c = rw c.in-Read.is (record { few = omega arith; bytes = refl; same = refl; next = omega arith })
+no_callee p n = by_kind {P = λ x. ((q : ℕ) (xs : Args) (to : ℕ) → x ≡ Call q xs to → ⊥) → callee_text p n (act x) ≡ []} (record {
+  absent = λ h. refl;
+  start = λ to h. refl;
+  set = λ v o a b to h. refl;
+  test = λ o a b y n h. refl;
+  read = λ v to h. refl;
+  call = λ q xs to h. absurd (h q xs to refl);
+  wait = λ s to h. refl;
+  signal = λ s to h. refl;
+  send = λ q v to h. refl;
+  recv = λ q v to h. refl;
+  assert = λ v to h. refl;
+  out = λ v to h. refl;
+  return = λ h. refl;
+})
 
 pub returns-in-Call : goal.returns-in-Call
 unfolding parts
 returns-in-Call c = rw c.in-Call.is c.put_call_edge.ensures
 
-pub returns-in-Wait : goal.returns-in-Wait
-unfolding parts
-returns-in-Wait c = rw c.in-Wait.is (record { few = omega arith; bytes = refl; same = refl; next = omega arith })
-
-pub returns-in-Signal : goal.returns-in-Signal
-unfolding parts
-returns-in-Signal c = rw c.in-Signal.is (record { few = omega arith; bytes = refl; same = refl; next = omega arith })
-
-pub returns-in-Send : goal.returns-in-Send
-unfolding parts
-returns-in-Send c = rw c.in-Send.is (record { few = omega arith; bytes = refl; same = refl; next = omega arith })
-
-pub returns-in-Recv : goal.returns-in-Recv
-unfolding parts
-returns-in-Recv c = rw c.in-Recv.is (record { few = omega arith; bytes = refl; same = refl; next = omega arith })
-
-pub returns-in-Assert : goal.returns-in-Assert
-unfolding parts
-returns-in-Assert c = rw c.in-Assert.is (record { few = omega arith; bytes = refl; same = refl; next = omega arith })
-
-pub returns-in-Out : goal.returns-in-Out
-unfolding parts
-returns-in-Out c = rw c.in-Out.is (record { few = omega arith; bytes = refl; same = refl; next = omega arith })
-
-pub returns-in-Return : goal.returns-in-Return
-unfolding parts
-returns-in-Return c = rw c.in-Return.is (record { few = omega arith; bytes = refl; same = refl; next = omega arith })
+pub returns-in_default : goal.returns-in_default
+returns-in_default c = rw (no_callee c.args.p c.args.n c.args.x c.in_default.not-Call) (record { few = omega arith; bytes = refl; same = refl; next = omega arith })

@@ -2,4 +2,4 @@ use Rattle.put.specs.PutLaws.{put_after}
 use Rattle.labels.proofs.put_argument.Goals as goal
 
 pub returns : goal.returns
-returns c = put_after c.put_byte-a.ensures (rw c.arg_at-v.ensures at c.put_variable.ensures)
+returns c = put_after c.put_byte-a.ensures c.put_variable.ensures

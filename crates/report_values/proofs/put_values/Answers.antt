@@ -6,13 +6,13 @@ pub returns-then-n-eq0 : goal.returns-then-n-eq0
 returns-then-n-eq0 c = listing_none c.args.l.now c.if-n-eq0.true c.put_text.ensures
 
 pub loop-i-init : goal.loop-i-init
-loop-i-init c = (listing_start, omega arith)
+loop-i-init c = listing_start
 
 pub put_value-p-requires : goal.put_value-p-requires
-put_value-p-requires c = omega (arith, c.loop-i.invariant.0.put.few, c.loop-i.invariant.0.put.next)
+put_value-p-requires c = omega (arith, c.loop-i.invariant.put.few, c.loop-i.invariant.put.next)
 
 pub loop-i-preserved : goal.loop-i-preserved
-loop-i-preserved c = let z = c.value_at-v.result in let e : to_z w32 (of_z w32 z) ≡ z = to_z-of_z {w = w32} (record { sfits = c.value_at-v.type_inv }) in (listing_turn c.loop-i.invariant.0 c.value_at-v.ensures (rw e at c.put_value-p.ensures), omega arith)
+loop-i-preserved c = let z = c.value_at.result in let e : to_z w32 (of_z w32 z) ≡ z = to_z-of_z {w = w32} (record { sfits = c.value_at.type_inv }) in listing_turn c.loop-i.invariant c.value_at.ensures (rw e at c.put_value-p.ensures)
 
 pub returns : goal.returns
-returns c = listing_end c.loop-i.invariant.0 c.loop-i.invariant.1 c.loop-i-test.false c.if-n-eq0.false (omega arith)
+returns c = listing_end c.loop-i.invariant c.loop-i.auto.i-end (omega arith) c.if-n-eq0.false (omega arith)
