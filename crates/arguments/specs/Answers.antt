@@ -1,5 +1,6 @@
 -- What the readers of the words answer, and a program.
-use Rattle.std.specs.Prelude.{ℕ, List, [], ◌∷◌, leb, length, ℤ}
+use Rattle.std.specs.Prelude.{ℕ, List, [], ◌∷◌, leb, length, None, Some}
+use Rattle.std.specs.Prelude.{Option as Heard}
 use Rattle.std.proofs.Math.Option.{Option, none, some}
 use Rattle.table.specs.Mask.{pick}
 use Rattle.text.specs.Number.{bytes, all_digits, value}
@@ -7,29 +8,22 @@ use Rattle.text.specs.Value.{same, split}
 use Rattle.put.specs.Put.{Put}
 use Rattle.machine.specs.Words.{filtered, prints, says}
 use Rattle.machine.specs.Words.{Answer as Answered}
-use Rattle.arguments.specs.declared.Number.{Number}
-use Rattle.arguments.specs.declared.Number.TheVariants.{Is, Not}
 use Rattle.arguments.specs.declared.Answer.{Answer}
 use Rattle.arguments.specs.declared.Answer.TheVariants.{Prints, Says}
-use Rattle.arguments.specs.declared.Value.{Value}
-use Rattle.arguments.specs.declared.Value.TheVariants.{Is as IsValue, Not as NotValue}
 
-abbrev pub number_of : Option ℕ → Number
-number_of none = Not
-number_of (some n) = Is n
-
-abbrev pub value_of : Option ℤ → Value
-value_of none = NotValue
-value_of (some z) = IsValue z
+-- what a word says, as the code's option
+abbrev pub answer_of : {A : Type 0} → Option A → Heard A
+answer_of none = None
+answer_of (some a) = Some a
 
 -- how many items a list has
-abbrev pub count_of : {A : Type 0} → Option (List A) → Number
-count_of none = Not
-count_of (some xs) = Is (length xs)
+abbrev pub count_of : {A : Type 0} → Option (List A) → Option ℕ
+count_of none = none
+count_of (some xs) = some (length xs)
 
 -- the number that digits say, if it is at most m
-unfoldable pub digits_up_to : ℕ → List ℕ → Number
-digits_up_to m t = number_of (filtered (λ n. leb n m) (pick (all_digits t) (some (value t)) none))
+unfoldable pub digits_up_to : ℕ → List ℕ → Option ℕ
+digits_up_to m t = filtered (λ n. leb n m) (pick (all_digits t) (some (value t)) none)
 
 -- what the items say, before the first that says nothing
 abbrev pub before : {A : Type 0} → Option A → List A → List A

@@ -1,6 +1,6 @@
 -- Laws of a file's word: each says what a step of the code shows.
 use Rattle.std.specs.Prelude.{ℕ, zero, suc, ◌+◌, ◌≤◌, ◌<◌, ◌≡◌, refl, List, [], ◌∷◌, ◌++◌, map, eqb, length, get_or, set, take, drop}
-use Rattle.std.proofs.Common.{sym, ◌∙◌, ap, append_assoc, append-nil, arith, add-one, length-append, length-drop, length-take-le, take-suc, drop-cons, ne_eqb}
+use Rattle.std.proofs.Common.{sym, ◌∙◌, ap, ap₂, append_assoc, append-nil, arith, add-one, length-append, length-drop, length-take-le, take-suc, take_all, drop-cons, drop_of_length-le, ne_eqb}
 use Rattle.std.proofs.lemmas.List.Edits.{sets, sets-eq}
 use Rattle.std.proofs.Math.Seq.{length-sets}
 use Rattle.std.proofs.lemmas.List.{get_or_at, set_at}
@@ -47,27 +47,20 @@ file_empty (b ∷ s) h = absurd (omega arith)
 pub record Turned (s m : List ℕ) (i : ℕ) : Type 0 where
   pub so_far : m ≡ commas (take i s) ++ drop i s
 
-pub turned_at : {s m : List ℕ} {i k : ℕ} → i ≡ k → Turned s m i → Turned s m k
-turned_at e a = rw (← e) a
-
 pub turned_start : {s : List ℕ} → Turned s s 0
 turned_start = record { so_far = refl }
 
-module _ {s m : List ℕ} {i : ℕ} (a : Turned s m i) (h : i < length s) where
-  before : length (commas (take i s)) ≡ i
-  before = length_commas (take i s) ∙ length-take-le i s (omega arith)
+module _ {s m : List ℕ} {i : ℕ} (a : Turned s m i) where
+  pub turned_same : i ≤ length s → length m ≡ length s
+  turned_same h =
+      let before : length (commas (take i s)) ≡ i = length_commas (take i s) ∙ length-take-le i s h in
+      ap length a.so_far ∙ length-append (commas (take i s)) (drop i s) ∙ omega (arith, before, length-drop i s)
 
-  here : m ≡ commas (take i s) ++ (get_or s i 0 ∷ drop (suc i) s)
-  here = a.so_far ∙ ap (λ (l : List ℕ). commas (take i s) ++ l) (drop-cons s i 0 h)
-
-  byte : get_or m i 0 ≡ get_or s i 0
-  byte = ap (λ (l : List ℕ). get_or l i 0) here ∙ get_or_at (commas (take i s)) (get_or s i 0) (drop (suc i) s) 0 i before
-
-  pub turned_same : length m ≡ length s
-  turned_same = ap length a.so_far ∙ length-append (commas (take i s)) (drop i s) ∙ omega (arith, before, length-drop i s)
-
-  pub turned_next : {b : ℕ} → b ≡ separator (get_or m i 0) → Turned s (set m i b) (i + 1)
-  turned_next {b} e =
+  pub turned_next : {b : ℕ} → i < length s → b ≡ separator (get_or m i 0) → Turned s (set m i b) (i + 1)
+  turned_next {b} h e =
+      let before : length (commas (take i s)) ≡ i = length_commas (take i s) ∙ length-take-le i s (omega arith) in
+      let here : m ≡ commas (take i s) ++ (get_or s i 0 ∷ drop (suc i) s) = a.so_far ∙ ap (λ (l : List ℕ). commas (take i s) ++ l) (drop-cons s i 0 h) in
+      let byte : get_or m i 0 ≡ get_or s i 0 = ap (λ (l : List ℕ). get_or l i 0) here ∙ get_or_at (commas (take i s)) (get_or s i 0) (drop (suc i) s) 0 i before in
       let d : b ≡ separator (get_or s i 0) = e ∙ ap separator byte in
       let t : commas (take (suc i) s) ≡ commas (take i s) ++ (b ∷ []) = ap commas (take-suc s i 0 h) ∙ commas_append (take i s) (get_or s i 0 ∷ []) ∙ ap (λ (x : ℕ). commas (take i s) ++ (x ∷ [])) (sym d) in
       record {
@@ -76,20 +69,36 @@ module _ {s m : List ℕ} {i : ℕ} (a : Turned s m i) (h : i < length s) where
             ∙ ap (λ (n : ℕ). commas (take n s) ++ drop n s) (sym (add-one i));
       }
 
-  -- the last byte
-  module _ (z : length s ≡ i + 1) where
-    one_more : length s ≡ suc i
-    one_more = z ∙ add-one i
+  turned_all : length s ≤ i → m ≡ commas s
+  turned_all h = a.so_far ∙ ap₂ (λ (x y : List ℕ). commas x ++ y) (take_all i s h) (drop_of_length-le s h) ∙ append-nil (commas s)
 
-    pub file_fed : get_or m i 0 ≡ 10 → Put (length s) s 0 (file_word s) m i
-    file_fed e =
-        let w : file_word s ≡ commas (take i s) = file_is s i one_more ∙ rw (sym byte ∙ e) (append-nil (commas (take i s))) in
-        rw w (front (omega (arith, before)) (rw before a.so_far) (sym before))
+-- all bytes of a file but the last, i of them, became m
+module _ (f m : List ℕ) (i : ℕ) {k : ℕ} (z : length f ≡ suc i) (a : Turned (take i f) m k) (all : length (take i f) ≤ k) where
+  size : length (take i f) ≡ i
+  size = length-take-le i f (omega arith)
 
-    pub file_unfed : {n : ℕ} → (get_or m i 0 ≡ 10 → ⊥) → n ≡ length s → Put (length s) s 0 (file_word s) m n
-    file_unfed {n} e q =
-        let w : file_word s ≡ commas (take i s) ++ (get_or s i 0 ∷ []) = file_is s i one_more ∙ rw (ne_eqb (get_or s i 0) 10 (λ x. e (byte ∙ x))) refl in
-        let k : length (commas (take i s) ++ (get_or s i 0 ∷ [])) ≡ suc i = length-append (commas (take i s)) (get_or s i 0 ∷ []) ∙ ap (λ (j : ℕ). j + 1) before ∙ add-one i in
-        rw w
-        (front (omega (arith, k)) (here ∙ sym (append_assoc (commas (take i s)) (get_or s i 0 ∷ []) (drop (suc i) s)) ∙ ap (λ (j : ℕ). (commas (take i s) ++ (get_or s i 0 ∷ [])) ++ drop j s) (sym k))
-        (omega (arith, k)))
+  turned : m ≡ commas (take i f)
+  turned = turned_all a all
+
+  last : drop i f ≡ get_or f i 0 ∷ []
+  last = drop-cons f i 0 (omega arith) ∙ ap (λ (l : List ℕ). get_or f i 0 ∷ l) (let e : length f ≤ suc i = omega arith in drop_of_length-le f e)
+
+  before : length (commas (take i f)) ≡ i
+  before = length_commas (take i f) ∙ size
+
+  byte : get_or (m ++ drop i f) i 0 ≡ get_or f i 0
+  byte = ap₂ (λ (x y : List ℕ). get_or (x ++ y) i 0) turned last ∙ get_or_at (commas (take i f)) (get_or f i 0) [] 0 i before
+
+  pub file_fed : get_or (m ++ drop i f) i 0 ≡ 10 → Put (length f) f 0 (file_word f) (m ++ drop i f) i
+  file_fed e =
+      let w : file_word f ≡ commas (take i f) = file_is f i z ∙ rw (sym byte ∙ e) (append-nil (commas (take i f))) in
+      rw w (front (omega (arith, before)) (rw before (ap (λ (l : List ℕ). l ++ drop i f) turned)) (sym before))
+
+  pub file_unfed : (get_or (m ++ drop i f) i 0 ≡ 10 → ⊥) → Put (length f) f 0 (file_word f) (m ++ drop i f) (length f)
+  file_unfed e =
+      let w : file_word f ≡ commas (take i f) ++ (get_or f i 0 ∷ []) = file_is f i z ∙ rw (ne_eqb (get_or f i 0) 10 (λ x. e (byte ∙ x))) refl in
+      let k : length (commas (take i f) ++ (get_or f i 0 ∷ [])) ≡ suc i = length-append (commas (take i f)) (get_or f i 0 ∷ []) ∙ ap (λ (j : ℕ). j + 1) before ∙ add-one i in
+      let none : drop (length (commas (take i f) ++ (get_or f i 0 ∷ []))) f ≡ [] = drop_of_length-le f (omega arith) in
+      rw w
+      (front (omega (arith, k)) (ap₂ ◌++◌ turned last ∙ sym (append-nil (commas (take i f) ++ (get_or f i 0 ∷ []))) ∙ ap (λ (l : List ℕ). (commas (take i f) ++ (get_or f i 0 ∷ [])) ++ l) (sym none))
+      (omega (arith, k)))

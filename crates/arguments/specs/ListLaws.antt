@@ -1,5 +1,5 @@
 -- Laws of a word's list, item by item: each says what a step of the code shows.
-use Rattle.std.specs.Prelude.{ℕ, ◌+◌, ◌≤◌, ◌<◌, ◌≡◌, refl, Bool, true, false, leb, length, set, take, drop}
+use Rattle.std.specs.Prelude.{ℕ, ◌+◌, ◌≤◌, ◌<◌, ◌≡◌, refl, Bool, true, false, leb, length, set, take, drop, None, Some}
 use Rattle.std.proofs.Math.Path.{sym, ap}
 use Rattle.std.proofs.Common.{◌∙◌, arith, add-one, length-append}
 use mathlib.Core.List.{List, [], ◌∷◌, ◌++◌, append-nil, append_assoc}
@@ -14,11 +14,10 @@ use Rattle.text.specs.Number.{bytes}
 use Rattle.text.specs.Value.{same, split, each, followed}
 use Rattle.machine.specs.Words.{filtered}
 use Rattle.machine.specs.Program.{said_items}
-use Rattle.lists.specs.Items.{CommaAt, part, more}
-use Rattle.lists.specs.ItemLaws.{comma_split}
-use Rattle.arguments.specs.declared.Number.{Number}
-use Rattle.arguments.specs.declared.Number.TheVariants.{Is, Not}
-use Rattle.arguments.specs.Answers.{count_of, before, leading_of, leading}
+use Rattle.lists.specs.Items.{CommaAt, part, more, next_comma}
+use Rattle.lists.specs.ItemLaws.{comma_split, comma_here}
+use Rattle.arguments.specs.ItemLaws.{heard_some, heard_none}
+use Rattle.arguments.specs.Answers.{answer_of, count_of, before, leading_of, leading}
 
 -- ---- the items so far
 
@@ -47,9 +46,9 @@ module _ {A : Type 0} where
     pub says : each f (split w) ≡ prefixed passed (each f (split (drop from w)))
 
   module _ (f : List ℕ → Option A) (w : List ℕ) (l : List A) {b : Bool} (d : b ≡ same (bytes "none") w) where
-    pub none_answer_lem : b ≡ true → Is 0 ≡ count_of (said_items (length l) f w)
+    pub none_answer : b ≡ true → Some 0 ≡ answer_of (count_of (said_items (length l) f w))
     unfolding said_items
-    none_answer_lem e = rw (← d, e, le-leb 0 (length l) (omega arith))
+    none_answer e = rw (← d, e, le-leb 0 (length l) (omega arith))
 
     pub none_list : b ≡ true → l ≡ sets l 0 (leading f w)
     none_list e = rw (← d, e)
@@ -69,77 +68,99 @@ module _ {A : Type 0} where
     lead_is : (xs : List A) → leading_of f (split w) ≡ xs → leading f w ≡ xs
     lead_is xs e = rw a.list e
 
-    module _ {to : ℕ} (c : CommaAt w from to) where
-      -- an item that says nothing
-      pub bad_answer : f (part w from to) ≡ none → Not ≡ count_of (said_items (length l) f w)
+    -- an item that says nothing
+    module _ {to : ℕ} (c : CommaAt w from to) (e : f (part w from to) ≡ none) where
+      bad : count_of (said_items (length l) f w) ≡ none
       unfolding each
-      bad_answer e = sym (answer none (a.says ∙ rw (comma_split c, e)))
+      bad = answer none (a.says ∙ rw (comma_split c, e))
 
-      pub bad_list : f (part w from to) ≡ none → m ≡ sets l 0 (leading f w)
+      pub bad_answer : None ≡ answer_of (count_of (said_items (length l) f w))
+      bad_answer = ap answer_of (sym bad)
+
+      pub bad_list : m ≡ sets l 0 (leading f w)
       unfolding leading_of
-      bad_list e = a.stored ∙ ap (sets l 0) (sym (lead_is a.passed (a.lead ∙ rw (comma_split c, e) (append-nil a.passed))))
+      bad_list = a.stored ∙ ap (sets l 0) (sym (lead_is a.passed (a.lead ∙ rw (comma_split c, e) (append-nil a.passed))))
 
-      module _ {x : A} (e : f (part w from to) ≡ some x) where
-        lead_more : leading_of f (split w) ≡ a.passed ++ (x ∷ leading_of f (more w to))
-        unfolding leading_of
-        lead_more = a.lead ∙ rw (comma_split c, e)
+    module _ {to : ℕ} (c : CommaAt w from to) {x : A} (e : f (part w from to) ≡ some x) where
+      lead_more : leading_of f (split w) ≡ a.passed ++ (x ∷ leading_of f (more w to))
+      unfolding leading_of
+      lead_more = a.lead ∙ rw (comma_split c, e)
 
-        says_more : each f (split w) ≡ prefixed (a.passed ++ (x ∷ [])) (each f (more w to))
+      says_more : each f (split w) ≡ prefixed (a.passed ++ (x ∷ [])) (each f (more w to))
+      unfolding each
+      says_more = a.says ∙ rw (comma_split c, e) (prefixed_more a.passed x (each f (more w to)))
+
+      longer : length (a.passed ++ (x ∷ [])) ≡ n + 1
+      longer = length-append a.passed (x ∷ []) ∙ ap (λ (k : ℕ). k + 1) a.count
+
+      over : length l ≤ n → count_of (said_items (length l) f w) ≡ none
+      over h = answer _ says_more ∙ go (each f (more w to))
+        where
+          go : (o : Option (List A)) → count_of (filtered (λ xs. leb (length xs) (length l)) (prefixed (a.passed ++ (x ∷ [])) o)) ≡ none
+          go none = refl
+          go (some ys) = rw (lt-leb (length ((a.passed ++ (x ∷ [])) ++ ys)) (length l) (omega (arith, length-append (a.passed ++ (x ∷ [])) ys, longer)))
+
+      over_list : length l ≤ n → m ≡ sets l 0 (leading f w)
+      over_list h =
+          let z : 0 + length a.passed ≡ n = omega (arith, a.count) in
+          let r = leading_of f (more w to) in
+          a.stored ∙ sym (ap (sets l 0) (lead_is _ lead_more) ∙ sets_append a.passed (x ∷ r) l 0
+          ∙ sets_out (x ∷ r) (sets l 0 a.passed) (0 + length a.passed) (omega (arith, length-sets l 0 a.passed)))
+
+      stores : set m n x ≡ sets l 0 (a.passed ++ (x ∷ []))
+      stores =
+          let z : 0 + length a.passed ≡ n = omega (arith, a.count) in
+          rw (sets_append a.passed (x ∷ []) l 0, z, a.stored)
+
+      -- the last item
+      module _ (h : n < length l) (k : length w ≤ to) where
+        no_more : more w to ≡ []
+        no_more = rw (le-ltb to (length w) k)
+
+        pub last_answer : Some (n + 1) ≡ answer_of (count_of (said_items (length l) f w))
         unfolding each
-        says_more = a.says ∙ rw (comma_split c, e) (prefixed_more a.passed x (each f (more w to)))
+        last_answer =
+            let q : each f (split w) ≡ some (a.passed ++ (x ∷ [])) = says_more ∙ ap (λ (s : List (List ℕ)). prefixed (a.passed ++ (x ∷ [])) (each f s)) no_more ∙ ap some (append-nil (a.passed ++ (x ∷ []))) in
+            let u : count_of (said_items (length l) f w) ≡ some (n + 1) = answer _ q ∙ rw (le-leb (length (a.passed ++ (x ∷ []))) (length l) (omega (arith, longer))) (ap some longer) in
+            ap answer_of (sym u)
 
-        longer : length (a.passed ++ (x ∷ [])) ≡ n + 1
-        longer = length-append a.passed (x ∷ []) ∙ ap (λ (k : ℕ). k + 1) a.count
+        pub last_list : set m n x ≡ sets l 0 (leading f w)
+        unfolding leading_of
+        last_list = stores ∙ ap (sets l 0) (sym (lead_is _ (lead_more ∙ ap (λ (s : List (List ℕ)). a.passed ++ (x ∷ leading_of f s)) no_more)))
 
-        -- an item more than the list has places
-        pub full_answer : length l ≤ n → Not ≡ count_of (said_items (length l) f w)
-        full_answer h = sym (answer _ says_more ∙ go (each f (more w to)))
-          where
-            go : (o : Option (List A)) → count_of (filtered (λ xs. leb (length xs) (length l)) (prefixed (a.passed ++ (x ∷ [])) o)) ≡ Not
-            go none = refl
-            go (some ys) = rw (lt-leb (length ((a.passed ++ (x ∷ [])) ++ ys)) (length l) (omega (arith, length-append (a.passed ++ (x ∷ [])) ys, longer)))
+      -- one more item
+      pub taking_turn : n < length l → to < length w → Taking f w l (set m n x) (to + 1) (n + 1)
+      taking_turn h k =
+          let s : more w to ≡ split (drop (to + 1) w) = rw (add-one to, lt-ltb to (length w) k) in
+          record {
+            passed = a.passed ++ (x ∷ []);
+            count = longer;
+            fits = omega arith;
+            within = omega arith;
+            list = a.list;
+            stored = stores;
+            lead = lead_more ∙ sym (append_assoc a.passed (x ∷ []) _) ∙ ap (λ (r : List (List ℕ)). (a.passed ++ (x ∷ [])) ++ leading_of f r) s;
+            says = says_more ∙ ap (λ (r : List (List ℕ)). prefixed (a.passed ++ (x ∷ [])) (each f r)) s;
+          }
 
-        pub full_list : length l ≤ n → m ≡ sets l 0 (leading f w)
-        full_list h =
-            let z : 0 + length a.passed ≡ n = omega (arith, a.count) in
-            let r = leading_of f (more w to) in
-            a.stored ∙ sym (ap (sets l 0) (lead_is _ lead_more) ∙ sets_append a.passed (x ∷ r) l 0
-            ∙ sets_out (x ∷ r) (sets l 0 a.passed) (0 + length a.passed) (omega (arith, length-sets l 0 a.passed)))
+    -- the lent list is full, and there is an item more
+    module _ (h : length l ≤ n) where
+      here : CommaAt w from (next_comma w from)
+      here = comma_here w from a.within
 
-        stores : set m n x ≡ sets l 0 (a.passed ++ (x ∷ []))
-        stores =
-            let z : 0 + length a.passed ≡ n = omega (arith, a.count) in
-            rw (sets_append a.passed (x ∷ []) l 0, z, a.stored)
+      pub full_answer : None ≡ answer_of (count_of (said_items (length l) f w))
+      full_answer = go (f (part w from (next_comma w from))) refl
+        where
+          go : (o : Option A) → f (part w from (next_comma w from)) ≡ o → None ≡ answer_of (count_of (said_items (length l) f w))
+          go none e = bad_answer here e
+          go (some x) e = ap answer_of (sym (over here e h))
 
-        -- the last item
-        module _ (h : n < length l) (k : length w ≤ to) where
-          no_more : more w to ≡ []
-          no_more = rw (le-ltb to (length w) k)
-
-          pub last_answer : Is (n + 1) ≡ count_of (said_items (length l) f w)
-          unfolding each
-          last_answer =
-              let q : each f (split w) ≡ some (a.passed ++ (x ∷ [])) = says_more ∙ ap (λ (s : List (List ℕ)). prefixed (a.passed ++ (x ∷ [])) (each f s)) no_more ∙ ap some (append-nil (a.passed ++ (x ∷ []))) in
-              sym (answer _ q ∙ rw (le-leb (length (a.passed ++ (x ∷ []))) (length l) (omega (arith, longer))) (ap Is longer))
-
-          pub last_list : set m n x ≡ sets l 0 (leading f w)
-          unfolding leading_of
-          last_list = stores ∙ ap (sets l 0) (sym (lead_is _ (lead_more ∙ ap (λ (s : List (List ℕ)). a.passed ++ (x ∷ leading_of f s)) no_more)))
-
-        -- one more item
-        pub taking_turn : n < length l → to < length w → Taking f w l (set m n x) (to + 1) (n + 1)
-        taking_turn h k =
-            let s : more w to ≡ split (drop (to + 1) w) = rw (add-one to, lt-ltb to (length w) k) in
-            record {
-              passed = a.passed ++ (x ∷ []);
-              count = longer;
-              fits = omega arith;
-              within = omega arith;
-              list = a.list;
-              stored = stores;
-              lead = lead_more ∙ sym (append_assoc a.passed (x ∷ []) _) ∙ ap (λ (r : List (List ℕ)). (a.passed ++ (x ∷ [])) ++ leading_of f r) s;
-              says = says_more ∙ ap (λ (r : List (List ℕ)). prefixed (a.passed ++ (x ∷ [])) (each f r)) s;
-            }
+      pub full_list : m ≡ sets l 0 (leading f w)
+      full_list = go (f (part w from (next_comma w from))) refl
+        where
+          go : (o : Option A) → f (part w from (next_comma w from)) ≡ o → m ≡ sets l 0 (leading f w)
+          go none e = bad_list here e
+          go (some x) e = over_list here e h
 
 -- ---- what a caller gets
 
@@ -172,11 +193,11 @@ module _ {A : Type 0} (f : List ℕ → Option A) (w : List ℕ) where
       )
 
   -- the list that the word says stands in the buffer, and the answer is its length
-  pub list_read : (l : List A) {m : List A} {r : Number} {n : ℕ} → r ≡ count_of (said_items (length l) f w) → m ≡ sets l 0 (leading f w) → r ≡ Is n
+  pub list_read : (l : List A) {m : List A} {n : ℕ} → Some n ≡ answer_of (count_of (said_items (length l) f w)) → m ≡ sets l 0 (leading f w)
       → (said_items (length l) f w ≡ some (take n m)) × (n ≤ length m)
-  list_read l {m} {r} {n} d e q = go (said_items (length l) f w) refl (sym d ∙ q)
+  list_read l {m} {n} d e = go (said_items (length l) f w) refl (heard_some _ d)
     where
-      go : (o : Option (List A)) → said_items (length l) f w ≡ o → count_of o ≡ Is n → (o ≡ some (take n m)) × (n ≤ length m)
+      go : (o : Option (List A)) → said_items (length l) f w ≡ o → count_of o ≡ some n → (o ≡ some (take n m)) × (n ≤ length m)
       go none h c = absurd (let z : ◌≡◌ {A = ℕ} 0 1 = cc in omega arith)
       go (some xs) h c =
           let k = leading_said (length l) h in
@@ -185,9 +206,9 @@ module _ {A : Type 0} (f : List ℕ → Option A) (w : List ℕ) where
           let v : m ≡ xs ++ drop (0 + length xs) l = e ∙ ap (sets l 0) k.0 ∙ sets-eq xs l 0 (omega (arith, k.1)) in
           (ap some (sym (rw (v, ← i) (take-append_seam xs _))), omega (arith, ap length v, length-append xs (drop (0 + length xs) l)))
 
-  pub list_unread : (l : List A) {r : Number} → r ≡ count_of (said_items (length l) f w) → r ≡ Not → said_items (length l) f w ≡ none
-  list_unread l {r} d q = go (said_items (length l) f w) (sym d ∙ q)
+  pub list_unread : (l : List A) → None ≡ answer_of (count_of (said_items (length l) f w)) → said_items (length l) f w ≡ none
+  list_unread l d = go (said_items (length l) f w) (heard_none _ d)
     where
-      go : (o : Option (List A)) → count_of o ≡ Not → o ≡ none
+      go : (o : Option (List A)) → count_of o ≡ none → o ≡ none
       go none c = refl
       go (some xs) c = absurd (let z : ◌≡◌ {A = ℕ} 0 1 = cc in omega arith)

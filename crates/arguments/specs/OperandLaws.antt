@@ -1,5 +1,5 @@
 -- What bytes say as an operand, from what their digits say.
-use Rattle.std.specs.Prelude.{ℕ, suc, ◌-◌, ◌≡◌, refl, List, [], ◌∷◌, length, take, drop, get_or}
+use Rattle.std.specs.Prelude.{ℕ, suc, ◌-◌, ◌≤◌, ◌<◌, ◌≡◌, refl, List, [], ◌∷◌, length, take, drop, get_or}
 use Rattle.std.proofs.Common.{sym, ◌∙◌, arith, take_all, ne_eqb}
 use Rattle.std.proofs.Math.Option.{Option}
 use Rattle.table.specs.declared.Operand.{Operand}
@@ -30,7 +30,7 @@ module _ (t : List ℕ) (n e : ℕ) {w : Num} (d : w ≡ number_of t) (h : w ≡
   unfolding unsaid
   neg_bad = record { same = λ l s. rw (numeral_bad t d h); ends = tt }
 
-pub operand_none : (t : List ℕ) (n e : ℕ) → length t ≡ 0 → OperandJudged n (said_operand t) e (NotOperand Misspelt)
+pub operand_none : (t : List ℕ) (n e : ℕ) → length t < 1 → OperandJudged n (said_operand t) e (NotOperand Misspelt)
 unfolding said_operand unsaid
 operand_none [] n e h = record { same = λ l s. refl; ends = tt }
 operand_none (b ∷ t) n e h = absurd (omega arith)
@@ -38,20 +38,20 @@ operand_none (b ∷ t) n e h = absurd (omega arith)
 whole : (t : List ℕ) → take (suc (length t) - 1) t ≡ t
 whole t = take_all (suc (length t) - 1) t (omega arith)
 
-pub operand_var : (t : List ℕ) {n e : ℕ} {r : Answer} → (length t ≡ 0 → ⊥) → get_or t 0 0 ≡ 118
+pub operand_var : (t : List ℕ) {n e : ℕ} {r : Answer} → 1 ≤ length t → get_or t 0 0 ≡ 118
     → OperandJudged n (as_var (numeral (take (length t - 1) (drop 1 t)))) e r → OperandJudged n (said_operand t) e r
 unfolding said_operand
-operand_var [] h p j = absurd (h refl)
+operand_var [] h p j = absurd (omega arith)
 operand_var (b ∷ t) h p j = rw p (rw (whole t) at j)
 
-pub operand_negative : (t : List ℕ) {n e : ℕ} {r : Answer} → (length t ≡ 0 → ⊥) → (get_or t 0 0 ≡ 118 → ⊥) → get_or t 0 0 ≡ 45
+pub operand_negative : (t : List ℕ) {n e : ℕ} {r : Answer} → 1 ≤ length t → (get_or t 0 0 ≡ 118 → ⊥) → get_or t 0 0 ≡ 45
     → OperandJudged n (as_negative (numeral (take (length t - 1) (drop 1 t)))) e r → OperandJudged n (said_operand t) e r
 unfolding said_operand
-operand_negative [] h k p j = absurd (h refl)
+operand_negative [] h k p j = absurd (omega arith)
 operand_negative (b ∷ t) h k p j = rw p (rw (whole t) at j)
 
-pub operand_const : (t : List ℕ) {n e : ℕ} {r : Answer} → (length t ≡ 0 → ⊥) → (get_or t 0 0 ≡ 118 → ⊥) → (get_or t 0 0 ≡ 45 → ⊥)
+pub operand_const : (t : List ℕ) {n e : ℕ} {r : Answer} → 1 ≤ length t → (get_or t 0 0 ≡ 118 → ⊥) → (get_or t 0 0 ≡ 45 → ⊥)
     → OperandJudged n (as_const (numeral t)) e r → OperandJudged n (said_operand t) e r
 unfolding said_operand
-operand_const [] h k p j = absurd (h refl)
+operand_const [] h k p j = absurd (omega arith)
 operand_const (b ∷ t) h k p j = rw (ne_eqb b 118 k, ne_eqb b 45 p) j

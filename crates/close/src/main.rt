@@ -2,8 +2,6 @@
 
 #![tactic(auto)]
 
-use console::Input;
-
 fn main(rt: HostRuntime) {
     let help = b"close < table.txt > closed.txt\n\
         Prints the closed table of the open table on standard input, or refused=N line=L if the text has a fault or is a closed table.\n\
@@ -16,7 +14,7 @@ fn main(rt: HostRuntime) {
         return;
     }
     let mut text = [0u8; 65537];
-    let Input::Is(n) = console::read_input(rt, &mut text) else {
+    let Some(n) = console::read_input(rt, &mut text) else {
         return;
     };
     let mut out = [0u8; 65536];

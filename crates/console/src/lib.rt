@@ -2,21 +2,14 @@
 
 #![tactic(auto)]
 
-ghost use Rattle.std.specs.Prelude.{◌≡◌, ◌≤◌, length};
+ghost use Rattle.std.specs.Prelude.{◌≡◌, ◌≤◌, ◌<◌, IfSome, OnOk, length, take};
+ghost use Rattle.std.specs.Io.KnownBytes.{Consumes, IsAtEnd};
 ghost use Rattle.text.specs.Number.{bytes};
 ghost use Rattle.text.specs.Value.{same};
-ghost use Rattle.console.specs.Input.{Fits};
 
-use scan::Found;
 use std::env::{Env, FillError};
+use std::io;
 use std::io::{Error, Print, Read, Write};
-
-// How many bytes were read; or a read failed.
-#[derive(Clone, Copy)]
-pub enum Input {
-    Is(usize),
-    Failed,
-}
 
 // Whether word i was given.
 fn is_given(rt: HostRuntime, i: usize) -> bool {
@@ -26,24 +19,14 @@ fn is_given(rt: HostRuntime, i: usize) -> bool {
 
 // How many words follow the program's name.
 pub fn word_count(rt: HostRuntime) -> usize {
-    let mut n = 0;
-    while n < usize::MAX {
-        if !is_given(rt, n + 1) {
-            return n;
-        }
-        n += 1;
-    }
-    n
+    (1..=usize::MAX).take_while(|i| is_given(rt, *i)).count()
 }
 
 // Puts word i at the start of a buffer, and answers its length; 0 where it is missing or longer than the buffer.
 pub fn word(rt: HostRuntime, i: usize, buffer: &mut [u8]) -> usize
     ensures { result ≤ length buffer.new }
 {
-    match rt.arg(i, buffer) {
-        Ok(n) => n,
-        Err(_) => 0,
-    }
+    rt.arg(i, buffer).unwrap_or(0)
 }
 
 // Whether a word asks for help.
@@ -57,69 +40,58 @@ pub fn is_help(word: &[u8]) -> bool
 pub fn helped(rt: HostRuntime, help: &[u8]) -> bool {
     let mut first = [0u8; 8];
     let n = word(rt, 1, &mut first);
-    if is_help(&first[..n]) {
+    let asked = is_help(&first[..n]);
+    if asked {
         show(rt, help);
-        return true;
     }
-    false
+    asked
 }
 
 // Whether a program that takes no words has none; else it shows its help if that is asked for, or says that a word is too many.
 pub fn no_words(rt: HostRuntime, help: &[u8], surplus: &[u8]) -> bool {
-    if word_count(rt) == 0 {
-        return true;
-    }
-    if !helped(rt, help) {
+    let none = word_count(rt) == 0;
+    if !none && !helped(rt, help) {
         say(rt, surplus);
     }
-    false
+    none
 }
 
 // ---- reading
 
-// One read; if it fails, that is told under a name.
-fn read_some<R: Read>(rt: HostRuntime, from: &mut R, name: &[u8], buffer: &mut [u8]) -> Input
-    ensures { Fits result buffer.new }
-{
-    match from.read(buffer) {
-        Ok(n) => Input::Is(n),
-        Err(error) => {
-            fail(rt, name, &error);
-            Input::Failed
-        }
-    }
-}
-
-// Reads into a buffer until it is full or the input ends.
-fn read_all<R: Read>(rt: HostRuntime, from: &mut R, name: &[u8], buffer: &mut [u8]) -> Input
-    ensures { Fits result buffer.new }
+// Reads until the buffer is full, the input ends or a read fails: how many bytes it put at the start of the buffer, and the failure.
+pub fn fill<R: Read>(from: &mut R, buffer: &mut [u8]) -> (usize, io::Result<()>)
+    ensures within { result.0 ≤ length buffer.new }
+    ensures bytes { Consumes (R.remaining from.old) (R.remaining from.new) (take result.0 buffer.new) }
+    ensures end { OnOk result.1 (result.0 < length buffer.new → IsAtEnd (R.remaining from.new)) }
 {
     let mut done = 0;
     while done < buffer.len() {
-        let Input::Is(n) = read_some(rt, from, name, &mut buffer[done..]) else {
-            return Input::Failed;
-        };
-        if n == 0 {
-            return Input::Is(done);
+        match from.read(&mut buffer[done..]) {
+            Ok(0) => break,
+            Ok(n) => done += n,
+            Err(error) => return (done, Err(error)),
         }
-        done += n;
     }
-    Input::Is(done)
+    (done, Ok(()))
 }
 
-// The same, of a file or another reader.
-pub fn read<R: Read>(rt: HostRuntime, from: &mut R, name: &[u8], buffer: &mut [u8]) -> Input
-    ensures { Fits result buffer.new }
+// The same, where a failure is told under a name: how many bytes were read, or none if a read failed.
+pub fn read<R: Read>(rt: HostRuntime, from: &mut R, name: &[u8], buffer: &mut [u8]) -> Option<usize>
+    ensures { IfSome result (λ n. n ≤ length buffer.new) }
 {
-    read_all(rt, from, name, buffer)
+    let (n, read) = fill(from, buffer);
+    if let Err(error) = read {
+        fail(rt, name, &error);
+        return None;
+    }
+    Some(n)
 }
 
 // The text on standard input.
-pub fn read_input(rt: HostRuntime, buffer: &mut [u8]) -> Input
-    ensures { Fits result buffer.new }
+pub fn read_input(rt: HostRuntime, buffer: &mut [u8]) -> Option<usize>
+    ensures { IfSome result (λ n. n ≤ length buffer.new) }
 {
-    let mut from = rt.stdin();
-    read(rt, &mut from, b"standard input", buffer)
+    read(rt, &mut rt.stdin(), b"standard input", buffer)
 }
 
 // ---- writing
@@ -144,17 +116,12 @@ pub fn show(rt: HostRuntime, text: &[u8]) -> bool {
 fn words_end(text: &[u8]) -> usize
     ensures { result ≤ length text.now }
 {
-    let mut at = 0;
-    while at < text.len() {
-        if text[at] == 0 {
+    for at in 0..text.len() {
+        if text[at] == 0 || text[at..].starts_with(b" (os error ") {
             return at;
         }
-        if let Found::At(_) = scan::after(text, at, b" (os error ") {
-            return at;
-        }
-        at += 1;
     }
-    at
+    text.len()
 }
 
 // Tells on the standard error stream that something failed, under its name, and the system's words for the error.

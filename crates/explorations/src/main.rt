@@ -10,28 +10,28 @@ fn print(rt: HostRuntime, first: &[u8], second: &[u8], text: &[u8]) {
     parts::print(rt.stdout(), &out, n);
 }
 
-// The next case, read into buffers; whether there was none.
-fn last(rt: HostRuntime, first: &mut [u8], second: &mut [u8], text: &mut [u8]) -> bool {
-    let a = parts::next(rt.stdin(), first).len;
-    let b = parts::next(rt.stdin(), second).len;
-    let p = parts::next(rt.stdin(), text);
-    if !p.there {
-        return true;
-    }
-    let n = p.len;
+// Prints the answer to the next case, read into buffers; none where there is no case.
+fn answer_next(
+    rt: HostRuntime,
+    first: &mut [u8],
+    second: &mut [u8],
+    text: &mut [u8],
+) -> Option<()> {
+    // a word that is missing or too long is empty
+    let a = parts::next(rt.stdin(), first).unwrap_or(0);
+    let b = parts::next(rt.stdin(), second).unwrap_or(0);
+    let n = parts::next(rt.stdin(), text).ok()?;
     print(rt, &first[..a], &second[..b], &text[..n]);
-    false
+    Some(())
 }
 
 fn main(rt: HostRuntime) {
     let mut first = [0u8; 32];
     let mut second = [0u8; 32];
     let mut text = [0u8; 65537];
-    let mut left: usize = 100000;
-    while left > 0 {
-        if last(rt, &mut first, &mut second, &mut text) {
+    for _ in 0..100000 {
+        if answer_next(rt, &mut first, &mut second, &mut text).is_none() {
             return;
         }
-        left -= 1;
     }
 }

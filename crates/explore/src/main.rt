@@ -2,11 +2,10 @@
 
 #![tactic(auto)]
 
-use console::Input;
 use explore_words::{Asked, Word};
 
-// What the words ask for.
-fn words(rt: HostRuntime) -> Asked {
+// What the words ask for; or the first that can't be read.
+fn words(rt: HostRuntime) -> Result<Asked, Word> {
     let mut first = [0u8; 32];
     let a = console::word(rt, 1, &mut first);
     let mut second = [0u8; 32];
@@ -23,13 +22,13 @@ fn say_word(rt: HostRuntime, w: Word) {
 }
 
 // Prints the answer to the search that was asked for, or the refusal of the text.
-fn print_search(rt: HostRuntime, depth: usize, bound: usize) {
+fn print_search(rt: HostRuntime, asked: Asked) {
     let mut text = [0u8; 65537];
-    let Input::Is(n) = console::read_input(rt, &mut text) else {
+    let Some(n) = console::read_input(rt, &mut text) else {
         return;
     };
     let mut out = [0u8; 131072];
-    let len = explore_words::explore_asked(rt.stderr(), &text[..n], depth, bound, &mut out);
+    let len = explore_words::explore_asked(rt.stderr(), &text[..n], asked, &mut out);
     reasons::print(rt, &out[..len]);
 }
 
@@ -46,7 +45,7 @@ fn main(rt: HostRuntime) {
         return;
     }
     match words(rt) {
-        Asked::Search(depth, bound) => print_search(rt, depth, bound),
-        Asked::Unread(w) => say_word(rt, w),
+        Ok(asked) => print_search(rt, asked),
+        Err(w) => say_word(rt, w),
     }
 }

@@ -22,39 +22,35 @@ use Rattle.explorer.specs.Says.{Says}
 use Rattle.explore_answer.specs.Rows.{step_of, no_rows}
 use Rattle.explore_answer.specs.Ready.{Allowed, ending, met_bound, found_none}
 use Rattle.explore_report.specs.Rows.{rows_text}
-use Rattle.explore_text.specs.declared.Printed.{Printed}
-use Rattle.explore_text.specs.Text.{Prints}
+use Rattle.explore_text.specs.Text.{Answered, Met}
 use Rattle.explore_text.specs.RowText.{rows_text_lem}
 use Rattle.explore_text.specs.Reached.{Reached}
-
-clash : {A : Type 0} → ◌≡◌ {A = ℕ} 0 1 → A
-clash e = absurd (omega arith)
 
 -- ---- a table without a fault
 
 module _ {t : Table} {depth : ℕ} (bound : ℕ) {out : List ℕ} where
   -- an answer that is not 18
   prints : {out' : List ℕ} {len : ℕ} (e : Exploring) → e ≡ explore t depth bound → (e.number ≡ 18 → ⊥) → Put 131072 out 0 (answer_text t e e.number) out' len
-      → Prints t depth bound out out' (record { done = true; len = len })
-  prints e q n p = record { printed = λ d. rw (← q) p; enough = λ d k. n (ap (λ (x : Exploring). x.number) q ∙ k); met = λ d. clash cc; same = λ d. clash cc }
+      → Answered t depth bound out out' len
+  prints e q n p = record { printed = rw (← q) p; enough = λ k. n (ap (λ (x : Exploring). x.number) q ∙ k) }
 
   module _ {out' : List ℕ} {len : ℕ} where
-    pub prints_open : fault t ≡ 0 → t.closed ≡ false → Put 38 out 0 (refused_line 9 0) out' len → Prints t depth bound out out' (record { done = true; len = len })
+    pub prints_open : fault t ≡ 0 → t.closed ≡ false → Put 38 out 0 (refused_line 9 0) out' len → Answered t depth bound out out' len
     prints_open z c p = prints (refusal 9) (explore_refused t depth bound 9 (refused_open t depth z c) (λ e. omega arith)) (λ e. omega arith) (put_more (omega arith) p)
 
-    pub prints_deep : fault t ≡ 0 → t.closed ≡ true → 24 < depth → Put 38 out 0 (refused_line 17 0) out' len → Prints t depth bound out out' (record { done = true; len = len })
+    pub prints_deep : fault t ≡ 0 → t.closed ≡ true → 24 < depth → Put 38 out 0 (refused_line 17 0) out' len → Answered t depth bound out out' len
     prints_deep z c l p = prints (refusal 17) (explore_refused t depth bound 17 (refused_deep t depth z c l) (λ e. omega arith)) (λ e. omega arith) (put_more (omega arith) p)
 
   module _ {r : Sought} {marks : List ℕ} {cells : List (List ℤ)} {rows : List (List ℕ)} (a : Allowed t depth) (h : Says 0 (first_state t) no_rows (sought t depth bound) r marks cells rows) where
-    pub prints_met : r.kind ≡ 2 → Prints t depth bound out out (record { done = false; len = 0 })
-    prints_met e = record { printed = λ d. clash cc; enough = λ d. clash cc; met = λ d. sym (ap (λ (x : Exploring). x.number) (met_bound bound a h e)); same = λ d. refl }
+    pub prints_met : r.kind ≡ 2 → Met t depth bound out out
+    prints_met e = record { met = sym (ap (λ (x : Exploring). x.number) (met_bound bound a h e)); same = refl }
 
-    pub prints_none : {out' : List ℕ} {len : ℕ} → r.kind ≡ 0 → Put 38 out 0 (none_line (bound - r.left)) out' len → Prints t depth bound out out' (record { done = true; len = len })
+    pub prints_none : {out' : List ℕ} {len : ℕ} → r.kind ≡ 0 → Put 38 out 0 (none_line (bound - r.left)) out' len → Answered t depth bound out out' len
     prints_none e p = prints (ending Nothing (map step_of rows) 0 (bound - r.left)) (found_none bound a h e) (λ e. omega arith) (put_more (omega arith) p)
 
   pub prints_found : {r : Sought} {marks : List ℕ} {cells : List (List ℤ)} {rows : List (List ℕ)} {s : State} {out' : List ℕ} {len : ℕ} → Allowed t depth
       → (f : Reached t depth bound r marks cells rows) → s ≡ f.x.state → Put 131072 out 0 (rows_text t rows r.steps r.failed (bound - r.left) s) out' len
-      → Prints t depth bound out out' (record { done = true; len = len })
+      → Answered t depth bound out out' len
   prints_found {r = r} {rows = rows} {s = s} {out' = out'} {len = len} a f e p =
       let q : rows_text t rows r.steps r.failed (bound - r.left) s ≡ answer_text t (found_answer f.p f.x (bound - r.left)) 0 =
       (λ ι. rows_text t (f.rows_are ι) (f.steps ι) (f.failed ι) (bound - r.left) (e ι))
@@ -84,6 +80,6 @@ module _ (s : List ℕ) (depth bound : ℕ) {r : Reading} (e : r ≡ read s) whe
   text_explored h p = rw (← from_text, h) p
 
 -- the bound is met: nothing is printed yet
-pub prints_bound : {t : Table} {depth bound : ℕ} {out out' out'' : List ℕ} {len : ℕ} {r : Printed} → Prints t depth bound out out' r → r.done ≡ false → Put 38 out' 0 (refused_line 18 0) out'' len
+pub prints_bound : {t : Table} {depth bound : ℕ} {out out' out'' : List ℕ} {len : ℕ} → Met t depth bound out out' → Put 38 out' 0 (refused_line 18 0) out'' len
     → Put 131072 out 0 (explored_text t depth bound) out'' len
-prints_bound h e p = rw (h.met e, ← h.same e) (put_more (omega arith) p)
+prints_bound h p = rw (h.met, ← h.same) (put_more (omega arith) p)

@@ -11,15 +11,8 @@ ghost use Rattle.explore_text.specs.Text.{Prints};
 
 use table::Table;
 
-// Whether the answer is printed, which it is unless the bound is met, and its length.
-#[derive(Clone, Copy)]
-pub struct Printed {
-    pub done: bool,
-    pub len: usize,
-}
-
-// The exploration of a closed table that has no fault, to a depth that is allowed.
-fn explore_ready(t: Table, depth: usize, bound: u64, out: &mut [u8]) -> Printed
+// The exploration of a closed table that has no fault, to a depth that is allowed: the length of the answer, which is printed unless the bound is met.
+fn explore_ready(t: Table, depth: usize, bound: u64, out: &mut [u8]) -> Option<usize>
     requires { Allowed t depth }
     ensures { Prints t depth bound out.old out.new result }
 {
@@ -32,36 +25,31 @@ fn explore_ready(t: Table, depth: usize, bound: u64, out: &mut [u8]) -> Printed
     let mut rows = [no_row; 24];
     let r = explorer::seek(t, depth, bound, &mut marks, &mut cells, &mut rows);
     if r.kind == 2 {
-        return Printed {
-            done: false,
-            len: 0,
-        };
+        return None;
     }
     let tried = bound - r.left;
     if r.kind == 0 {
         let len = explore_report::put_none(out, tried);
-        return Printed { done: true, len };
+        return Some(len);
     }
     let a = run_state::answer(0, 0, 0, &marks, &cells);
     let s = a.state;
     let len = explore_report::put_found(out, t, &rows, r.steps, r.failed, tried, s);
-    Printed { done: true, len }
+    Some(len)
 }
 
 // The exploration of a table that has no fault.
-pub fn explore_table(t: Table, depth: usize, bound: u64, out: &mut [u8]) -> Printed
+pub fn explore_table(t: Table, depth: usize, bound: u64, out: &mut [u8]) -> Option<usize>
     requires { fault t ≡ 0 }
     ensures { Prints t depth bound out.old out.new result }
 {
-    if t.closed {
-        if 24 < depth {
-            let len = refusals::put_refused(out, 17, 0);
-            return Printed { done: true, len };
-        }
-        return explore_ready(t, depth, bound, out);
+    if !t.closed {
+        return Some(refusals::put_refused(out, 9, 0));
     }
-    let len = refusals::put_refused(out, 9, 0);
-    Printed { done: true, len }
+    if 24 < depth {
+        return Some(refusals::put_refused(out, 17, 0));
+    }
+    explore_ready(t, depth, bound, out)
 }
 
 // The answer for a text's table, or the refusal of the text: its bytes as far as the buffer reaches, and their number, at most 131,072.
@@ -73,9 +61,8 @@ pub fn explore_text(s: &[u8], depth: usize, bound: u64, out: &mut [u8]) -> usize
         return refusals::put_refused(out, r.number, r.line);
     }
     let t = r.table;
-    let p = explore_table(t, depth, bound, out);
-    if p.done {
-        return p.len;
+    match explore_table(t, depth, bound, out) {
+        Some(len) => len,
+        None => refusals::put_refused(out, 18, 0),
     }
-    refusals::put_refused(out, 18, 0)
 }

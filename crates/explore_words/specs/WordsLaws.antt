@@ -1,5 +1,5 @@
 -- Laws of the words, one after another, and of searches of growing bounds.
-use Rattle.std.specs.Prelude.{ℕ, ◌-◌, ◌≤◌, ◌≡◌, true, false, List, [], ◌∷◌}
+use Rattle.std.specs.Prelude.{ℕ, ◌-◌, ◌≤◌, ◌≡◌, List, [], ◌∷◌, Result, Ok, Err}
 use Rattle.std.proofs.Math.Path.{refl, ap}
 use Rattle.std.proofs.Common.{sym, ◌∙◌, subst, arith}
 use Rattle.std.proofs.Math.Option.{none, some}
@@ -15,12 +15,10 @@ use Rattle.put.specs.Put.{Put}
 use Rattle.put.specs.PutLaws.{put_more}
 use Rattle.arguments.specs.Answers.{AnswerPut}
 use Rattle.arguments.specs.declared.Answer.TheVariants.{Prints, Says}
-use Rattle.explore_text.specs.declared.Printed.{Printed}
-use Rattle.explore_text.specs.Text.{Prints as PrintsFor}
+use Rattle.explore_text.specs.Text.{Answered as AnswerFor, Met}
 use Rattle.explore_text.specs.TextLaws.{prints_bound}
 use Rattle.explore_words.specs.declared.Word.{Word as Found}
 use Rattle.explore_words.specs.declared.Asked.{Asked}
-use Rattle.explore_words.specs.declared.Asked.TheVariants.{Search, Unread}
 use Rattle.explore_words.specs.Words.{word_of, asked_words}
 
 -- ---- the words
@@ -68,28 +66,30 @@ module _ (y x : List ℕ) (n : ℕ) where
 pub line_of : {k r : ℕ} {l m : List ℕ} {w x : Found} → w ≡ x → k ≤ 256 → Put k l 0 (word_line (word_of x)) m r → Put 256 l 0 (word_line (word_of w)) m r
 line_of e h p = rw e (put_more h p)
 
-module _ (ws : List (List ℕ)) (s : List ℕ) (r : Asked) (e : said ws ≡ asked_words r) where
-  answered : {x : Asked} → r ≡ x → explore_answer ws s ≡ answer_for (asked_words x) s
+module _ (ws : List (List ℕ)) (s : List ℕ) where
+  answered : (x : Result Asked Found) → said ws ≡ asked_words x → explore_answer ws s ≡ answer_for (asked_words x) s
   unfolding explore_answer
-  answered q = ap (λ u. answer_for u s) (e ∙ ap asked_words q)
+  answered x e = ap (λ u. answer_for u s) e
 
-  pub answer_search : {l o : List ℕ} {n d b : ℕ} → r ≡ Search d b → Put 131072 l 0 (explore_text s d b) o n → AnswerPut 131072 l (explore_answer ws s) o (Prints n)
-  answer_search {l} {o} {n} q p = subst (λ (u : Answered). AnswerPut 131072 l u o (Prints n)) (sym (answered q)) p
+  pub answer_search : (a : Asked) → said ws ≡ asked_words (Ok a) → {l o : List ℕ} {n : ℕ} → Put 131072 l 0 (explore_text s a.depth a.bound) o n → AnswerPut 131072 l (explore_answer ws s) o (Prints n)
+  answer_search a e {l} {o} {n} p = subst (λ (u : Answered). AnswerPut 131072 l u o (Prints n)) (sym (answered (Ok a) e)) p
 
-  pub answer_unread : {l o : List ℕ} {n : ℕ} {w : Found} → r ≡ Unread w → Put 256 l 0 (word_line (word_of w)) o n → AnswerPut 131072 l (explore_answer ws s) o (Says n)
-  answer_unread {l} {o} {n} q p = subst (λ (u : Answered). AnswerPut 131072 l u o (Says n)) (sym (answered q)) (put_more (omega arith) p)
+  pub answer_unread : (w : Found) → said ws ≡ asked_words (Err w) → {l o : List ℕ} {n : ℕ} → Put 256 l 0 (word_line (word_of w)) o n → AnswerPut 131072 l (explore_answer ws s) o (Says n)
+  answer_unread w e {l} {o} {n} p =
+      let q : Put 131072 l 0 (word_line (word_of w)) o n = put_more (omega arith) p in
+      subst (λ (u : Answered). AnswerPut 131072 l u o (Says n)) (sym (answered (Err w) e)) q
 
 -- ---- searches of growing bounds: those in vain print nothing
 
-module _ {t : Table} {d most m : ℕ} {out₀ out out' : List ℕ} {r : Printed} (e : out ≡ out₀) (l : m ≤ most) (h : PrintsFor t d m out out' r) where
+module _ {t : Table} {d most m : ℕ} {out₀ out out' : List ℕ} (e : out ≡ out₀) (l : m ≤ most) where
   -- a smaller bound that suffices gives the same answer
-  pub loud_printed : r.done ≡ true → Put 131072 out₀ 0 (explored_text t d most) out' r.len
-  loud_printed f =
-      rw (← e) (subst (λ (x : Exploring). Put 131072 out 0 (answer_text t x x.number) out' r.len) (explore_more t d m most l (h.enough f)) (h.printed f))
+  pub loud_printed : {len : ℕ} → AnswerFor t d m out out' len → Put 131072 out₀ 0 (explored_text t d most) out' len
+  loud_printed {len} h = rw (← e) (subst (λ (x : Exploring). Put 131072 out 0 (answer_text t x x.number) out' len) (explore_more t d m most l h.enough) h.printed)
 
-  pub loud_same : r.done ≡ false → out' ≡ out₀
-  loud_same f = h.same f ∙ e
+  module _ (h : Met t d m out out') where
+    pub loud_same : out' ≡ out₀
+    loud_same = h.same ∙ e
 
-  -- the bound asked for is met
-  pub loud_bound : {out'' : List ℕ} {len : ℕ} → r.done ≡ false → most ≤ m → Put 38 out' 0 (refused_line 18 0) out'' len → Put 131072 out₀ 0 (explored_text t d most) out'' len
-  loud_bound f g p = let q : most ≡ m = omega arith in rw (← e, q) (prints_bound h f p)
+    -- the bound asked for is met
+    pub loud_bound : {out'' : List ℕ} {len : ℕ} → most ≤ m → Put 38 out' 0 (refused_line 18 0) out'' len → Put 131072 out₀ 0 (explored_text t d most) out'' len
+    loud_bound g p = let q : most ≡ m = omega arith in rw (← e, q) (prints_bound h p)

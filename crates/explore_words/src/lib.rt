@@ -11,7 +11,7 @@ ghost use Rattle.put.specs.Put.{Put};
 ghost use Rattle.arguments.specs.Answers.{AnswerPut};
 ghost use Rattle.explore_words.specs.Words.{word_of, asked_words};
 
-use arguments::{Answer, Number};
+use arguments::Answer;
 use std::io::{Print, Stderr};
 use table::Table;
 
@@ -23,35 +23,31 @@ pub enum Word {
     Further,
 }
 
-// What the words ask for: a search, with its depth and the most steps tried; or the first word that can't be read, is missing or is too many.
+// The search that the words ask for: its depth and the most steps tried.
 #[derive(Clone, Copy)]
-pub enum Asked {
-    Search(usize, usize),
-    Unread(Word),
+pub struct Asked {
+    pub depth: usize,
+    pub bound: usize,
 }
 
-// What n words ask for, of which the first two are given.
-pub fn ask(n: usize, first: &[u8], second: &[u8]) -> Asked
+// What n words ask for, of which the first two are given; or the first word that can't be read, is missing or is too many.
+pub fn ask(n: usize, first: &[u8], second: &[u8]) -> Result<Asked, Word>
     ensures { said (given n (first.now ∷ second.now ∷ [])) ≡ asked_words result }
 {
     if n == 0 {
-        return Asked::Unread(Word::Depth);
+        return Err(Word::Depth);
     }
-    let Number::Is(d) = arguments::up_to(first, 18446744073709551615) else {
-        return Asked::Unread(Word::Depth);
-    };
+    let depth = arguments::up_to(first, usize::MAX).ok_or(Word::Depth)?;
     let left = n - 1;
     if left == 0 {
-        return Asked::Unread(Word::Bound);
+        return Err(Word::Bound);
     }
-    let Number::Is(b) = arguments::up_to(second, 18446744073709551615) else {
-        return Asked::Unread(Word::Bound);
-    };
+    let bound = arguments::up_to(second, usize::MAX).ok_or(Word::Bound)?;
     let further = left != 1;
     if further {
-        return Asked::Unread(Word::Further);
+        return Err(Word::Further);
     }
-    Asked::Search(d, b)
+    Ok(Asked { depth, bound })
 }
 
 // Which word, and what was expected.
@@ -107,9 +103,8 @@ fn explore_loudly(err: Stderr, t: Table, depth: usize, most: u64, out: &mut [u8]
 {
     let mut b = first_bound(most);
     loop {
-        let p = explore_text::explore_table(t, depth, b, out);
-        if p.done {
-            return p.len;
+        if let Some(len) = explore_text::explore_table(t, depth, b, out) {
+            return len;
         }
         if most <= b {
             return refusals::put_refused(out, 18, 0);
@@ -120,15 +115,15 @@ fn explore_loudly(err: Stderr, t: Table, depth: usize, most: u64, out: &mut [u8]
 }
 
 // The search that was asked for: the answer for a text's table, or the refusal of the text.
-pub fn explore_asked(err: Stderr, s: &[u8], depth: usize, most: usize, out: &mut [u8]) -> usize
-    ensures { Put 131072 out.old 0 (explore_text s.now depth most) out.new result }
+pub fn explore_asked(err: Stderr, s: &[u8], asked: Asked, out: &mut [u8]) -> usize
+    ensures { Put 131072 out.old 0 (explore_text s.now asked.depth asked.bound) out.new result }
 {
     let r = reader::read(s);
     if r.number != 0 {
         return refusals::put_refused(out, r.number, r.line);
     }
     let t = r.table;
-    explore_loudly(err, t, depth, most as u64, out)
+    explore_loudly(err, t, asked.depth, asked.bound as u64, out)
 }
 
 // What the program answers to n words, of which the first two are given, and to a text on its standard input.
@@ -143,7 +138,7 @@ pub fn explore_words(
     ensures { AnswerPut 131072 out.old (explore_answer (given n (first.now ∷ second.now ∷ [])) s.now) out.new result }
 {
     match ask(n, first, second) {
-        Asked::Search(d, b) => Answer::Prints(explore_asked(err, s, d, b, out)),
-        Asked::Unread(w) => Answer::Says(word_line(w, out)),
+        Ok(asked) => Answer::Prints(explore_asked(err, s, asked, out)),
+        Err(w) => Answer::Says(word_line(w, out)),
     }
 }

@@ -3,8 +3,6 @@
 
 #![tactic(auto)]
 
-use console::Input;
-
 // Room for the longest graphs.
 fn room() -> [u8; 936000] {
     [0; 936000]
@@ -22,7 +20,7 @@ fn main(rt: HostRuntime) {
         return;
     }
     let mut text = [0u8; 65537];
-    let Input::Is(n) = console::read_input(rt, &mut text) else {
+    let Some(n) = console::read_input(rt, &mut text) else {
         return;
     };
     let mut out = room();

@@ -2,34 +2,30 @@
 
 #![tactic(auto)]
 
-ghost use Rattle.std.specs.Prelude.{◌≡◌, List, [], ◌∷◌, ℕ, ℤ};
+ghost use Rattle.std.specs.Prelude.{◌≡◌, ◌≤◌, List, [], ◌∷◌, ℕ, ℤ, IfOk};
 ghost use Rattle.machine.specs.Words.{given};
-ghost use Rattle.log_word.specs.Words.{from_log, rest_words, RestFits};
+ghost use Rattle.machine.specs.Program.{most_bytes};
+ghost use Rattle.log_word.specs.Words.{from_log, rest_words};
 
-use arguments::Number;
-
-// The length of the log buffer; or LOG is missing or can't be read, or there is a further word.
+// LOG is missing or can't be read, or there is a further word.
 #[derive(Clone, Copy)]
-pub enum Rest {
-    Log(usize),
-    NoLog,
+pub enum Unread {
+    Log,
     Further,
 }
 
-// What the words from LOG on say; n of them are left.
-pub fn last_words(n: usize, word: &[u8]) -> Rest
+// The length of the log buffer, as the words from LOG on say; n of them are left.
+pub fn last_words(n: usize, word: &[u8]) -> Result<usize, Unread>
     ensures says { (ks : List ℕ) (vs : List ℤ) (m : ℕ) → from_log ks vs m (given n (word.now ∷ [])) ≡ rest_words ks vs m result }
-    ensures fits { RestFits result }
+    ensures fits { IfOk result (λ k. k ≤ most_bytes) }
 {
     if n == 0 {
-        return Rest::NoLog;
+        return Err(Unread::Log);
     }
-    let Number::Is(k) = arguments::log(word) else {
-        return Rest::NoLog;
-    };
+    let k = arguments::log(word).ok_or(Unread::Log)?;
     let further = n != 1;
     if further {
-        return Rest::Further;
+        return Err(Unread::Further);
     }
-    Rest::Log(k)
+    Ok(k)
 }

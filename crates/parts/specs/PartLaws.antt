@@ -1,11 +1,10 @@
 -- A part, as the code reads it: a law for each return.
-use Rattle.std.specs.Prelude.{ℕ, ◌+◌, ◌≤◌, ◌<◌, ◌≡◌, refl, false, List, ◌++◌, eqb, length, take, drop}
-use Rattle.std.proofs.Common.{◌∙◌, arith, length-append, length-take-le, drop_at, le-leb}
-use Rattle.std.proofs.Math.Option.{none, some}
+use Rattle.std.specs.Prelude.{ℕ, ◌+◌, ◌≤◌, ◌<◌, ◌≡◌, refl, Bool, true, false, cond, List, ◌++◌, eqb, length, take, drop, Ok, Err}
+use Rattle.std.proofs.Common.{◌∙◌, arith, length-take-le, drop_at, le-leb, eq-eqb, ne_eqb}
+use Rattle.std.proofs.Math.Option.{some}
 use Rattle.std.proofs.Math.Seq.{length_front}
 use Rattle.std.proofs.lemmas.Bool.{lt-leb}
-use Rattle.parts.specs.declared.Part.{Part}
-use Rattle.parts.specs.declared.Said.TheVariants.{Nothing, Bytes}
+use Rattle.parts.specs.declared.Missing.TheVariants.{Long, Cut}
 use Rattle.parts.specs.Parts.{digit_of, size_of, PartOf, Next}
 
 -- ---- five digits
@@ -16,29 +15,29 @@ digit_is d l = omega arith
 
 -- ---- a part
 
-pub too_short : (n : ℕ) (l : List ℕ) → length l < n → PartOf (Bytes n) l l (record { said = Bytes n; len = 0; there = false })
-too_short n l h = record {
-  answer = rw (lt-leb n (length l) h);
-  most = omega arith;
+pub too_long : (h l : List ℕ) {k : ℕ} → k ≡ size_of h → length l < k → Next l l (Err (Long k))
+too_long h l {k} e g = record {
+  header = some h;
+  part = rw (← e) (record { read = 0; most = omega arith; answer = rw (lt-leb k (length l) g); behind = refl });
   lengths = refl;
-  behind = refl;
-  within = omega arith;
+  within = tt;
 }
 
--- m is what the first n bytes became
-pub read_in : (n : ℕ) (l m : List ℕ) {k : ℕ} → n ≤ length l → length m ≡ length (take n l) → k ≤ length m → PartOf (Bytes n) l (m ++ drop n l) (record { said = Bytes n; len = k; there = eqb k n })
-read_in n l m {k} h e u =
-    let long : length m ≡ n = e ∙ length-take-le n l h in
-    record {
-      answer = rw (le-leb n (length l) h);
-      most = rw (le-leb n (length l) h) (omega arith);
-      lengths = length_front l m n e;
-      behind = rw (le-leb n (length l) h) (drop_at m (drop n l) n long);
-      within = simp length-append (omega arith);
-    }
+-- m is what the first k bytes became
+module _ (h l m : List ℕ) {k j : ℕ} (e : k ≡ size_of h) (g : k ≤ length l) (same : length m ≡ length (take k l)) (few : j ≤ length m) where
+  long : length m ≡ k
+  long = same ∙ length-take-le k l g
 
-pub ended : (l : List ℕ) → Next l l (record { said = Nothing; len = 0; there = false })
-ended l = record { header = none; part = record { answer = refl; most = omega arith; lengths = refl; behind = refl; within = omega arith } }
+  read_in : (b : Bool) → eqb j k ≡ b → PartOf (size_of h) l (m ++ drop k l) (cond b (Ok k) (Err (Cut k j)))
+  read_in b q = rw (← e) (record {
+    read = j;
+    most = rw (le-leb k (length l) g) (omega (arith, long));
+    answer = rw (le-leb k (length l) g, q);
+    behind = rw (le-leb k (length l) g) (drop_at m (drop k l) k long);
+  })
 
-pub next_is : (h : List ℕ) {before after : List ℕ} {r : Part} {n : ℕ} → n ≡ size_of h → PartOf (Bytes n) before after r → Next before after r
-next_is h e p = record { header = some h; part = rw e at p }
+  pub cut : j < k → Next l (m ++ drop k l) (Err (Cut k j))
+  cut f = record { header = some h; part = read_in false (ne_eqb j k (λ (q : j ≡ k). omega arith)); lengths = length_front l m k same; within = tt }
+
+  pub whole : k ≤ j → Next l (m ++ drop k l) (Ok k)
+  whole f = record { header = some h; part = read_in true (eq-eqb j k (omega (arith, long))); lengths = length_front l m k same; within = omega (arith, length_front l m k same) }

@@ -1,9 +1,9 @@
 -- A part of standard input, read into a buffer.
-use Rattle.std.specs.Prelude.{ℕ, ◌+◌, ◌*◌, ◌%◌, ◌≤◌, ◌≡◌, Bool, true, false, ◌&&◌, List, eqb, leb, length, drop, get_or}
+use Rattle.std.specs.Prelude.{ℕ, ◌+◌, ◌*◌, ◌%◌, ◌≤◌, ◌≡◌, cond, List, eqb, leb, length, drop, get_or, Ok, Err, IfOk}
+use Rattle.std.specs.declared.result.Result.{Result}
 use Rattle.std.proofs.Math.Option.{Option, none, some}
-use Rattle.parts.specs.declared.Part.{Part}
-use Rattle.parts.specs.declared.Said.{Said}
-use Rattle.parts.specs.declared.Said.TheVariants.{Nothing, Bytes}
+use Rattle.parts.specs.declared.Missing.{Missing}
+use Rattle.parts.specs.declared.Missing.TheVariants.{Ended, Long, Cut}
 
 -- ---- five digits
 
@@ -14,39 +14,33 @@ digit_of b = (b + 2) % 10
 abbrev pub size_of : List ℕ → ℕ
 size_of h = digit_of (get_or h 0 0) * 10000 + digit_of (get_or h 1 0) * 1000 + digit_of (get_or h 2 0) * 100 + digit_of (get_or h 3 0) * 10 + digit_of (get_or h 4 0)
 
--- what the five bytes before a part say; nothing where standard input ends before them
-abbrev pub said_by : Option (List ℕ) → Said
-said_by none = Nothing
-said_by (some h) = Bytes (size_of h)
-
 -- ---- a part and a buffer of n bytes
 
--- k, where b holds
-abbrev pub only : Bool → ℕ → ℕ
-only true k = k
-only false k = 0
+-- how many of the buffer's bytes a part of k bytes takes: none where the buffer is too short
+abbrev pub taken : ℕ → ℕ → ℕ
+taken n k = cond (leb k n) k 0
 
--- how many of the buffer's bytes the part takes: none where the buffer is too short
-abbrev pub taken : ℕ → Said → ℕ
-taken n Nothing = 0
-taken n (Bytes k) = only (leb k n) k
+-- what is answered of a part of k bytes when j of them were read
+abbrev pub answer_of : ℕ → ℕ → ℕ → Result ℕ Missing
+answer_of n k j = cond (leb k n) (cond (eqb j k) (Ok k) (Err (Cut k j))) (Err (Long k))
 
--- as many bytes were read as were said
-abbrev pub all_read : ℕ → Said → ℕ → Bool
-all_read n Nothing len = false
-all_read n (Bytes k) len = leb k n && eqb len k
-
--- No contract can say what standard input gives, so this is free: `len`, the count of the bytes read, up to what the part takes; and those bytes of the
+-- No contract can say what standard input gives, so this is free: `read`, the count of the bytes read, up to what the part takes; and those bytes of the
 -- buffer that the part takes. All else is fixed
-pub record PartOf (said : Said) (before after : List ℕ) (r : Part) : Type 0 where
-  pub answer : r ≡ record { said = said; len = r.len; there = all_read (length before) said r.len }
-  pub most : r.len ≤ taken (length before) said
-  pub lengths : length after ≡ length before
-  pub behind : drop (taken (length before) said) after ≡ drop (taken (length before) said) before
-  -- so the bytes read lie in the buffer
-  pub within : r.len ≤ length after
+pub record PartOf (k : ℕ) (before after : List ℕ) (r : Result ℕ Missing) : Type 0 where
+  pub read : ℕ
+  pub most : read ≤ taken (length before) k
+  pub answer : r ≡ answer_of (length before) k read
+  pub behind : drop (taken (length before) k) after ≡ drop (taken (length before) k) before
+
+-- standard input ends before the five bytes, or they say the part's length
+abbrev pub PartBehind : Option (List ℕ) → List ℕ → List ℕ → Result ℕ Missing → Type 0
+PartBehind none before after r = (r ≡ Err Ended) × (after ≡ before)
+PartBehind (some h) before after r = PartOf (size_of h) before after r
 
 -- free as well: the five bytes before the part, or that standard input ends before them
-pub record Next (before after : List ℕ) (r : Part) : Type 0 where
+pub record Next (before after : List ℕ) (r : Result ℕ Missing) : Type 0 where
   pub header : Option (List ℕ)
-  pub part : PartOf (said_by header) before after r
+  pub part : PartBehind header before after r
+  pub lengths : length after ≡ length before
+  -- so a whole part lies in the buffer
+  pub within : IfOk r (λ n. n ≤ length after)

@@ -2,23 +2,13 @@
 
 #![tactic(auto)]
 
-ghost use Rattle.std.specs.Prelude.{◌≡◌, ◌≤◌, length, replicate};
-ghost use Rattle.machine.specs.Program.{most_items, most_bytes};
-ghost use Rattle.console.specs.Input.{Fits};
-ghost use Rattle.run_words.specs.Words.{AskedFits};
-ghost use Rattle.run.specs.Heard.{EndsBy, HeardFits};
+ghost use Rattle.std.specs.Prelude.{◌≡◌, ◌≤◌, ◌+◌, IfSome, IfOk, length, replicate};
+ghost use Rattle.machine.specs.Program.{most_items};
+ghost use Rattle.run_words.specs.Words.{Fits};
 
-use console::Input;
 use run_words::{Asked, Word};
 use std::fs::File;
 use std::io::Error;
-
-// What the words ask for; or a file could not be read, which was told.
-#[derive(Clone, Copy)]
-enum Heard {
-    Is(Asked),
-    Failed,
-}
 
 // ---- places: for task numbers, for values, and for what is printed
 
@@ -70,63 +60,52 @@ fn open(rt: HostRuntime, name: &[u8]) -> Option<File> {
 }
 
 // A file's bytes, fewer than the buffer has places. What fails is told under the file's name.
-fn read_file(rt: HostRuntime, name: &[u8], buffer: &mut [u8]) -> Input
-    ensures { Fits result buffer.new }
+fn read_file(rt: HostRuntime, name: &[u8], buffer: &mut [u8]) -> Option<usize>
+    ensures { IfSome result (λ n. n ≤ length buffer.new) }
 {
-    let Some(mut file) = open(rt, name) else {
-        return Input::Failed;
-    };
-    let Input::Is(n) = console::read(rt, &mut file, name, buffer) else {
-        return Input::Failed;
-    };
+    let mut file = open(rt, name)?;
+    let n = console::read(rt, &mut file, name, buffer)?;
     if n == buffer.len() {
         console::say(rt, name);
         console::say(rt, b": longer than the longest list\n");
-        return Input::Failed;
+        return None;
     }
-    Input::Is(n)
+    Some(n)
 }
 
 // The word that the file stands for that word i names behind its first byte.
-fn file_word(rt: HostRuntime, i: usize, buffer: &mut [u8]) -> Input
-    ensures { Fits result buffer.new }
+fn file_word(rt: HostRuntime, i: usize, buffer: &mut [u8]) -> Option<usize>
+    ensures { IfSome result (λ n. n ≤ length buffer.new) }
 {
     let mut word = word_buffer();
     let n = console::word(rt, i, &mut word);
     if n == 0 {
         console::fail(rt, b"@FILE", &Error::from_raw_os_error(TOO_LONG));
-        return Input::Failed;
+        return None;
     }
-    let Input::Is(k) = read_file(rt, &word[1..n], buffer) else {
-        return Input::Failed;
-    };
+    let k = read_file(rt, &word[1..n], buffer)?;
     let m = arguments::file_word(&mut buffer[..k]);
-    Input::Is(m)
+    Some(m)
 }
 
-// Word i, or the file's for `@FILE`.
-fn list_word(rt: HostRuntime, i: usize, buffer: &mut [u8]) -> Input
-    ensures { Fits result buffer.new }
+// Word i, or the file's for `@FILE`; none where the file can't be read, which is told.
+fn list_word(rt: HostRuntime, i: usize, buffer: &mut [u8]) -> Option<usize>
+    ensures { IfSome result (λ n. n ≤ length buffer.new) }
 {
     let n = console::word(rt, i, buffer);
-    if n < 2 {
-        return Input::Is(n);
-    }
-    if buffer[0] == b'@' {
+    if 1 < n && buffer[0] == b'@' {
         return file_word(rt, i, buffer);
     }
-    Input::Is(n)
+    Some(n)
 }
 
 // Word i, put into a part of a place.
-fn word_at(rt: HostRuntime, i: usize, place: &mut [u8], from: usize, to: usize) -> Input
+fn word_at(rt: HostRuntime, i: usize, place: &mut [u8], from: usize, to: usize) -> Option<usize>
     requires { (from ≤ to) × (to ≤ length place.old) }
-    ensures { EndsBy from to result }
+    ensures { IfSome result (λ n. from + n ≤ to) }
 {
-    let Input::Is(n) = list_word(rt, i, &mut place[from..to]) else {
-        return Input::Failed;
-    };
-    Input::Is(n)
+    let n = list_word(rt, i, &mut place[from..to])?;
+    Some(n)
 }
 
 // What the words ask for, where those of both lists stand in one place; the lists of a run are put into the lent ones.
@@ -138,9 +117,9 @@ fn ask(
     end: usize,
     schedule: &mut [u8],
     values: &mut [i32],
-) -> Asked
+) -> Result<Asked, Word>
     requires { (a ≤ length place.now) × (second ≤ end) × (end ≤ length place.now) × (most_items ≡ length schedule.old) × (most_items ≡ length values.old) }
-    ensures { AskedFits schedule.new values.new result }
+    ensures { IfOk result (Fits schedule.new values.new) }
 {
     let mut third = [0u8; 32];
     let c = console::word(rt, 3, &mut third);
@@ -158,18 +137,19 @@ fn ask(
     )
 }
 
-// The same, with the place lent: the longest word of each list and one byte more.
-fn words(rt: HostRuntime, place: &mut [u8], schedule: &mut [u8], values: &mut [i32]) -> Heard
+// The same, with the place lent: the longest word of each list and one byte more; none where a file can't be read, which is told.
+fn words(
+    rt: HostRuntime,
+    place: &mut [u8],
+    schedule: &mut [u8],
+    values: &mut [i32],
+) -> Option<Result<Asked, Word>>
     requires { (1600002 ≤ length place.old) × (most_items ≡ length schedule.old) × (most_items ≡ length values.old) }
-    ensures { HeardFits schedule.new values.new result }
+    ensures { IfSome result (λ r. IfOk r (Fits schedule.new values.new)) }
 {
-    let Input::Is(a) = word_at(rt, 1, place, 0, 400001) else {
-        return Heard::Failed;
-    };
-    let Input::Is(b) = word_at(rt, 2, place, 400001, 1600002) else {
-        return Heard::Failed;
-    };
-    Heard::Is(ask(rt, place, a, 400001, 400001 + b, schedule, values))
+    let a = word_at(rt, 1, place, 0, 400001)?;
+    let b = word_at(rt, 2, place, 400001, 1600002)?;
+    Some(ask(rt, place, a, 400001, 400001 + b, schedule, values))
 }
 
 // ---- the answer
@@ -182,33 +162,15 @@ fn say_word(rt: HostRuntime, w: Word) {
 }
 
 // Prints the report of the run that was asked for, or the refusal of the text.
-fn print_run(
-    rt: HostRuntime,
-    a: usize,
-    b: usize,
-    most: usize,
-    k: usize,
-    schedule: &[u8],
-    values: &[i32],
-    out: &mut [u8],
-)
-    requires { (a ≤ length schedule.now) × (b ≤ length values.now) × (k ≤ most_bytes) × (5925000 ≤ length out.old) }
+fn print_run(rt: HostRuntime, asked: Asked, schedule: &[u8], values: &[i32], out: &mut [u8])
+    requires { (Fits schedule.now values.now asked) × (5925000 ≤ length out.old) }
 {
     let mut text = [0u8; 65537];
-    let Input::Is(n) = console::read_input(rt, &mut text) else {
+    let Some(n) = console::read_input(rt, &mut text) else {
         return;
     };
-    let len = run_words::run_asked(a, b, most, k, schedule, values, &text[..n], out);
+    let len = run_words::run_asked(asked, schedule, values, &text[..n], out);
     reasons::print(rt, &out[..len]);
-}
-
-fn answer(rt: HostRuntime, asked: Asked, schedule: &[u8], values: &[i32], out: &mut [u8])
-    requires { (AskedFits schedule.now values.now asked) × (5925000 ≤ length out.old) }
-{
-    match asked {
-        Asked::Run(a, b, most, k) => print_run(rt, a, b, most, k, schedule, values, out),
-        Asked::Unread(w) => say_word(rt, w),
-    }
 }
 
 fn main(rt: HostRuntime) {
@@ -230,8 +192,9 @@ fn main(rt: HostRuntime) {
     let mut values = value_buffer();
     // the words stand where the answer is printed from, since both and the log don't fit the default stack
     let mut out = out_buffer();
-    let Heard::Is(asked) = words(rt, &mut out, &mut schedule, &mut values) else {
-        return;
-    };
-    answer(rt, asked, &schedule, &values, &mut out);
+    match words(rt, &mut out, &mut schedule, &mut values) {
+        Some(Ok(asked)) => print_run(rt, asked, &schedule, &values, &mut out),
+        Some(Err(w)) => say_word(rt, w),
+        None => {}
+    }
 }

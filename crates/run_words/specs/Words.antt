@@ -1,14 +1,13 @@
 -- What the words that are left ask for, and what the code finds.
-use Rattle.std.specs.Prelude.{ℕ, ◌≤◌, ◌≡◌, List, length, take, ℤ}
+use Rattle.std.specs.Prelude.{ℕ, ◌≤◌, ◌≡◌, List, length, take, ℤ, Result, Ok, Err}
 use Rattle.machine.specs.Words.{Words, asks, unread, next, said_up_to}
 use Rattle.machine.specs.Program.{Word, Request, schedule, values, most, log, further, said_value, said_items, most_items, most_nodes, most_bytes}
-use Rattle.log_word.specs.declared.Rest.{Rest}
-use Rattle.log_word.specs.declared.Rest.TheVariants.{Log as LogIs, NoLog, Further as FurtherWord}
+use Rattle.log_word.specs.declared.Unread.{Unread}
+use Rattle.log_word.specs.declared.Unread.TheVariants.{Log as NoLog, Further as FurtherWord}
 use Rattle.log_word.specs.Words.{from_log}
 use Rattle.run_words.specs.declared.Word.{Word as Found}
 use Rattle.run_words.specs.declared.Word.TheVariants.{Schedule, Values, Most, Log, Further}
 use Rattle.run_words.specs.declared.Asked.{Asked}
-use Rattle.run_words.specs.declared.Asked.TheVariants.{Run, Unread}
 
 -- the words from MOST and VALUES on
 abbrev pub from_most : List ℕ → List ℤ → List (List ℕ) → Words Word Request
@@ -25,23 +24,20 @@ word_of Most = most
 word_of Log = log
 word_of Further = further
 
--- what was found, with the lists that the buffers begin with
-abbrev pub asked_words : List ℕ → List ℤ → Asked → Words Word Request
-asked_words ks vs (Run a b m k) = asks (record { schedule = take a ks; values = take b vs; most = m; log = k })
-asked_words ks vs (Unread w) = unread (word_of w)
+-- a word of log_word's
+abbrev pub unread_of : Unread → Found
+unread_of NoLog = Log
+unread_of FurtherWord = Further
 
--- after the lists
-abbrev pub rest_asked : ℕ → ℕ → ℕ → Rest → Asked
-rest_asked a b m (LogIs k) = Run a b m k
-rest_asked a b m NoLog = Unread Log
-rest_asked a b m FurtherWord = Unread Further
+-- what was found, with the lists that the buffers begin with
+abbrev pub asked_words : List ℕ → List ℤ → Result Asked Found → Words Word Request
+asked_words ks vs (Ok a) = asks (record { schedule = take a.schedule ks; values = take a.values vs; most = a.most; log = a.log })
+asked_words ks vs (Err w) = unread (word_of w)
 
 -- the counts are those given, and the log is not too long
 abbrev pub NumbersFit : ℕ → ℕ → Asked → Type 0
-NumbersFit a b (Run c d m k) = (c ≡ a) × (d ≡ b) × (k ≤ most_bytes)
-NumbersFit a b (Unread w) = Unit {0}
+NumbersFit i j a = (a.schedule ≡ i) × (a.values ≡ j) × (a.log ≤ most_bytes)
 
 -- the lists are in their buffers, and the log is not too long
-abbrev pub AskedFits : List ℕ → List ℤ → Asked → Type 0
-AskedFits ks vs (Run a b m k) = (a ≤ length ks) × (b ≤ length vs) × (k ≤ most_bytes)
-AskedFits ks vs (Unread w) = Unit {0}
+abbrev pub Fits : List ℕ → List ℤ → Asked → Type 0
+Fits ks vs a = (a.schedule ≤ length ks) × (a.values ≤ length vs) × (a.log ≤ most_bytes)

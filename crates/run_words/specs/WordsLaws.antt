@@ -1,5 +1,5 @@
 -- Laws of the words, one after another, and of the answer.
-use Rattle.std.specs.Prelude.{ℕ, zero, suc, ◌-◌, ◌≤◌, ◌≡◌, List, [], ◌∷◌, length, take, replicate, ℤ}
+use Rattle.std.specs.Prelude.{ℕ, zero, suc, ◌-◌, ◌≤◌, ◌≡◌, List, [], ◌∷◌, length, take, replicate, Result, Ok, Err, IfOk, ℤ}
 use Rattle.std.proofs.Math.Path.{refl, ap}
 use Rattle.std.proofs.Common.{sym, subst, ◌∙◌, arith, take_all}
 use Rattle.std.proofs.Math.Option.{none, some}
@@ -10,40 +10,13 @@ use Rattle.put.specs.Put.{Put}
 use Rattle.put.specs.PutLaws.{put_more}
 use Rattle.arguments.specs.Answers.{AnswerPut}
 use Rattle.arguments.specs.declared.Answer.TheVariants.{Prints, Says}
-use Rattle.log_word.specs.declared.Rest.{Rest}
-use Rattle.log_word.specs.declared.Rest.TheVariants.{Log as LogIs, NoLog, Further as FurtherWord}
-use Rattle.log_word.specs.Words.{from_log, rest_words, RestFits}
+use Rattle.log_word.specs.declared.Unread.{Unread}
+use Rattle.log_word.specs.declared.Unread.TheVariants.{Log as NoLog, Further as FurtherWord}
+use Rattle.log_word.specs.Words.{from_log, rest_words}
 use Rattle.run_words.specs.declared.Word.{Word as Found}
 use Rattle.run_words.specs.declared.Word.TheVariants.{Most}
 use Rattle.run_words.specs.declared.Asked.{Asked}
-use Rattle.run_words.specs.declared.Asked.TheVariants.{Run, Unread}
-use Rattle.run_words.specs.Words.{from_most, from_values, word_of, asked_words, rest_asked, NumbersFit, AskedFits}
-
--- ---- from MOST on
-
-module _ (c d : List ℕ) (n a b : ℕ) where
-  abbrev Asks : Asked → Type 0
-  Asks r = (ks : List ℕ) (vs : List ℤ) → from_most (take a ks) (take b vs) (given n (c ∷ d ∷ [])) ≡ asked_words ks vs r
-
-  pub most_missing : n ≡ 0 → Asks (Unread Most)
-  most_missing h ks vs = next_missing most (said_up_to most_nodes) (λ m ys. from_log (take a ks) (take b vs) m ys) c (d ∷ []) n h
-
-  pub most_unread : (n ≡ 0 → ⊥) → said_up_to most_nodes c ≡ none → Asks (Unread Most)
-  most_unread h e ks vs = next_unread most (said_up_to most_nodes) (λ m ys. from_log (take a ks) (take b vs) m ys) c (d ∷ []) n h e
-
-  rest_asked_lem : (ks : List ℕ) (vs : List ℤ) (m : ℕ) (w : Rest) → rest_words (take a ks) (take b vs) m w ≡ asked_words ks vs (rest_asked a b m w)
-  rest_asked_lem ks vs m (LogIs k) = refl
-  rest_asked_lem ks vs m NoLog = refl
-  rest_asked_lem ks vs m FurtherWord = refl
-
-  pub most_said : {m : ℕ} {w x : Rest} → (n ≡ 0 → ⊥) → said_up_to most_nodes c ≡ some m
-      → ((ks : List ℕ) (vs : List ℤ) (m : ℕ) → from_log ks vs m (given (n - 1) (d ∷ [])) ≡ rest_words ks vs m w) → w ≡ x → Asks (rest_asked a b m x)
-  most_said {m} {w} {x} h e f q ks vs =
-      next_said most (said_up_to most_nodes) (λ m ys. from_log (take a ks) (take b vs) m ys) c (d ∷ []) n h e
-      ∙ f (take a ks) (take b vs) m ∙ ap (rest_words (take a ks) (take b vs) m) q ∙ rest_asked_lem ks vs m x
-
-pub log_fits : {j : ℕ} {w : Rest} → w ≡ LogIs j → RestFits w → j ≤ most_bytes
-log_fits e h = rw e at h
+use Rattle.run_words.specs.Words.{from_most, from_values, word_of, unread_of, asked_words, NumbersFit, Fits}
 
 -- ---- all the words
 
@@ -76,9 +49,9 @@ module _ (y x c d : List ℕ) (n : ℕ) where
         pub lists_said : {vs : List ℤ} → said_items (length k) said_value x ≡ some vs → said all_words ≡ from_most ks vs (given (n - 1 - 1) (c ∷ d ∷ []))
         lists_said u = schedule_said ∙ next_said values (said_items most_items said_value) (λ vs ys. from_most ks vs ys) x (c ∷ d ∷ []) (n - 1) g (rw (← i) at u)
 
-pub lists_fit : {a b : ℕ} (ks : List ℕ) (vs : List ℤ) (r : Asked) → a ≤ length ks → b ≤ length vs → NumbersFit a b r → AskedFits ks vs r
-lists_fit ks vs (Run c d m k) h g f = (omega (arith, f.0), omega (arith, f.1), f.2)
-lists_fit ks vs (Unread w) h g f = tt
+pub lists_fit : {a b : ℕ} (ks : List ℕ) (vs : List ℤ) (r : Result Asked Found) → a ≤ length ks → b ≤ length vs → IfOk r (NumbersFit a b) → IfOk r (Fits ks vs)
+lists_fit ks vs (Ok x) h g f = (omega (arith, f.0), omega (arith, f.1), f.2)
+lists_fit ks vs (Err w) h g f = tt
 
 -- ---- the log buffer
 
@@ -109,16 +82,16 @@ log_zeros s ks vs m k {l} {b} {a} {i} {r} e h p = subst (λ (y : List ℕ). Put 
 pub line_of : {k r : ℕ} {l m : List ℕ} {w x : Found} → w ≡ x → k ≤ 256 → Put k l 0 (word_line (word_of x)) m r → Put 256 l 0 (word_line (word_of w)) m r
 line_of e h p = rw e (put_more h p)
 
-pub asked_fits : (ks : List ℕ) (vs : List ℤ) {r : Asked} {a b m k : ℕ} → r ≡ Run a b m k → AskedFits ks vs r → (a ≤ length ks) × (b ≤ length vs) × (k ≤ most_bytes)
-asked_fits ks vs e h = rw e at h
-
-module _ (ws : List (List ℕ)) (s ks : List ℕ) (vs : List ℤ) (r : Asked) (e : said ws ≡ asked_words ks vs r) where
-  answered : {x : Asked} → r ≡ x → run_answer ws s ≡ answer_for (asked_words ks vs x) s
+module _ (ws : List (List ℕ)) (s ks : List ℕ) (vs : List ℤ) where
+  answered : (x : Result Asked Found) → said ws ≡ asked_words ks vs x → run_answer ws s ≡ answer_for (asked_words ks vs x) s
   unfolding run_answer
-  answered q = ap (λ u. answer_for u s) (e ∙ ap (asked_words ks vs) q)
+  answered x e = ap (λ u. answer_for u s) e
 
-  pub answer_run : {l o : List ℕ} {n a b m k : ℕ} → r ≡ Run a b m k → Put 5925000 l 0 (run_text s (take a ks) (take b vs) m (replicate k 0)) o n → AnswerPut 5925000 l (run_answer ws s) o (Prints n)
-  answer_run {l} {o} {n} q p = subst (λ (u : Answered). AnswerPut 5925000 l u o (Prints n)) (sym (answered q)) p
+  pub answer_run : (a : Asked) → said ws ≡ asked_words ks vs (Ok a)
+      → {l o : List ℕ} {n : ℕ} → Put 5925000 l 0 (run_text s (take a.schedule ks) (take a.values vs) a.most (replicate a.log 0)) o n → AnswerPut 5925000 l (run_answer ws s) o (Prints n)
+  answer_run a e {l} {o} {n} p = subst (λ (u : Answered). AnswerPut 5925000 l u o (Prints n)) (sym (answered (Ok a) e)) p
 
-  pub answer_unread : {l o : List ℕ} {n : ℕ} {w : Found} → r ≡ Unread w → Put 256 l 0 (word_line (word_of w)) o n → AnswerPut 5925000 l (run_answer ws s) o (Says n)
-  answer_unread {l} {o} {n} q p = subst (λ (u : Answered). AnswerPut 5925000 l u o (Says n)) (sym (answered q)) (put_more (omega arith) p)
+  pub answer_unread : (w : Found) → said ws ≡ asked_words ks vs (Err w) → {l o : List ℕ} {n : ℕ} → Put 256 l 0 (word_line (word_of w)) o n → AnswerPut 5925000 l (run_answer ws s) o (Says n)
+  answer_unread w e {l} {o} {n} p =
+      let q : Put 5925000 l 0 (word_line (word_of w)) o n = put_more (omega arith) p in
+      subst (λ (u : Answered). AnswerPut 5925000 l u o (Says n)) (sym (answered (Err w) e)) q

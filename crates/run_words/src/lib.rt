@@ -2,15 +2,15 @@
 
 #![tactic(auto)]
 
-ghost use Rattle.std.specs.Prelude.{◌≡◌, List, ◌∷◌, [], ℕ, ◌≤◌, ℤ, length, take, replicate};
+ghost use Rattle.std.specs.Prelude.{◌≡◌, List, ◌∷◌, [], ℕ, ◌≤◌, ℤ, IfOk, length, take, replicate};
 ghost use Rattle.machine.specs.Words.{given};
 ghost use Rattle.machine.specs.Program.{most_items, most_bytes, said, word_line, run_text, run_answer};
 ghost use Rattle.put.specs.Put.{Put};
 ghost use Rattle.arguments.specs.Answers.{AnswerPut};
-ghost use Rattle.run_words.specs.Words.{from_most, word_of, asked_words, NumbersFit, AskedFits};
+ghost use Rattle.run_words.specs.Words.{from_most, word_of, asked_words, unread_of, NumbersFit, Fits};
 
-use arguments::{Answer, Number};
-use log_word::Rest;
+use arguments::Answer;
+use log_word::Unread;
 
 // The words; Further is one too many.
 #[derive(Clone, Copy)]
@@ -22,32 +22,50 @@ pub enum Word {
     Further,
 }
 
-// What the words ask for: a run, with how many task numbers and values the lent lists then have, the most dropped nodes per step and the log
-// buffer's length; or the first word that can't be read, is missing or is too many.
-#[derive(Clone, Copy)]
-pub enum Asked {
-    Run(usize, usize, usize, usize),
-    Unread(Word),
+impl From<Unread> for Word {
+    ghost from_gives = { λ u w. w ≡ unread_of u };
+
+    fn from(word: Unread) -> Word {
+        match word {
+            Unread::Log => Word::Log,
+            Unread::Further => Word::Further,
+        }
+    }
 }
 
-// ---- what the words ask for
+// The run that the words ask for: how many task numbers and values the lent lists have, the most dropped nodes per step and the log buffer's length.
+#[derive(Clone, Copy)]
+pub struct Asked {
+    pub schedule: usize,
+    pub values: usize,
+    pub most: usize,
+    pub log: usize,
+}
+
+// ---- what the words ask for; or the first word that can't be read, is missing or is too many
 
 // From the word MOST on; n words are left.
-fn ask_numbers(n: usize, a: usize, b: usize, third: &[u8], fourth: &[u8]) -> Asked
-    ensures says { (ks : List ℕ) (vs : List ℤ) → from_most (take a ks) (take b vs) (given n (third.now ∷ fourth.now ∷ [])) ≡ asked_words ks vs result }
-    ensures fits { NumbersFit a b result }
+fn ask_numbers(
+    n: usize,
+    schedule: usize,
+    values: usize,
+    third: &[u8],
+    fourth: &[u8],
+) -> Result<Asked, Word>
+    ensures says { (ks : List ℕ) (vs : List ℤ) → from_most (take schedule ks) (take values vs) (given n (third.now ∷ fourth.now ∷ [])) ≡ asked_words ks vs result }
+    ensures fits { IfOk result (NumbersFit schedule values) }
 {
     if n == 0 {
-        return Asked::Unread(Word::Most);
+        return Err(Word::Most);
     }
-    let Number::Is(m) = arguments::most(third) else {
-        return Asked::Unread(Word::Most);
-    };
-    match log_word::last_words(n - 1, fourth) {
-        Rest::Log(k) => Asked::Run(a, b, m, k),
-        Rest::NoLog => Asked::Unread(Word::Log),
-        Rest::Further => Asked::Unread(Word::Further),
-    }
+    let most = arguments::most(third).ok_or(Word::Most)?;
+    let log = log_word::last_words(n - 1, fourth)?;
+    Ok(Asked {
+        schedule,
+        values,
+        most,
+        log,
+    })
 }
 
 // What n words ask for, of which the first four are given; the lists of a run are put into the lent ones.
@@ -59,24 +77,20 @@ pub fn ask(
     fourth: &[u8],
     schedule: &mut [u8],
     values: &mut [i32],
-) -> Asked
+) -> Result<Asked, Word>
     requires { (most_items ≡ length schedule.old) × (most_items ≡ length values.old) }
     ensures says { said (given n (first.now ∷ second.now ∷ third.now ∷ fourth.now ∷ [])) ≡ asked_words schedule.new values.new result }
-    ensures fits { AskedFits schedule.new values.new result }
+    ensures fits { IfOk result (Fits schedule.new values.new) }
 {
     if n == 0 {
-        return Asked::Unread(Word::Schedule);
+        return Err(Word::Schedule);
     }
-    let Number::Is(a) = arguments::schedule(first, schedule) else {
-        return Asked::Unread(Word::Schedule);
-    };
+    let a = arguments::schedule(first, schedule).ok_or(Word::Schedule)?;
     let left = n - 1;
     if left == 0 {
-        return Asked::Unread(Word::Values);
+        return Err(Word::Values);
     }
-    let Number::Is(b) = arguments::values(second, values) else {
-        return Asked::Unread(Word::Values);
-    };
+    let b = arguments::values(second, values).ok_or(Word::Values)?;
     ask_numbers(left - 1, a, b, third, fourth)
 }
 
@@ -123,21 +137,19 @@ fn log_buffer() -> [u8; 800000]
 }
 
 // The run that was asked for: its report, or the refusal of the text.
-pub fn run_asked(
-    a: usize,
-    b: usize,
-    most: usize,
-    k: usize,
-    schedule: &[u8],
-    values: &[i32],
-    s: &[u8],
-    out: &mut [u8],
-) -> usize
-    requires { (a ≤ length schedule.now) × (b ≤ length values.now) × (k ≤ most_bytes) }
-    ensures { Put 5925000 out.old 0 (run_text s.now (take a schedule.now) (take b values.now) most (replicate k 0)) out.new result }
+pub fn run_asked(asked: Asked, schedule: &[u8], values: &[i32], s: &[u8], out: &mut [u8]) -> usize
+    requires { Fits schedule.now values.now asked }
+    ensures { Put 5925000 out.old 0 (run_text s.now (take asked.schedule schedule.now) (take asked.values values.now) asked.most (replicate asked.log 0)) out.new result }
 {
     let mut log = log_buffer();
-    run_text::run_text(s, &schedule[..a], &values[..b], most, &mut log[..k], out)
+    run_text::run_text(
+        s,
+        &schedule[..asked.schedule],
+        &values[..asked.values],
+        asked.most,
+        &mut log[..asked.log],
+        out,
+    )
 }
 
 // What the program answers to n words, of which the first four are given, and to a text on its standard input.
@@ -156,9 +168,7 @@ pub fn run_words(
     ensures { AnswerPut 5925000 out.old (run_answer (given n (first.now ∷ second.now ∷ third.now ∷ fourth.now ∷ [])) s.now) out.new result }
 {
     match ask(n, first, second, third, fourth, schedule, values) {
-        Asked::Run(a, b, m, k) => {
-            Answer::Prints(run_asked(a, b, m, k, schedule, values, s, out))
-        }
-        Asked::Unread(w) => Answer::Says(word_line(w, out)),
+        Ok(asked) => Answer::Prints(run_asked(asked, schedule, values, s, out)),
+        Err(w) => Answer::Says(word_line(w, out)),
     }
 }

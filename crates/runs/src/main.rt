@@ -24,8 +24,8 @@ fn print(to: Stdout, first: &[u8], second: &[u8], third: &[u8], fourth: &[u8], t
     parts::print(to, &out, n);
 }
 
-// The next case, read into buffers; whether there was none.
-fn last(
+// Prints the answer to the next case, read into buffers; none where there is no case.
+fn answer_next(
     input: Stdin,
     to: Stdout,
     first: &mut [u8],
@@ -33,16 +33,13 @@ fn last(
     third: &mut [u8],
     fourth: &mut [u8],
     text: &mut [u8],
-) -> bool {
-    let a = parts::next(input, first).len;
-    let b = parts::next(input, second).len;
-    let c = parts::next(input, third).len;
-    let d = parts::next(input, fourth).len;
-    let p = parts::next(input, text);
-    if !p.there {
-        return true;
-    }
-    let n = p.len;
+) -> Option<()> {
+    // a word that is missing or too long is empty
+    let a = parts::next(input, first).unwrap_or(0);
+    let b = parts::next(input, second).unwrap_or(0);
+    let c = parts::next(input, third).unwrap_or(0);
+    let d = parts::next(input, fourth).unwrap_or(0);
+    let n = parts::next(input, text).ok()?;
     print(
         to,
         &first[..a],
@@ -51,7 +48,7 @@ fn last(
         &fourth[..d],
         &text[..n],
     );
-    false
+    Some(())
 }
 
 fn main(rt: HostRuntime) {
@@ -60,9 +57,8 @@ fn main(rt: HostRuntime) {
     let mut third = [0u8; 32];
     let mut fourth = [0u8; 32];
     let mut text = [0u8; 65537];
-    let mut left: usize = 100000;
-    while left > 0 {
-        if last(
+    for _ in 0..100000 {
+        let next = answer_next(
             rt.stdin(),
             rt.stdout(),
             &mut first,
@@ -70,9 +66,9 @@ fn main(rt: HostRuntime) {
             &mut third,
             &mut fourth,
             &mut text,
-        ) {
+        );
+        if next.is_none() {
             return;
         }
-        left -= 1;
     }
 }

@@ -39,10 +39,7 @@ fn short(to: Stdout, t: table::Table, out: &mut [u8]) {
 
 fn written(to: Stdout, s: &[u8], t: table::Table, out: &mut [u8]) {
     let n = s.len();
-    if n == 0 {
-        return;
-    }
-    if out.len() < n {
+    if n == 0 || out.len() < n {
         return;
     }
     exact(to, s, t, &mut out[..n]);
@@ -71,14 +68,10 @@ fn print(to: Stdout, s: &[u8]) {
 
 fn main(rt: HostRuntime) {
     let mut text = [0u8; 65537];
-    let mut left: usize = 100000;
-    while left > 0 {
-        let p = parts::next(rt.stdin(), &mut text);
-        if !p.there {
+    for _ in 0..100000 {
+        let Ok(n) = parts::next(rt.stdin(), &mut text) else {
             return;
-        }
-        let n = p.len;
+        };
         answers(rt.stdout(), &text[..n]);
-        left -= 1;
     }
 }

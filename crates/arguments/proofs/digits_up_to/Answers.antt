@@ -1,23 +1,24 @@
-use Rattle.arguments.specs.NumberLaws.{going_start, going_low, going_high, going_digit_over, going_over, going_turn, going_end}
+use Rattle.std.proofs.Common.{arith}
+use Rattle.arguments.specs.NumberLaws.{going_start, going_other, going_over, going_turn, going_end}
 use Rattle.arguments.proofs.digits_up_to.Goals as goal
+use Rattle.arguments.proofs.digits_up_to.Goals.{then-m-d-via-then-m-d, then-m-d-via-else-m-d+then-m-d-2}
 
-pub loop-i-init : goal.loop-i-init
-loop-i-init c = going_start _ _
+pub loop-b-init : goal.loop-b-init
+loop-b-init c = going_start _ _
 
-pub returns-then-b-lt48 : goal.returns-then-b-lt48
-returns-then-b-lt48 c = going_low c.loop-i.invariant c.loop-i-test.true c.if-b-lt48.true
-
-pub returns-then-b-gt57 : goal.returns-then-b-gt57
-returns-then-b-gt57 c = going_high c.loop-i.invariant c.loop-i-test.true c.if-b-gt57.true
+pub returns-then-not-is_ascii_digit : goal.returns-then-not-is_ascii_digit
+returns-then-not-is_ascii_digit c = going_other c.loop-b.invariant c.loop-b-test.true c.if-not-is_ascii_digit.ensures.cases
 
 pub returns-then-m-d : goal.returns-then-m-d
-returns-then-m-d c = going_digit_over c.loop-i.invariant c.loop-i-test.true c.if-b-lt48.false c.if-b-gt57.false c.if-m-d.true
+returns-then-m-d c =
+    let digit = c.if-not-is_ascii_digit.ensures.cases in
+    going_over c.loop-b.invariant c.loop-b-test.true digit.0 digit.1 c.from-d.ensures
+    (elim c.then-m-d.branch [ then-m-d-via-then-m-d w ↦ omega arith | then-m-d-via-else-m-d+then-m-d-2 w ↦ omega arith ])
 
-pub returns-then-m-d-2 : goal.returns-then-m-d-2
-returns-then-m-d-2 c = going_over c.loop-i.invariant c.loop-i-test.true c.if-b-lt48.false c.if-b-gt57.false c.if-m-d.false c.if-m-d-2.true
-
-pub loop-i-preserved : goal.loop-i-preserved
-loop-i-preserved c = going_turn c.loop-i.invariant c.loop-i-test.true c.if-b-lt48.false c.if-b-gt57.false c.if-m-d.false c.if-m-d-2.false
+pub loop-b-preserved : goal.loop-b-preserved
+loop-b-preserved c =
+    let digit = c.if-not-is_ascii_digit.ensures.cases in
+    going_turn c.loop-b.invariant c.loop-b-test.true digit.0 digit.1 c.from-d.ensures (omega arith)
 
 pub returns : goal.returns
-returns c = going_end c.loop-i.invariant c.loop-i-test.false
+returns c = going_end c.loop-b.invariant c.loop-b-test.false

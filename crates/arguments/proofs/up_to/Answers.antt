@@ -1,14 +1,13 @@
-use Rattle.arguments.specs.NumberLaws.{number_none, number_one, number_zero, number_more}
+use Rattle.std.proofs.Common.{rules}
+use Rattle.arguments.specs.NumberLaws.{number_none, number_zero, number_one, number_more}
 use Rattle.arguments.proofs.up_to.Goals as goal
+use Rattle.arguments.proofs.up_to.Goals.{in_default-via-then-t-lt2, in_default-via-else-t-lt2+in_default-1}
 
-pub returns-then-n-eq0 : goal.returns-then-n-eq0
-returns-then-n-eq0 c = number_none c.args.m c.args.t.now c.if-n-eq0.true
+pub returns-in-empty : goal.returns-in-empty
+returns-in-empty c = search (rules, number_none)
 
-pub returns-then-n-eq1 : goal.returns-then-n-eq1
-returns-then-n-eq1 c = number_one c.args.m c.args.t.now c.if-n-eq1.true c.digits_up_to.ensures
+pub returns-in-empty-2 : goal.returns-in-empty-2
+returns-in-empty-2 c = search (rules, number_zero)
 
-pub returns-then-b-eq48 : goal.returns-then-b-eq48
-returns-then-b-eq48 c = number_zero c.args.m c.args.t.now c.if-n-eq0.false c.if-n-eq1.false c.if-b-eq48.true
-
-pub returns : goal.returns
-returns c = number_more c.args.m c.args.t.now c.if-n-eq0.false c.if-n-eq1.false c.if-b-eq48.false c.digits_up_to-2.ensures
+pub returns-in_default : goal.returns-in_default
+returns-in_default c = elim c.in_default.branch [ in_default-via-then-t-lt2 w ↦ search (rules, number_one) | in_default-via-else-t-lt2+in_default-1 w ↦ search (rules, number_more) ]

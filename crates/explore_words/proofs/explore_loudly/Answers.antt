@@ -3,29 +3,29 @@ use Rattle.std.proofs.Common.{refl, arith}
 use Rattle.explore_words.specs.WordsLaws.{loud_printed, loud_same, loud_bound}
 use Rattle.explore_words.proofs.explore_loudly.Goals as goal
 
-pub loop-err-init : goal.loop-err-init
-loop-err-init c = (refl, c.first_bound-b.ensures)
+pub loop-len-init : goal.loop-len-init
+loop-len-init c = (refl, c.first_bound-b.ensures)
 
-pub explore_table-p-requires : goal.explore_table-p-requires
-explore_table-p-requires c = c.requires
+pub explore_table-requires : goal.explore_table-requires
+explore_table-requires c = c.requires
 
-pub shape_of-out-then-p : goal.shape_of-out-then-p
-shape_of-out-then-p c = (loud_printed c.loop-err.invariant.0 c.loop-err.invariant.1.0 c.explore_table-p.ensures c.if-p.true).same
+pub shape_of-out-in-Some : goal.shape_of-out-in-Some
+shape_of-out-in-Some c = (loud_printed c.loop-len.invariant.0 c.loop-len.invariant.1.0 c.in-Some.ensures).same
 
-pub returns-then-p : goal.returns-then-p
-returns-then-p c = loud_printed c.loop-err.invariant.0 c.loop-err.invariant.1.0 c.explore_table-p.ensures c.if-p.true
+pub returns-in-Some : goal.returns-in-Some
+returns-in-Some c = loud_printed c.loop-len.invariant.0 c.loop-len.invariant.1.0 c.in-Some.ensures
 
 pub shape_of-out-then-most-b : goal.shape_of-out-then-most-b
-shape_of-out-then-most-b c = (loud_bound c.loop-err.invariant.0 c.loop-err.invariant.1.0 c.explore_table-p.ensures c.if-p.false c.if-most-b.true c.put_refused.ensures).same
+shape_of-out-then-most-b c = (loud_bound c.loop-len.invariant.0 c.loop-len.invariant.1.0 c.in_default.ensures c.if-most-b.true c.put_refused.ensures).same
 
 pub returns-then-most-b : goal.returns-then-most-b
-returns-then-most-b c = loud_bound c.loop-err.invariant.0 c.loop-err.invariant.1.0 c.explore_table-p.ensures c.if-p.false c.if-most-b.true c.put_refused.ensures
+returns-then-most-b c = loud_bound c.loop-len.invariant.0 c.loop-len.invariant.1.0 c.in_default.ensures c.if-most-b.true c.put_refused.ensures
 
 pub next_bound-b-requires : goal.next_bound-b-requires
-next_bound-b-requires c = (omega (arith, c.loop-err.invariant.1.1, c.if-most-b.false), omega (arith, c.if-most-b.false))
+next_bound-b-requires c = (omega (arith, c.loop-len.invariant.1.1, c.if-most-b.false), omega (arith, c.if-most-b.false))
 
-pub loop-err-smaller : goal.loop-err-smaller
-loop-err-smaller c = omega (arith, c.next_bound-b.ensures.0, c.next_bound-b.ensures.1)
+pub loop-len-smaller : goal.loop-len-smaller
+loop-len-smaller c = omega (arith, c.next_bound-b.ensures.0, c.next_bound-b.ensures.1)
 
-pub loop-err-preserved : goal.loop-err-preserved
-loop-err-preserved c = (loud_same c.loop-err.invariant.0 c.loop-err.invariant.1.0 c.explore_table-p.ensures c.if-p.false, (c.next_bound-b.ensures.1, omega (arith, c.next_bound-b.ensures.0)))
+pub loop-len-preserved : goal.loop-len-preserved
+loop-len-preserved c = (loud_same c.loop-len.invariant.0 c.loop-len.invariant.1.0 c.in_default.ensures, (c.next_bound-b.ensures.1, omega (arith, c.next_bound-b.ensures.0)))

@@ -2,8 +2,8 @@
 use Rattle.explore_words.specs.WordsLaws.{answer_search, answer_unread}
 use Rattle.explore_words.proofs.explore_words.Goals as goal
 
-pub returns-in-Search : goal.returns-in-Search
-returns-in-Search c = answer_search _ _ _ c.ask.ensures c.in-Search.is c.explore_asked.ensures
+pub returns-in-Ok : goal.returns-in-Ok
+returns-in-Ok c = answer_search _ _ _ c.in-Ok.ensures c.explore_asked.ensures
 
-pub returns-in-Unread : goal.returns-in-Unread
-returns-in-Unread c = answer_unread _ _ _ c.ask.ensures c.in-Unread.is c.word_line.ensures
+pub returns-in-Err : goal.returns-in-Err
+returns-in-Err c = answer_unread _ _ _ c.in-Err.ensures c.word_line.ensures

@@ -14,4 +14,5 @@ slice_bounds-run_text-end-3 c = sym (length-take-le _ _ (within 800000 c.log_buf
 
 pub returns : goal.returns
 returns c = let x = c.args in
-    log_zeros x.s.now (take x.a x.schedule.now) (take x.b x.values.now) x.most x.k c.log_buffer-log.ensures c.requires.2 c.run_text.ensures.printed
+    let a = x.asked in
+    log_zeros x.s.now (take a.schedule x.schedule.now) (take a.values x.values.now) a.most a.log c.log_buffer-log.ensures c.requires.2 c.run_text.ensures.printed

@@ -1,8 +1,0 @@
-use borrow.Author.Tests.{eq-eqb, ne_eqb}
-use Rattle.arguments.proofs.separator.Goals as goal
-
-pub returns-then-b-eq10 : goal.returns-then-b-eq10
-returns-then-b-eq10 c = rw (eq-eqb c.args.b 10 c.if-b-eq10.true)
-
-pub returns-else-b-eq10 : goal.returns-else-b-eq10
-returns-else-b-eq10 c = rw (ne_eqb c.args.b 10 c.if-b-eq10.false)

@@ -1,9 +1,0 @@
--- The bytes that were read are within the buffer, and each turn reads at least one more.
-use Rattle.std.proofs.Common.{◌-◌, ◌≤◌, length}
-use Rattle.parts.proofs.read_full.Given as goal
-
-abbrev pub invariant-loop-done : goal.invariant-loop-done
-invariant-loop-done l = l.done ≤ length l.buffer
-
-abbrev pub decreases-loop-done : goal.decreases-loop-done
-decreases-loop-done l = length l.buffer - l.done
