@@ -92,7 +92,7 @@ fn operand_at(s: &[u8], at: usize, vars: u64) -> Result<(Operand, usize), Fault>
     any_operand(b, x, e, vars)
 }
 
-// The place after an operand's key, whose name is one letter.
+// The place after an operand's key, whose name is one letter: tested without the loop of `scan::after`, for speed, where three bytes are left.
 fn after_name(s: &[u8], at: usize, name: u8) -> Result<usize, Fault>
     requires { at ≤ length s.now }
     ensures { AfterKey (32 ∷ name ∷ 61 ∷ []) s.now at result }
