@@ -51,7 +51,7 @@ fn item_at(t: &[u8], from: usize, lo: u64, below: u64) -> Option<(u32, usize)>
 // ---- lists that ascend
 
 // Items with commas between, each above the one before: spelling and order come before any item's range.
-// The loop goes from comma to comma, by steps that are no count.
+// The loop goes from comma to comma, by steps that are no count. `within` stands beside `mask`, a sum to which an item outside adds nothing.
 fn rising(t: &[u8], e: usize, lo: u64, below: u64) -> Result<(u32, usize), Fault>
     requires { below ≤ 32 }
     ensures { SetJudged false lo below (each numeral (split t.now)) e result }
