@@ -1,16 +1,15 @@
 -- A table's fault from its lines, its late faults and its unused places, as the code finds it.
 use Rattle.std.specs.Prelude.{ℕ, suc, ◌≡◌, refl, List, [], ◌∷◌, Result, Ok, Err}
-use Rattle.std.proofs.Common.{sym, ◌∙◌, ap}
 use Rattle.std.proofs.Math.Option.{Option, none, some}
 use Rattle.table.specs.declared.Table.{Table}
 use Rattle.text.specs.declared.Fault.{Fault}
 use Rattle.text.specs.declared.Fault.TheVariants.{Unused}
-use Rattle.text.specs.Value.{or_else, unless}
+use Rattle.text.specs.Value.{unless}
 use Rattle.text.specs.Reader.{late, first_late, good, bad}
 use Rattle.text.specs.Writer.{tidy}
 use Rattle.text.specs.Structure.{first_in, lines_fault, table_fault}
 use Rattle.text.proofs.LinedLaws.{lined_of}
-use Rattle.checks.specs.Judging.{judged, Fails, judged_first, judged_then, judged_none}
+use Rattle.checks.specs.Judging.{judged, Fails, judged_first, judged_none}
 use Rattle.late.specs.Late.{Counted}
 use Rattle.unused.specs.Unused.{Ranged}
 
