@@ -1,5 +1,5 @@
 -- A run's beginning on the arrays of a state, and the state that arrays hold.
-use Rattle.std.specs.Prelude.{ℕ, zero, suc, ◌+◌, ◌-◌, ◌*◌, ◌<◌, ◌≤◌, ◌≡◌, true, false, List, [], ◌++◌, length, get_or, set, take, drop, replicate, ℤ, pos, Option, Some, None}
+use Rattle.std.specs.Prelude.{ℕ, zero, suc, ◌+◌, ◌-◌, ◌*◌, ◌<◌, ◌≤◌, ◌≡◌, List, [], ◌++◌, length, get_or, set, take, drop, replicate, ℤ, pos, Option, Some, None}
 use Rattle.table.specs.Table.{no_task, no_sem}
 use Rattle.table.specs.declared.Sem.{Sem}
 use Rattle.table.specs.declared.Task.{Task}

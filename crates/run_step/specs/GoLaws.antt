@@ -1,6 +1,6 @@
 -- An arc taken: what the code stores is the state that the machine's walk leads to.
-use Rattle.std.specs.Prelude.{ℕ, ◌+◌, ◌-◌, ◌*◌, ◌/◌, ◌%◌, ◌<◌, ◌≤◌, ◌≡◌, refl, Bool, true, false, List, [], ◌∷◌, length, get_or, set, drop, eqb, ℤ, pos}
-use Rattle.std.proofs.Common.{arith, sym, ap, ◌∙◌, length-drop, length-set, get_or-set_other, eq-eqb, ne_eqb}
+use Rattle.std.specs.Prelude.{ℕ, ◌+◌, ◌-◌, ◌*◌, ◌/◌, ◌%◌, ◌<◌, ◌≤◌, ◌≡◌, refl, Bool, true, false, List, [], ◌∷◌, length, get_or, set, drop, ℤ, pos}
+use Rattle.std.proofs.Common.{arith, sym, ap, ◌∙◌, length-drop, length-set, get_or-set_other}
 use Rattle.std.specs.Prelude.{Option, Some, None, Result, Ok, Err}
 use Rattle.std.proofs.lemmas.List.{set-get_or}
 use Rattle.std.proofs.Math.Seq.{set_out}

@@ -1,10 +1,9 @@
 -- What a step is, by how its node goes on, and what each arm of the code leaves.
-use Rattle.std.specs.Prelude.{ℕ, ◌/◌, ◌%◌, ◌≡◌, refl, Bool, true, false, List, ◌∷◌, length, set, drop, eqb, ℤ}
-use Rattle.std.proofs.Common.{sym, ◌∙◌, subst, length-set, eqb-true}
+use Rattle.std.specs.Prelude.{ℕ, ◌/◌, ◌%◌, ◌≡◌, refl, true, List, ◌∷◌, length, set, drop, ℤ}
+use Rattle.std.proofs.Common.{sym, ◌∙◌, subst, length-set}
 use Rattle.std.proofs.Math.Path.{ap}
 use Rattle.std.specs.Prelude.{Result, Ok, Err}
 use Rattle.std.proofs.Math.Option.{Option, none, some}
-use Rattle.std.proofs.lemmas.Bool.{eqb-false}
 use Rattle.table.specs.declared.Table.{Table}
 use Rattle.machine.specs.declared.Frame.{Frame}
 use Rattle.machine.specs.declared.Entries.{Entries}

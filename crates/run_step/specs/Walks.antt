@@ -1,5 +1,5 @@
 -- The walk over dropped nodes, as the code goes: a node is executed and its arc taken, until a kept node is met.
-use Rattle.std.specs.Prelude.{◌≡◌, Bool, List, [], length, get_or, set, drop, eqb, ℤ, pos}
+use Rattle.std.specs.Prelude.{◌≡◌, Bool, List, [], length, get_or, set, drop, ℤ, pos}
 use Rattle.std.proofs.Math.Path.{refl, ap}
 use Rattle.std.proofs.Common.{sym, ◌∙◌, subst, length-set, drop_of_length-le, drop-cons}
 use Rattle.std.proofs.Math.Bool.{true, false}
@@ -10,7 +10,7 @@ use Prim.Native.Nat.{ℕ, zero, suc, ◌+◌, ◌-◌, ◌*◌, ◌<◌, ◌≤�
 use native.Mathlib.Omega.{arith}
 use Rattle.std.proofs.Math.Seq.{set_out}
 use Rattle.std.proofs.Math.Dec.{leb}
-use borrow.Author.Tests.{leb-true, leb-false, eqb-false, eq-eqb, ne_eqb}
+use borrow.Author.Tests.{leb-true, leb-false}
 use Rattle.table.specs.Mask.{pick, bit}
 use Rattle.table.specs.Table.{node_at, arc_to, uses, removed, Keeping, always, keeping, parts}
 use Rattle.table.specs.ByKind.{by_kind}
@@ -20,7 +20,7 @@ use Rattle.table.specs.declared.Node.TheVariants.{Absent, Start, Set, Test, Read
 use Rattle.table.specs.declared.Table.{Table}
 use Rattle.closing.specs.Dirty.{Fact}
 use Rattle.closing.specs.Closing.{dirty, kept_by, kept}
-use Rattle.machine.specs.Step.{Memory, operand_in, assign, Does, goes, stops, read_of, exec, Choice, nowhere, node, bad, choose, kept_of, kept_in, Walk, halts, arrives, along, onward, noting, walk}
+use Rattle.machine.specs.Step.{Memory, operand_in, assign, Does, goes, stops, read_of, exec, Choice, choose, kept_of, kept_in, Walk, halts, arrives, along, onward, noting, walk}
 use Rattle.tosses.specs.declared.Stop.{Stop}
 use Rattle.tosses.specs.declared.Stop.TheVariants.{TooMany, ValuesSpent}
 use Rattle.tosses.specs.declared.Target.{Target}

@@ -1,5 +1,5 @@
 -- `run_state::begin` takes the inputs, task by task, if the values last for all of them.
-use Rattle.std.proofs.Common.{rules, arith, refl}
+use Rattle.std.proofs.Common.{rules, arith}
 use Rattle.run_state.specs.BeginLaws.{tops_low, takes_few, begins_spent, begins_with, take_first, take_more, take_room, take_done}
 use Rattle.run_state.proofs.begin.Goals as goal
 

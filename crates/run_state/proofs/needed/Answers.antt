@@ -1,5 +1,5 @@
 -- `run_state::needed` adds up the inputs of the tasks.
-use Rattle.std.proofs.Common.{rules, arith, refl}
+use Rattle.std.proofs.Common.{rules, arith}
 use Rattle.run_state.specs.BeginLaws.{tops_few, tops_low, takes_few, sum_first, sum_more, sum_done}
 use Rattle.run_state.proofs.needed.Goals as goal
 

@@ -1,7 +1,7 @@
 -- A call, not blocked: it opens a frame, with its arguments.
 use Rattle.std.proofs.Common.{[], arith, ◌∙◌, ap, List, get_or, ℤ}
 use Rattle.machine.specs.Step.{entering}
-use Rattle.run_step.specs.Standing.{task_low, vars_here, rows_here, row_low, args_here}
+use Rattle.run_step.specs.Standing.{vars_here, rows_here, args_here}
 use Rattle.run_step.specs.FrameLaws.{args_in, call_room, call_low, call_depth, call_did}
 use Rattle.run_step.proofs.call_step.Goals as goal
 

@@ -2,8 +2,7 @@
 use Rattle.std.proofs.Common.{[], arith, ℕ, get_or, ◌≡◌}
 use Rattle.run_code.specs.Code.{byte}
 use Rattle.run_step.specs.Steps.{Stands, Standing}
-use Rattle.run_step.specs.Standing.{row_low, by_row}
-use Rattle.run_step.specs.Whole.{shown_kind, plain_kind}
+use Rattle.run_step.specs.Standing.{by_row}
 use Rattle.run_step.proofs.execute.Goals as goal
 
 pub return_step-requires : goal.return_step-requires

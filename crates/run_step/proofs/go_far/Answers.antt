@@ -1,5 +1,5 @@
 -- An arc is taken, and dropped nodes are walked over until a kept one is met.
-use Rattle.std.proofs.Common.{rules, [], arith, ap, ◌∙◌, get_or, set, ℤ, w32, SFits, Ok, Some, None}
+use Rattle.std.proofs.Common.{rules, [], ap, ◌∙◌, get_or, set, ℤ, w32, SFits, Ok, Some, None}
 use Rattle.std.proofs.lemmas.Result.{err_from_is_err_and}
 use Rattle.values.proofs.Again.{again}
 use Rattle.tosses.specs.declared.Target.{Target}

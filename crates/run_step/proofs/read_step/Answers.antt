@@ -1,6 +1,6 @@
 -- A read: it takes the next value, or the values are spent.
 use Rattle.std.proofs.Common.{arith, ◌+◌}
-use Rattle.run_step.specs.Standing.{row_low, goings_to, goes_to_lem}
+use Rattle.run_step.specs.Standing.{goings_to, goes_to_lem}
 use Rattle.run_step.specs.Arms.{reads_on, reads_none, read_stop, read_did}
 use Rattle.std.proofs.lemmas.Result.{err_from_is_err_and}
 use Rattle.run_step.proofs.read_step.Goals as goal

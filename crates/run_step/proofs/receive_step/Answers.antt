@@ -1,7 +1,7 @@
 -- A receive, not blocked: it goes on with the oldest entry, which is removed from the queue.
 use Rattle.std.proofs.Common.{rules, arith, w32, SFits, ◌+◌, get_or, [], pos}
 use Rattle.run_code.specs.Code.{byte}
-use Rattle.run_step.specs.Standing.{row_low, name_here, goings_to}
+use Rattle.run_step.specs.Standing.{name_here, goings_to}
 use Rattle.run_step.specs.Arms.{recv_goes, recv_wide, recv_some, recv_did, recv_stop}
 use Rattle.std.proofs.lemmas.Result.{err_from_is_err_and}
 use Rattle.run_step.proofs.receive_step.Goals as goal

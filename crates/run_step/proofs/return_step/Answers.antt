@@ -1,6 +1,5 @@
 -- A return, not blocked: the frame below goes on, and the topmost is closed.
 use Rattle.std.proofs.Common.{arith}
-use Rattle.run_step.specs.Standing.{task_low, frame_low}
 use Rattle.run_step.specs.FrameLaws.{return_deep, return_next, going_back, return_depth, return_did, return_stop}
 use Rattle.std.proofs.lemmas.Result.{err_from_is_err_and}
 use Rattle.run_step.proofs.return_step.Goals as goal

@@ -3,7 +3,7 @@ use Rattle.std.proofs.Common.{w32, [], arith, ◌∙◌, ap, List, get_or, ℤ, 
 use Rattle.table.specs.Table.{removed}
 use Rattle.machine.specs.State.{var_at}
 use Rattle.run_code.specs.Code.{byte}
-use Rattle.run_step.specs.Standing.{vars_here, rows_here, row_low, name_here, goings_to, goes_to_lem}
+use Rattle.run_step.specs.Standing.{vars_here, rows_here, name_here, goings_to, goes_to_lem}
 use Rattle.run_step.specs.Arms.{send_wide, send_room, send_did, send_stop}
 use Rattle.std.proofs.lemmas.Result.{err_from_is_err_and}
 use Rattle.run_step.proofs.send_step.Goals as goal

@@ -1,7 +1,7 @@
 -- A set: it goes on with what it computes.
-use Rattle.std.proofs.Common.{w32, [], arith, ◌∙◌, ap, get_or, ℤ, to_z-of_z}
+use Rattle.std.proofs.Common.{w32, [], ◌∙◌, ap, get_or, ℤ, to_z-of_z}
 use Rattle.run_code.specs.Code.{byte}
-use Rattle.run_step.specs.Standing.{rows_here, row_low, goings_to, goes_to_lem}
+use Rattle.run_step.specs.Standing.{rows_here, goings_to, goes_to_lem}
 use Rattle.run_step.specs.Arms.{result_is, set_did}
 use Rattle.run_step.specs.Effects.{goes_to}
 use Rattle.run_step.proofs.set_step.Goals as goal

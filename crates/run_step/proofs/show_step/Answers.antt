@@ -1,9 +1,9 @@
 -- An assertion or an output: it goes on, and the log shows its variable.
-use Rattle.std.proofs.Common.{w32, [], arith, ◌∙◌, ap, List, get_or, ℤ, pos, to_z-of_z}
+use Rattle.std.proofs.Common.{w32, [], ◌∙◌, ap, List, get_or, ℤ, pos, to_z-of_z}
 use Rattle.table.specs.Table.{removed}
 use Rattle.machine.specs.State.{var_at}
 use Rattle.run_code.specs.Code.{byte}
-use Rattle.run_step.specs.Standing.{vars_here, rows_here, row_low, goings_to, goes_to_lem}
+use Rattle.run_step.specs.Standing.{vars_here, rows_here, goings_to, goes_to_lem}
 use Rattle.run_step.specs.Arms.{show_stop, hidden_did, shown_did}
 use Rattle.std.proofs.lemmas.Result.{err_from_is_err_and}
 use Rattle.run_step.proofs.show_step.Goals as goal

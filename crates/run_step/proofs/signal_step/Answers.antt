@@ -1,7 +1,7 @@
 -- A signal, not blocked: it goes on, and its semaphore is one more.
 use Rattle.std.proofs.Common.{arith, pos}
 use Rattle.table.specs.Table.{removed}
-use Rattle.run_step.specs.Standing.{row_low, name_here, goings_to, goes_to_lem}
+use Rattle.run_step.specs.Standing.{name_here, goings_to, goes_to_lem}
 use Rattle.run_step.specs.Arms.{signal_room, signal_did, signal_stop}
 use Rattle.std.proofs.lemmas.Result.{err_from_is_err_and}
 use Rattle.run_step.proofs.signal_step.Goals as goal

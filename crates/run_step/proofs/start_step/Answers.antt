@@ -1,7 +1,7 @@
 -- A start, or no node: it goes on by its arc.
 use Rattle.std.proofs.Common.{pos}
 use Rattle.table.specs.Table.{removed}
-use Rattle.run_step.specs.Standing.{row_low, goings_to, goes_to_lem}
+use Rattle.run_step.specs.Standing.{goings_to, goes_to_lem}
 use Rattle.run_step.specs.Arms.{plain_did}
 use Rattle.run_step.proofs.start_step.Goals as goal
 

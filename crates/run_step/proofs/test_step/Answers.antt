@@ -1,7 +1,7 @@
 -- A test: it goes on by the arc that what it computes says.
 use Rattle.std.proofs.Common.{pos}
 use Rattle.table.specs.Table.{removed}
-use Rattle.run_step.specs.Standing.{rows_here, row_low, goings_to, goings_no, goes_to_lem, goes_no}
+use Rattle.run_step.specs.Standing.{rows_here, goings_to, goings_no, goes_to_lem, goes_no}
 use Rattle.run_step.specs.Arms.{result_is, yes_did, no_did}
 use Rattle.run_step.proofs.Leaves.{holds_no, holds_yes}
 use Rattle.run_step.proofs.test_step.Goals as goal

@@ -1,7 +1,7 @@
 -- A wait, not blocked: it goes on, and its semaphore is one less.
 use Rattle.std.proofs.Common.{arith, pos}
 use Rattle.table.specs.Table.{removed}
-use Rattle.run_step.specs.Standing.{row_low, name_here, goings_to, goes_to_lem}
+use Rattle.run_step.specs.Standing.{name_here, goings_to, goes_to_lem}
 use Rattle.run_step.specs.Arms.{wait_some, wait_did, wait_stop}
 use Rattle.std.proofs.lemmas.Result.{err_from_is_err_and}
 use Rattle.run_step.proofs.wait_step.Goals as goal

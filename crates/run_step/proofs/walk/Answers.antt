@@ -1,9 +1,9 @@
 -- The walk, by what is left of it at each turn.
-use Rattle.std.proofs.Common.{rules, ℕ, ◌≡◌, ◌+◌, ◌-◌, arith, sym, ap, subst, ◌∙◌, set, ℤ, w32, SFits, Ok, Some, None}
+use Rattle.std.proofs.Common.{rules, ℕ, ◌≡◌, ◌+◌, ◌-◌, arith, ap, subst, ◌∙◌, set, ℤ, w32, SFits, Ok, Some, None}
 use Rattle.std.proofs.lemmas.Result.{err_from_is_err_and}
 use Rattle.values.proofs.Again.{again}
 use Rattle.tosses.specs.declared.Target.{Target}
-use Rattle.run_step.specs.Walks.{Midway, begins, spent, pass_within, stops_at, halts_there, ends_there, goes_on}
+use Rattle.run_step.specs.Walks.{Midway, spent, pass_within, stops_at, halts_there, ends_there, goes_on}
 use Rattle.run_step.proofs.walk.Goals as goal
 
 pub returns-in_err-o : goal.returns-in_err-o

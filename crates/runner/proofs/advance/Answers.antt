@@ -1,5 +1,5 @@
 -- `runner::advance` runs a schedule as `run_from` says, for every table and state that the arrays hold.
-use Rattle.std.proofs.Common.{arith, ◌≡◌, ◌∷◌, ℕ, ◌-◌, ◌+◌, ◌<◌, sym, ap, subst, ◌∙◌, length, get_or, drop, length-drop, Ok, Err}
+use Rattle.std.proofs.Common.{arith, ◌≡◌, ◌∷◌, ℕ, ◌-◌, ◌<◌, sym, ap, subst, ◌∙◌, length, get_or, drop, length-drop, Ok, Err}
 use lib.Seq.{sets, get_or-drop}
 use Rattle.table.specs.declared.Table.{Table}
 use Rattle.machine.specs.declared.State.{State}
@@ -7,7 +7,7 @@ use Rattle.machine.specs.Step.{kept_in, step}
 use Rattle.machine.specs.Run.{word}
 use Rattle.run_step.specs.Steps.{Held, Steps}
 use Rattle.runner.specs.Advances.{stop_before}
-use Rattle.runner.proofs.Turns.{first, ends_last, ends_before, asked, fits, ends_step, turned, turning_next}
+use Rattle.runner.proofs.Turns.{ends_last, ends_before, asked, ends_step, turned, turning_next}
 use Rattle.runner.proofs.advance.Goals as goal
 
 pub returns-in-Err : goal.returns-in-Err
