@@ -5,7 +5,7 @@
 
 ghost use Rattle.std.specs.Prelude.{◌≡◌, ◌≤◌, length};
 ghost use Rattle.table.specs.Mask.{members};
-ghost use Rattle.put.specs.Put.{Put, LineAt};
+ghost use Rattle.put.specs.Put.{Put};
 ghost use Rattle.labels.specs.Graph.{edges_text, arc_text};
 ghost use Rattle.arcs.specs.Edges.{ArcAt};
 

@@ -3,10 +3,8 @@
 
 #![tactic(auto)]
 
-ghost use Rattle.std.specs.Prelude.{◌*◌, ◌≤◌, get_or};
-ghost use Rattle.table.specs.Table.{no_sem, no_queue};
-ghost use Rattle.text.specs.Reader.{concat_from};
-ghost use Rattle.put.specs.Put.{Put, ByteAt, LineAt, TableAt};
+ghost use Rattle.std.specs.Prelude.{◌≤◌};
+ghost use Rattle.put.specs.Put.{Put, ByteAt, LineAt};
 ghost use Rattle.labels.specs.Graph.{form_text, sem_text, blank_text, queue_text, caption_text};
 
 use put::{put_rows, put_text};

@@ -3,13 +3,11 @@
 
 #![tactic(auto)]
 
-ghost use Rattle.std.specs.Prelude.{◌≡◌, ◌*◌, ◌≤◌, length};
+ghost use Rattle.std.specs.Prelude.{◌≡◌, ◌≤◌, length};
 ghost use Rattle.std.proofs.lemmas.List.Edits.{sets};
-ghost use Rattle.text.specs.Reader.{concat_from};
-ghost use Rattle.put.specs.Put.{Put, TableAt};
-ghost use Rattle.writer.specs.Table.{ProcsIn};
+ghost use Rattle.put.specs.Put.{Put};
 ghost use Rattle.labels.specs.Graph.{opening, graph, graph_printed};
-ghost use Rattle.graphs.specs.Graphs.{mask_procs, proc_calls, mask_kept, Drawable};
+ghost use Rattle.graphs.specs.Graphs.{mask_kept, Drawable};
 
 use captions::put_caption;
 use clusters::{put_calls, put_proc};

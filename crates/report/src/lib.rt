@@ -3,11 +3,9 @@
 
 #![tactic(auto)]
 
-ghost use Rattle.std.specs.Prelude.{◌*◌, ◌≤◌};
-ghost use Rattle.text.specs.Reader.{concat_from};
+ghost use Rattle.std.specs.Prelude.{◌≤◌};
 ghost use Rattle.put.specs.Put.{Put, LinesAt};
-ghost use Rattle.machine.specs.State.{sem_count, entries_at};
-ghost use Rattle.machine.specs.Report.{answer_line, sem_line, queue_line, state_lines, report};
+ghost use Rattle.machine.specs.Report.{answer_line, queue_line, state_lines, report};
 ghost use Rattle.report.specs.Rows.{Shown, Reportable};
 
 use lines::put_pair_line;

@@ -3,12 +3,10 @@
 
 #![tactic(auto)]
 
-ghost use Rattle.std.specs.Prelude.{◌*◌, ◌≤◌, get_or};
-ghost use Rattle.table.specs.Table.{no_task, no_sem, no_queue};
-ghost use Rattle.text.specs.Reader.{concat_from};
+ghost use Rattle.std.specs.Prelude.{◌≤◌};
 ghost use Rattle.text.specs.Writer.{text};
-ghost use Rattle.put.specs.Put.{Put, LineAt, LinesAt, TableAt};
-ghost use Rattle.writer.specs.Table.{NodesIn, ProcIn, FrontIn, Counts, task_bytes, sem_bytes, queue_bytes, slot_bytes, proc_bytes, front_bytes, WrittenAs};
+ghost use Rattle.put.specs.Put.{Put};
+ghost use Rattle.writer.specs.Table.{ProcIn, FrontIn, Counts, proc_bytes, front_bytes, WrittenAs};
 
 use lines::{
     put_counts_line, put_head_line, put_node, put_pair_line, put_proc_line, put_queue_line,
