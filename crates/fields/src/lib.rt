@@ -1,78 +1,146 @@
-// The refusals of fields that were not read.
+// The values of a line's fields, each read at a place, with the place after it.
 
 #![tactic(auto)]
 
-ghost use Rattle.std.specs.Prelude.{◌≡◌};
-ghost use Rattle.fields.specs.Answer.{number_fault, choice_fault, end_fault, kind_fault, op_fault, operand_fault, set_fault, args_fault};
+ghost use Rattle.std.specs.Prelude.{◌≤◌, ◌≡◌, [], ◌∷◌, length};
+ghost use Rattle.fields.specs.Interim.{NumberAt, ChoiceAt, KindAt, OpAt, OperandAt, VariableAt, SetAt, PassedAt, FeedAt};
 
-pub fn number_fault(n: numbers::Number) -> text::Fault
-    ensures { result ≡ number_fault n }
+use text::Fault;
+
+pub fn number_field(
+    s: &[u8],
+    at: usize,
+    key: &[u8],
+    lo: u64,
+    below: u64,
+    fault: Fault,
+) -> Result<(u8, usize), Fault>
+    requires { (at ≤ length s.now) × (below ≤ 256) }
+    ensures { NumberAt lo below fault key.now s.now at result }
 {
-    match n {
-        numbers::Number::Is(_, _) => text::Fault::Form,
-        numbers::Number::Not(f) => f,
+    match numbers::number_field(s, at, key, lo, below, fault) {
+        numbers::Number::Is(v, e) => Ok((v, e)),
+        numbers::Number::Not(f) => Err(f),
     }
 }
 
-pub fn choice_fault(n: words::Choice) -> text::Fault
-    ensures { result ≡ choice_fault n }
+pub fn number_word(
+    s: &[u8],
+    at: usize,
+    a: u8,
+    b: u8,
+    c: u8,
+    d: u8,
+    lo: u64,
+    below: u64,
+    fault: Fault,
+) -> Result<(u8, usize), Fault>
+    requires { (at ≤ length s.now) × (below ≤ 256) }
+    ensures { NumberAt lo below fault (a ∷ b ∷ c ∷ d ∷ 61 ∷ []) s.now at result }
 {
-    match n {
-        words::Choice::Is(_, _) => text::Fault::Form,
-        words::Choice::Not(f) => f,
+    match numbers::number_word(s, at, a, b, c, d, lo, below, fault) {
+        numbers::Number::Is(v, e) => Ok((v, e)),
+        numbers::Number::Not(f) => Err(f),
     }
 }
 
-pub fn end_fault(n: scan::Ended) -> text::Fault
-    ensures { result ≡ end_fault n }
+pub fn choice_field(s: &[u8], at: usize, key: &[u8], a: &[u8], b: &[u8]) -> Result<(bool, usize), Fault>
+    requires { at ≤ length s.now }
+    ensures { ChoiceAt a.now b.now key.now s.now at result }
 {
-    match n {
-        scan::Ended::Is(_) => text::Fault::Form,
-        scan::Ended::Not(f) => f,
+    match words::choice_field(s, at, key, a, b) {
+        words::Choice::Is(v, e) => Ok((v, e)),
+        words::Choice::Not(f) => Err(f),
     }
 }
 
-pub fn kind_fault(n: words::Kind) -> text::Fault
-    ensures { result ≡ kind_fault n }
+pub fn kind_field(s: &[u8], at: usize, closed: bool, j: u8) -> Result<(text::NodeKind, usize), Fault>
+    requires { at ≤ length s.now }
+    ensures { KindAt closed j s.now at result }
 {
-    match n {
-        words::Kind::Is(_, _) => text::Fault::Form,
-        words::Kind::Not(f) => f,
+    match words::kind_field(s, at, closed, j) {
+        words::Kind::Is(v, e) => Ok((v, e)),
+        words::Kind::Not(f) => Err(f),
     }
 }
 
-pub fn op_fault(n: words::Operation) -> text::Fault
-    ensures { result ≡ op_fault n }
+pub fn operation_field(s: &[u8], at: usize, test: bool) -> Result<(table::Op, usize), Fault>
+    requires { at ≤ length s.now }
+    ensures { OpAt test s.now at result }
 {
-    match n {
-        words::Operation::Is(_, _) => text::Fault::Form,
-        words::Operation::Not(f) => f,
+    match words::operation_field(s, at, test) {
+        words::Operation::Is(v, e) => Ok((v, e)),
+        words::Operation::Not(f) => Err(f),
     }
 }
 
-pub fn operand_fault(n: operands::Operand) -> text::Fault
-    ensures { result ≡ operand_fault n }
+pub fn operand_field(s: &[u8], at: usize, name: u8, vars: u64) -> Result<(table::Operand, usize), Fault>
+    requires { (at ≤ length s.now) × (vars ≤ 256) }
+    ensures { OperandAt vars (32 ∷ name ∷ 61 ∷ []) s.now at result }
 {
-    match n {
-        operands::Operand::Is(_, _) => text::Fault::Form,
-        operands::Operand::Not(f) => f,
+    match operands::operand_field(s, at, name, vars) {
+        operands::Operand::Is(v, e) => Ok((v, e)),
+        operands::Operand::Not(f) => Err(f),
     }
 }
 
-pub fn set_fault(n: lists::Set) -> text::Fault
-    ensures { result ≡ set_fault n }
+pub fn variable_field(s: &[u8], at: usize, closed: bool, vars: u64) -> Result<(u8, usize), Fault>
+    requires { (at ≤ length s.now) × (vars ≤ 256) }
+    ensures { VariableAt closed vars s.now at result }
 {
-    match n {
-        lists::Set::Is(_, _) => text::Fault::Form,
-        lists::Set::Not(f) => f,
+    match operands::variable_field(s, at, closed, vars) {
+        numbers::Number::Is(v, e) => Ok((v, e)),
+        numbers::Number::Not(f) => Err(f),
     }
 }
 
-pub fn args_fault(n: lists::Passed) -> text::Fault
-    ensures { result ≡ args_fault n }
+pub fn ascending_field(s: &[u8], at: usize, key: &[u8], one: bool, lo: u64, below: u64) -> Result<(u32, usize), Fault>
+    requires { (at ≤ length s.now) × (below ≤ 32) }
+    ensures { SetAt one lo below key.now s.now at result }
 {
-    match n {
-        lists::Passed::Is(_, _) => text::Fault::Form,
-        lists::Passed::Not(f) => f,
+    match lists::ascending_field(s, at, key, one, lo, below) {
+        lists::Set::Is(v, e) => Ok((v, e)),
+        lists::Set::Not(f) => Err(f),
+    }
+}
+
+pub fn ascending_word(
+    s: &[u8],
+    at: usize,
+    a: u8,
+    b: u8,
+    c: u8,
+    d: u8,
+    rest: &[u8],
+    one: bool,
+    lo: u64,
+    below: u64,
+) -> Result<(u32, usize), Fault>
+    requires { (at ≤ length s.now) × (below ≤ 32) }
+    ensures { SetAt one lo below (a ∷ b ∷ c ∷ d ∷ rest.now) s.now at result }
+{
+    match lists::ascending_word(s, at, a, b, c, d, rest, one, lo, below) {
+        lists::Set::Is(v, e) => Ok((v, e)),
+        lists::Set::Not(f) => Err(f),
+    }
+}
+
+pub fn arguments_field(s: &[u8], at: usize, closed: bool, vars: u64) -> Result<(table::Args, usize), Fault>
+    requires { (at ≤ length s.now) × (vars ≤ 256) }
+    ensures { PassedAt closed vars s.now at result }
+{
+    match lists::arguments_field(s, at, closed, vars) {
+        lists::Passed::Is(v, e) => Ok((v, e)),
+        lists::Passed::Not(f) => Err(f),
+    }
+}
+
+pub fn feed(s: &[u8], at: usize) -> Result<usize, Fault>
+    requires { at ≤ length s.now }
+    ensures { FeedAt s.now at result }
+{
+    match scan::feed(s, at) {
+        scan::Ended::Is(e) => Ok(e),
+        scan::Ended::Not(f) => Err(f),
     }
 }
