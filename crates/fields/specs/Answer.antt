@@ -19,5 +19,5 @@ pub record LineAt {A : Type 0} (d : Line) (g : Vals d → A) (s : List ℕ) (at 
   pub within : IfOk r (λ a. a.1 ≤ length s)
 
 -- what a `?` hands on: the fault f
-abbrev pub Fails : {A : Type 0} → Result A Fault → Fault → Type 0
+abbrev pub Fails : {A E : Type 0} → Result A E → E → Type 0
 Fails r f = IsErrAnd r (λ x. x ≡ f)

@@ -1,6 +1,6 @@
 -- Node line after node line: what is left to do from here gives the whole.
 use Prim.Native.Nat.{ℕ, zero, suc, ◌+◌, ◌-◌, ◌≤◌, ◌<◌}
-use Rattle.std.specs.Prelude.{◌≡◌, refl, Bool, List, [], ◌∷◌, ltb, length, set}
+use Rattle.std.specs.Prelude.{◌≡◌, refl, Bool, List, [], ◌∷◌, ltb, length, set, Ok, Err}
 use Rattle.std.proofs.Common.{sym, ◌∙◌, add-one, length-set}
 use Rattle.std.proofs.Math.Path.{ap}
 use Rattle.std.proofs.Math.Bool.{true, false}
@@ -12,7 +12,7 @@ use Rattle.table.specs.Table.{no_slots}
 use Rattle.table.specs.declared.Node.{Node}
 use Rattle.table.specs.declared.Slot.{Slot}
 use Rattle.text.specs.declared.Fault.{Fault}
-use Rattle.text.specs.declared.Fault.TheVariants.{Form, Index}
+use Rattle.text.specs.declared.Fault.TheVariants.{Index}
 use Rattle.text.specs.Number.{bytes}
 use Rattle.text.specs.Value.{check, number}
 use Rattle.text.proofs.ValueLaws.{no}
@@ -29,17 +29,11 @@ use Rattle.fields.specs.FieldLaws.{onto_got}
 use Rattle.nodes.specs.declared.Line.{Line}
 use Rattle.nodes.specs.declared.Line.TheVariants.{Node as IsNode, Refused as NotNode}
 use Rattle.nodes.specs.Answer.{numbered, NodeAt}
-use Rattle.rows.specs.declared.End.TheVariants.{At, Refused}
-use Rattle.procs.specs.declared.Slots.{Slots}
-use Rattle.procs.specs.Answer.{stopped_of, node_stands, is_further, line_due, number_below, SlotsAt}
+use Rattle.rows.specs.declared.Reached.{Reached}
+use Rattle.rows.specs.declared.Refusal.{Refusal}
+use Rattle.procs.specs.Answer.{node_stands, is_further, line_due, number_below, SlotsAt}
 
--- ---- a refused line; a line beginning `node=`
-module _ {r : Line} {l : List Slot} (z : l ≡ no_slots) where
-  pub stopped_not : {f : Fault} {k : ℕ} → r ≡ NotNode f k → ◌≡◌ {A = Slots} (record { end = Refused f; line = k; slots = l }) (stopped_of r)
-  stopped_not q = rw (q, z)
-
-  pub stopped_is : {x : Node} {j e : ℕ} → r ≡ IsNode x j e → ◌≡◌ {A = Slots} (record { end = Refused Form; line = 0; slots = l }) (stopped_of r)
-  stopped_is q = rw (q, z)
+-- ---- a line beginning `node=`
 
 -- bytes are left
 some_left : (s : List ℕ) (at : ℕ) → at < length s → standing broken (drop at s) ≡ true
@@ -140,8 +134,8 @@ from_start : (c : Judged) (closed : Bool) (l : ℕ) (s : List ℕ) → nodes_fro
 from_start c false l s = let e : c.nodes - 0 ≡ c.nodes = omega arith in rw e
 from_start c true l s = refl
 
-pub nodes_start : {c : Judged} {closed : Bool} {s : List ℕ} {at line : ℕ} → at ≤ length s → 0 < c.nodes → c.nodes ≤ 32 → Noding c closed s at line no_slots at line 0
-nodes_start {c} {closed} {s} {at} {line} h k few = record {
+pub nodes_start : {c : Judged} {closed : Bool} {s : List ℕ} {at line : ℕ} {acc : List Slot} → acc ≡ no_slots → at ≤ length s → 0 < c.nodes → c.nodes ≤ 32 → Noding c closed s at line acc at line 0
+nodes_start {c} {closed} {s} {at} {line} d h k few = rw d (record {
   fuel = c.nodes;
   same = from_start c closed line (drop at s);
   enough = omega arith;
@@ -151,7 +145,7 @@ nodes_start {c} {closed} {s} {at} {line} h k few = record {
   size = refl;
   some = k;
   few = few;
-}
+})
 
 -- one line more in each form: it was read, it was refused, or there is none
 module _ {c : Judged} {s : List ℕ} {at line : ℕ} {acc : List Slot} {p l : ℕ} where
@@ -202,11 +196,10 @@ module _ {c : Judged} {s : List ℕ} {at line : ℕ} {acc : List Slot} {p l : �
 
 module _ {c : Judged} {closed : Bool} {s : List ℕ} {at line : ℕ} {acc : List Slot} {p l next : ℕ} (o : Noding c closed s at line acc p l next)
     {d : Bool} (due : d ≡ line_due closed next c.nodes s p) where
-  pub nodes_end : d ≡ false → SlotsAt c closed s at line (record { end = At p; line = l; slots = acc })
+  pub nodes_end : d ≡ false → SlotsAt c closed s at line acc (Ok (record { at = p; line = l }))
   nodes_end e = record {
     same = from_end closed next o (sym due ∙ e);
     within = o.place;
-    blank = tt;
     lines = omega (arith, o.lines, o.count, o.few);
   }
 
@@ -218,15 +211,14 @@ module _ {c : Judged} {closed : Bool} {s : List ℕ} {at line : ℕ} {acc : List
     nodes_below = omega (arith, within, o.few)
 
     module _ {r : Line} (m : NodeAt c next n s p l r) where
-      pub nodes_stop : {f : Fault} {k : ℕ} → r ≡ NotNode f k → {y : Slots} → y ≡ stopped_of r → SlotsAt c closed s at line y
-      nodes_stop {f} {k} q h =
-          let z : k ≡ l = node_line_lem m q in
-          rw (h, q, z) (record {
-            same = from_refused closed next o (sym due ∙ e) (rw b at m) q;
+      pub nodes_stop : {y : Refusal} → r ≡ NotNode y.fault y.line → SlotsAt c closed s at line acc (Err y)
+      nodes_stop {y} q =
+          let z : y.line ≡ l = node_line_lem m q in
+          record {
+            same = rw z (from_refused closed next o (sym due ∙ e) (rw b at m) q);
             within = tt;
-            blank = refl;
             lines = omega (arith, o.lines, o.count, o.few);
-          })
+          }
 
       module _ {x : Node} {j to : ℕ} (q : r ≡ IsNode x j to) where
         pub nodes_index : j < 32
