@@ -1,6 +1,6 @@
 -- A call's arguments by their four places: those behind the fourth repeat it.
-use Rattle.std.specs.Prelude.{ℕ, zero, suc, ◌-◌, ◌≤◌, ◌<◌, ◌≡◌, refl, List, [], ◌∷◌, map, Bool, true, false, not, ◌&&◌, ◌||◌, ltb, eqb, take, replicate}
-use Rattle.std.proofs.Common.{◌∙◌, ap, arith, lt-ltb, le-ltb, eq-eqb, ne_eqb}
+use Rattle.std.specs.Prelude.{ℕ, zero, suc, ◌-◌, ◌≡◌, refl, List, [], ◌∷◌, map, Bool, true, false, not, ◌&&◌, ◌||◌, ltb, eqb, take, replicate}
+use Rattle.std.proofs.Common.{sym, ◌∙◌, ap, arith, lt-ltb}
 use Rattle.std.proofs.Math.Option.{Option}
 use Rattle.table.specs.Cases.{cases}
 use Rattle.table.specs.Table.{removed}
@@ -51,6 +51,24 @@ unfolding every
 rest_declared n d zero = declared_first n d [] ∙ and_true (eqb d removed || ltb d n)
 rest_declared n d (suc l) = declared_first n d (rest d l) ∙ same_twice (eqb d removed || ltb d n) (all_declared n (rest d l)) (rest_declared n d l)
 
+-- ---- four tests in a row
+
+and_row : (a b c d : Bool) → ((a && b) && c) && d ≡ a && (b && (c && d))
+and_row true b c d = and_assoc b c d
+  where
+    and_assoc : (a b c : Bool) → (a && b) && c ≡ a && (b && c)
+    and_assoc true b c = refl
+    and_assoc false b c = refl
+and_row false b c d = refl
+
+or_row : (a b c d : Bool) → ((a || b) || c) || d ≡ a || (b || (c || d))
+or_row true b c d = refl
+or_row false b c d = or_assoc b c d
+  where
+    or_assoc : (a b c : Bool) → (a || b) || c ≡ a || (b || c)
+    or_assoc true b c = refl
+    or_assoc false b c = refl
+
 -- ---- all arguments
 
 abbrev names : ℕ → ℕ → ℕ → ℕ → ℕ → List (Option ℕ)
@@ -84,8 +102,8 @@ some_removed (suc (suc (suc (suc l)))) a b c d =
     rw (names_many l a b c d, lt-ltb 0 n (omega arith), lt-ltb 1 n (omega arith), lt-ltb 2 n (omega arith), lt-ltb 3 n (omega arith))
     (simp (rest_removed, removed_first, not_or))
 
-pub removed_is : (xs : Args) → not (none_removed (arg_names xs)) ≡ removed_at xs.len 0 xs.a0 || (removed_at xs.len 1 xs.a1 || (removed_at xs.len 2 xs.a2 || removed_at xs.len 3 xs.a3))
-removed_is xs = ap not (some_removed xs.len xs.a0 xs.a1 xs.a2 xs.a3) ∙ twice _
+pub removed_is : (xs : Args) → not (none_removed (arg_names xs)) ≡ ((removed_at xs.len 0 xs.a0 || removed_at xs.len 1 xs.a1) || removed_at xs.len 2 xs.a2) || removed_at xs.len 3 xs.a3
+removed_is xs = ap not (some_removed xs.len xs.a0 xs.a1 xs.a2 xs.a3) ∙ twice _ ∙ sym (or_row (removed_at xs.len 0 xs.a0) (removed_at xs.len 1 xs.a1) (removed_at xs.len 2 xs.a2) (removed_at xs.len 3 xs.a3))
   where
     twice : (a : Bool) → not (not a) ≡ a
     twice true = refl
@@ -102,29 +120,19 @@ declared_in n (suc (suc (suc (suc l)))) a b c d =
     (simp (rest_declared, declared_first))
 
 pub declared_is : (n : ℕ) (xs : Args)
-    → all_declared n (arg_names xs) ≡ declared_at n xs.len 0 xs.a0 && (declared_at n xs.len 1 xs.a1 && (declared_at n xs.len 2 xs.a2 && declared_at n xs.len 3 xs.a3))
-declared_is n xs = declared_in n xs.len xs.a0 xs.a1 xs.a2 xs.a3
+    → all_declared n (arg_names xs) ≡ ((declared_at n xs.len 0 xs.a0 && declared_at n xs.len 1 xs.a1) && declared_at n xs.len 2 xs.a2) && declared_at n xs.len 3 xs.a3
+declared_is n xs = declared_in n xs.len xs.a0 xs.a1 xs.a2 xs.a3 ∙ sym (and_row (declared_at n xs.len 0 xs.a0) (declared_at n xs.len 1 xs.a1) (declared_at n xs.len 2 xs.a2) (declared_at n xs.len 3 xs.a3))
 
--- ---- as code finds them
+-- ---- the tests in a row: v is what those up to here give
 
-pub removed_used : (len k v : ℕ) → k < len → eqb v 255 ≡ removed_at len k v
-removed_used len k v l = rw (lt-ltb k len l)
+pub and_more : (a b x y : Bool) {v : Bool} → a ≡ true → v ≡ b → a ≡ x → b ≡ y → v ≡ x && y
+and_more a b x y e h p q = rw (← p, e) (h ∙ q)
 
-pub removed_unused : (len k v : ℕ) → len ≤ k → false ≡ removed_at len k v
-removed_unused len k v l = rw (le-ltb k len l)
+pub and_stop : (a x y : Bool) {v : Bool} → a ≡ false → v ≡ a → a ≡ x → v ≡ x && y
+and_stop a x y e h p = rw (← p, e) (h ∙ e)
 
-pub declared_removed : (n len k v : ℕ) → k < len → v ≡ 255 → true ≡ declared_at n len k v
-declared_removed n len k v l e = rw (lt-ltb k len l, eq-eqb v removed e)
+pub or_more : (a b x y : Bool) {v : Bool} → a ≡ false → v ≡ b → a ≡ x → b ≡ y → v ≡ x || y
+or_more a b x y e h p q = rw (← p, e) (h ∙ q)
 
-pub declared_used : (n len k v : ℕ) → k < len → (v ≡ 255 → ⊥) → ltb v n ≡ declared_at n len k v
-declared_used n len k v l e = rw (lt-ltb k len l, ne_eqb v removed e)
-
-pub declared_unused : (n len k v : ℕ) → len ≤ k → true ≡ declared_at n len k v
-declared_unused n len k v l = rw (le-ltb k len l)
-
--- from the two that a test joins
-pub both_of : {a b x y r : Bool} → r ≡ a && b → a ≡ x → b ≡ y → r ≡ x && y
-both_of e p q = rw (e, p, q)
-
-pub either_of : {a b x y r : Bool} → r ≡ a || b → a ≡ x → b ≡ y → r ≡ x || y
-either_of e p q = rw (e, p, q)
+pub or_stop : (a x y : Bool) {v : Bool} → a ≡ true → v ≡ a → a ≡ x → v ≡ x || y
+or_stop a x y e h p = rw (← p, e) (h ∙ e)

@@ -1,4 +1,4 @@
-pub mod Numbers
+pub mod Judging
 pub mod ArgumentChecks
 pub mod ValueChecks
 pub mod NodeChecks

@@ -1,5 +1,5 @@
 -- The late faults of the lines of tasks and procedures, and the first of them with its line.
-use Rattle.std.specs.Prelude.{ℕ, zero, suc, ◌+◌, Bool, List, [], ◌∷◌, get_or}
+use Rattle.std.specs.Prelude.{ℕ, suc, ◌+◌, Result, Ok, Err, Bool, List, [], ◌∷◌, get_or}
 use Rattle.std.proofs.Math.Option.{Option, none, some}
 use Rattle.table.specs.Mask.{pick, bit}
 use Rattle.table.specs.Table.{no_task, node_in, is_absent}
@@ -7,7 +7,6 @@ use Rattle.table.specs.declared.Node.{Node}
 use Rattle.table.specs.declared.Proc.{Proc}
 use Rattle.table.specs.declared.Task.{Task}
 use Rattle.text.specs.declared.Fault.{Fault}
-use Rattle.text.specs.Fault.{number}
 use Rattle.text.specs.Reader.{all_below, concat_from}
 use Rattle.late_lines.specs.declared.At.{At}
 use Rattle.late_nodes.specs.declared.Terms.{Terms}
@@ -37,14 +36,14 @@ nodes_late_by c m q = concat_from (λ n. node_late_by c m (node_in q n)) q.nodes
 abbrev pub proc_late_by : Terms → Proc → List (Option Fault)
 proc_late_by c q = none ∷ nodes_late_by c (present_in q) q
 
--- ---- the first fault of some lines, counted from l: its number and line; or 0 and the line behind them
+-- ---- the first fault of some lines, counted from l, with its line; or the line behind them
 
-unfoldable pub first_at : ℕ → List (Option Fault) → At
-first_at l [] = record { number = 0; line = l }
+unfoldable pub first_at : ℕ → List (Option Fault) → Result ℕ At
+first_at l [] = Ok l
 first_at l (none ∷ fs) = first_at (suc l) fs
-first_at l (some f ∷ fs) = record { number = number f; line = l }
+first_at l (some f ∷ fs) = Err (record { fault = f; line = l })
 
--- one place with the number r that stands for k lines
-abbrev pub step_at : ℕ → ℕ → ℕ → At
-step_at zero k l = record { number = 0; line = l + k }
-step_at (suc r) k l = record { number = suc r; line = l }
+-- a line that is judged
+abbrev pub step_at : Result (Unit {0}) Fault → ℕ → Result ℕ At
+step_at (Ok u) l = Ok (l + 1)
+step_at (Err f) l = Err (record { fault = f; line = l })

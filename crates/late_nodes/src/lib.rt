@@ -1,17 +1,17 @@
-// The late fault of a node, by its number; 0 is none: an argument count that differs from the callee's, and what only a closed table can
-// have wrong.
+// The late fault of a node: an argument count that differs from the callee's, and what only a closed table can have wrong.
 
 #![tactic(auto)]
 
-ghost use Rattle.std.specs.Prelude.{◌≡◌, ◌≤◌, ◌<◌, ◌%◌, ◌^◌, get_or};
+ghost use Rattle.std.specs.Prelude.{◌≡◌, Result, ◌≤◌, ◌<◌, ◌%◌, ◌^◌, get_or};
 ghost use Rattle.table.specs.Mask.{pick, mask_of};
 ghost use Rattle.table.specs.Table.{no_queue, arg_at};
 ghost use Rattle.text.specs.Reader.{iff};
-ghost use Rattle.text.specs.Structure.{numbered};
+ghost use Rattle.targets.specs.Judged.{judged};
 ghost use Rattle.checks.specs.ArgumentChecks.{removed_at};
-ghost use Rattle.late_nodes.specs.Terms.{no_callee, arc_fault, count_fault, removal_fault, blank_fault, call_fault, transfer_fault, node_fault_by};
+ghost use Rattle.late_nodes.specs.Terms.{no_callee, if_closed, arc_fault, count_fault, removal_fault, blank_fault, call_fault, transfer_fault, node_fault_by};
 
 use table::{Args, Node, Queue, REMOVED};
+use text::Fault;
 
 // What a call is judged by.
 #[derive(Clone, Copy)]
@@ -29,23 +29,31 @@ pub struct Terms {
 }
 
 // The arguments are as many as the parameters.
-fn count(len: u8, params: u8) -> u8
-    ensures { result ≡ numbered (count_fault len params) }
+fn count(len: u8, params: u8) -> Result<(), Fault>
+    ensures { result ≡ judged (count_fault len params) }
 {
-    if len == params { 0 } else { text::ARGUMENTS }
+    if len == params {
+        Ok(())
+    } else {
+        Err(Fault::Arguments)
+    }
+}
+
+// What only a closed table can have wrong.
+fn unclosed(closed: bool, right: bool) -> Result<(), Fault>
+    ensures { result ≡ judged (if_closed closed right) }
+{
+    if closed && !right {
+        return Err(Fault::Unclosed);
+    }
+    Ok(())
 }
 
 // In closed form every target is one of the nodes present.
-fn arc(closed: bool, present: u32, to: u32) -> u8
-    ensures { result ≡ numbered (arc_fault closed present to) }
+fn arc(closed: bool, present: u32, to: u32) -> Result<(), Fault>
+    ensures { result ≡ judged (arc_fault closed present to) }
 {
-    if closed {
-        if to & present == to {
-            return 0;
-        }
-        return text::UNCLOSED;
-    }
-    0
+    unclosed(closed, to & present == to)
 }
 
 // The mask with k alone.
@@ -53,7 +61,7 @@ pub fn power(k: u8) -> u32
     requires { k < 32 }
     ensures { result ≡ 2 ^ k }
 {
-    1u32 << (k as u32)
+    1u32 << k
 }
 
 // The parameters below the n-th that are dropped.
@@ -61,9 +69,9 @@ pub fn low(drop: u8, n: u8) -> u32
     ensures { result ≡ drop % 2 ^ n }
 {
     if 8 <= n {
-        return drop as u32;
+        return u32::from(drop);
     }
-    (drop as u32) % power(n)
+    u32::from(drop) % power(n)
 }
 
 fn removed_bit(len: u8, k: u8, v: u8) -> u32
@@ -72,9 +80,10 @@ fn removed_bit(len: u8, k: u8, v: u8) -> u32
     ensures small { result ≤ 8 }
 {
     if checks::removed_at(len, k, v) {
-        return power(k);
+        power(k)
+    } else {
+        0
     }
-    0
 }
 
 // The set of the arguments that are removed.
@@ -89,47 +98,25 @@ fn removed(xs: Args) -> u32
 }
 
 // In closed form an argument is removed if and only if its parameter is dropped.
-fn removals(closed: bool, drop: u8, xs: Args) -> u8
-    ensures { result ≡ numbered (removal_fault closed drop xs) }
+fn removals(closed: bool, drop: u8, xs: Args) -> Result<(), Fault>
+    ensures { result ≡ judged (removal_fault closed drop xs) }
 {
-    if closed {
-        if removed(xs) == low(drop, xs.len) {
-            return 0;
-        }
-        return text::UNCLOSED;
-    }
-    0
+    unclosed(closed, removed(xs) == low(drop, xs.len))
 }
 
 // In closed form what is sent or received is removed if and only if the queue is blank.
-fn blanks(closed: bool, var: u8, blank: bool) -> u8
-    ensures { result ≡ numbered (blank_fault closed var blank) }
+fn blanks(closed: bool, var: u8, blank: bool) -> Result<(), Fault>
+    ensures { result ≡ judged (blank_fault closed var blank) }
 {
-    if closed {
-        if agree(var == REMOVED, blank) {
-            return 0;
-        }
-        return text::UNCLOSED;
-    }
-    0
-}
-
-fn agree(a: bool, b: bool) -> bool
-    ensures { result ≡ iff a b }
-{
-    if a {
-        return b;
-    }
-    !b
+    unclosed(closed, (var == REMOVED) == blank)
 }
 
 // What a call of procedure k is judged by.
 pub fn callee_at(callee: [Callee; 8], k: u8) -> Callee
     ensures { result ≡ get_or callee k no_callee }
 {
-    let i = k as usize;
-    if i < 8 {
-        callee[i]
+    if k < 8 {
+        callee[usize::from(k)]
     } else {
         Callee { params: 0, drop: 0 }
     }
@@ -138,68 +125,46 @@ pub fn callee_at(callee: [Callee; 8], k: u8) -> Callee
 fn blank_at(queue: [Queue; 8], k: u8) -> bool
     ensures { result ≡ (get_or queue k no_queue).blank }
 {
-    let i = k as usize;
-    if i < 8 {
-        let x = queue[i];
-        return x.blank;
-    }
-    false
+    k < 8 && queue[usize::from(k)].blank
 }
 
-fn call(c: Terms, present: u32, callee: u8, args: Args, to: u32) -> u8
-    ensures { result ≡ numbered (call_fault c present callee args to) }
+fn call(c: Terms, present: u32, callee: u8, args: Args, to: u32) -> Result<(), Fault>
+    ensures { result ≡ judged (call_fault c present callee args to) }
 {
-    let cs = c.callee;
-    let p = callee_at(cs, callee);
-    let n = count(args.len, p.params);
-    let a = arc(c.closed, present, to);
-    let m = removals(c.closed, p.drop, args);
-    checks::first(n, checks::first(a, m))
+    let p = callee_at(c.callee, callee);
+    count(args.len, p.params)?;
+    arc(c.closed, present, to)?;
+    removals(c.closed, p.drop, args)
 }
 
 // A send or a recv.
-fn transfer(c: Terms, present: u32, queue: u8, var: u8, to: u32) -> u8
-    ensures { result ≡ numbered (transfer_fault c present queue var to) }
+fn transfer(c: Terms, present: u32, queue: u8, var: u8, to: u32) -> Result<(), Fault>
+    ensures { result ≡ judged (transfer_fault c present queue var to) }
 {
-    let qs = c.queue;
-    let b = blank_at(qs, queue);
-    let a = arc(c.closed, present, to);
-    let m = blanks(c.closed, var, b);
-    checks::first(a, m)
+    arc(c.closed, present, to)?;
+    blanks(c.closed, var, blank_at(c.queue, queue))
 }
 
 // A node of the procedure whose nodes are the set present.
-pub fn node(x: Node, c: Terms, present: u32) -> u8
-    ensures { result ≡ numbered (node_fault_by c present x) }
+pub fn node(x: Node, c: Terms, present: u32) -> Result<(), Fault>
+    ensures { result ≡ judged (node_fault_by c present x) }
 {
     match x {
-        Node::Absent => 0,
-        Node::Start { to } => arc(c.closed, present, to),
-        Node::Set {
-            var: _,
-            op: _,
-            a: _,
-            b: _,
-            to,
-        } => arc(c.closed, present, to),
-        Node::Test {
-            op: _,
-            a: _,
-            b: _,
-            yes,
-            no,
-        } => {
-            let y = arc(c.closed, present, yes);
-            checks::first(y, arc(c.closed, present, no))
+        Node::Absent | Node::Return => Ok(()),
+        Node::Start { to }
+        | Node::Set { to, .. }
+        | Node::Read { to, .. }
+        | Node::Wait { to, .. }
+        | Node::Signal { to, .. }
+        | Node::Assert { to, .. }
+        | Node::Out { to, .. } => arc(c.closed, present, to),
+        Node::Test { yes, no, .. } => {
+            arc(c.closed, present, yes)?;
+            arc(c.closed, present, no)
         }
-        Node::Read { var: _, to } => arc(c.closed, present, to),
         Node::Call { callee, args, to } => call(c, present, callee, args, to),
-        Node::Wait { sem: _, to } => arc(c.closed, present, to),
-        Node::Signal { sem: _, to } => arc(c.closed, present, to),
-        Node::Send { queue, var, to } => transfer(c, present, queue, var, to),
-        Node::Recv { queue, var, to } => transfer(c, present, queue, var, to),
-        Node::Assert { var: _, to } => arc(c.closed, present, to),
-        Node::Out { var: _, to } => arc(c.closed, present, to),
-        Node::Return => 0,
+        Node::Send { queue, var, to } | Node::Recv { queue, var, to } => {
+            transfer(c, present, queue, var, to)
+        }
     }
 }

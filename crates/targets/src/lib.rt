@@ -1,20 +1,19 @@
-// The fault of a list that is held as a mask, by its number; 0 is none.
+// The fault of a list that is held as a mask.
 
 #![tactic(auto)]
 
 ghost use Rattle.std.specs.Prelude.{◌≡◌, false, not, ◌||◌, ◌≤◌};
 ghost use Rattle.table.specs.Mask.{members};
 ghost use Rattle.text.specs.Value.{check, ascending, within, is_one};
-ghost use Rattle.text.specs.Structure.{numbered};
+ghost use Rattle.targets.specs.Judged.{judged};
+
+use text::Fault;
 
 // In open form a list of targets has one.
 fn listed(closed: bool, m: u32) -> bool
     ensures { result ≡ (not (not closed) || is_one (members m)) }
 {
-    if closed {
-        return true;
-    }
-    u32::count_ones(m) == 1
+    closed || m.count_ones() == 1
 }
 
 // The members of m are 1 to n-1.
@@ -22,36 +21,29 @@ fn inside(m: u32, n: u8) -> bool
     requires { n ≤ 32 }
     ensures { result ≡ within 1 n (members m) }
 {
-    if m % 2 == 0 {
-        return (m as u64) < (1u64 << (n as u64));
-    }
-    false
+    m % 2 == 0 && u64::from(m) < 1u64 << n
 }
 
 // The targets of an arc, with so many nodes.
-pub fn targets(closed: bool, nodes: u8, m: u32) -> u8
+pub fn targets(closed: bool, nodes: u8, m: u32) -> Result<(), Fault>
     requires { nodes ≤ 32 }
-    ensures { result ≡ numbered (check (ascending (not closed) 1 nodes) (members m)) }
+    ensures { result ≡ judged (check (ascending (not closed) 1 nodes) (members m)) }
 {
-    if listed(closed, m) {
-        if inside(m, nodes) {
-            return 0;
-        }
-        return text::REFERENCE;
+    if !listed(closed, m) {
+        return Err(Fault::Misspelt);
     }
-    text::MISSPELT
+    if !inside(m, nodes) {
+        return Err(Fault::Reference);
+    }
+    Ok(())
 }
 
 // The parameters that are dropped, of so many.
-pub fn dropped(params: u8, m: u8) -> u8
-    ensures { result ≡ numbered (check (ascending false 0 params) (members m)) }
+pub fn dropped(params: u8, m: u8) -> Result<(), Fault>
+    ensures { result ≡ judged (check (ascending false 0 params) (members m)) }
 {
-    if 8 <= params {
-        return 0;
+    if params < 8 && 1u32 << params <= u32::from(m) {
+        return Err(Fault::Reference);
     }
-    if (m as u32) < (1u32 << (params as u32)) {
-        0
-    } else {
-        text::REFERENCE
-    }
+    Ok(())
 }

@@ -5,8 +5,8 @@ use Rattle.checks.proofs.arguments.Goals as goal
 pub returns-then-misspelt : goal.returns-then-misspelt
 returns-then-misspelt c = search (rules, arguments_misspelt)
 
-pub returns-then-all_declared : goal.returns-then-all_declared
-returns-then-all_declared c = search (rules, arguments_in)
+pub returns-then-not-all_declared : goal.returns-then-not-all_declared
+returns-then-not-all_declared c = search (rules, arguments_out)
 
-pub returns-else-all_declared : goal.returns-else-all_declared
-returns-else-all_declared c = search (rules, arguments_out)
+pub returns : goal.returns
+returns c = search (rules, arguments_in)

@@ -1,23 +1,20 @@
-use Rattle.std.proofs.Common.{refl, arith}
-use Rattle.late_lines.specs.Walks.{walked_none, walked_more, walked_found, walked_all}
-use Rattle.late.specs.Steps.{found_bad}
-use Rattle.late.specs.Walks.{tasks_of, proc_of_lem, tasks_late_lem, procs_late_lem, late_found}
+use Rattle.std.proofs.Common.{◌<◌, get_or-take, arith}
+use Rattle.late_lines.specs.Walks.{walked_more, walked_found, walked_all}
+use Rattle.late.specs.Walks.{tasks_of, proc_of_lem, tasks_late_lem, procs_late_lem, failed_late, late_none}
 use Rattle.late.proofs.find.Goals as goal
 
-pub returns-then-a-ne0 : goal.returns-then-a-ne0
-returns-then-a-ne0 c = late_found _ (tasks_late_lem _ (tasks_of c.args.t c.terms_of-c.ensures c.tasks-a.ensures.found) c.if-a-ne0.true) (found_bad _ c.if-a-ne0.true c.fault.ensures)
+pub returns-in_err-behind : goal.returns-in_err-behind
+returns-in_err-behind c = failed_late c.args.t _ (tasks_late_lem c.args.t (tasks_of c.args.t c.terms_of-terms.ensures c.in_err-behind.ensures.found)) c.from_residual.ensures.1
 
-pub loop-p-init : goal.loop-p-init
-loop-p-init c = (omega arith, (omega (arith, c.tasks-a.ensures.near), walked_none _ _ _))
+pub returns-in_err-line : goal.returns-in_err-line
+returns-in_err-line c =
+    let l : c.loop-q.q-index < c.from-3.result = omega arith in
+    failed_late c.args.t _ (procs_late_lem c.args.t (tasks_of c.args.t c.terms_of-terms.ensures c.in_ok-behind.ensures.found) (rw (c.from.ensures, c.from-2.ensures) at (walked_found _ _ _ _ _ c.loop-q.invariant.1 (omega arith) (proc_of_lem c.args.t c.loop-q.q-index _ c.terms_of-terms.ensures (rw get_or-take at c.in_err-line.ensures.found))))) c.from_residual-in_err-line.ensures.1
 
-pub proc_at-b-requires : goal.proc_at-b-requires
-proc_at-b-requires c = (c.requires.nodes _ c.loop-p-test.true, omega arith)
-
-pub returns-then-b-ne0 : goal.returns-then-b-ne0
-returns-then-b-ne0 c = late_found _ (procs_late_lem _ (tasks_of c.args.t c.terms_of-c.ensures c.tasks-a.ensures.found) c.if-a-ne0.false (walked_found _ _ _ _ _ c.loop-p.invariant.1.1 c.loop-p-test.true (proc_of_lem c.args.t c.loop-p.p _ c.terms_of-c.ensures c.proc_at-b.ensures.found) c.if-b-ne0.true)) (found_bad _ c.if-b-ne0.true c.fault-then-b-ne0.ensures)
-
-pub loop-p-preserved : goal.loop-p-preserved
-loop-p-preserved c = (omega (arith, c.requires.procs), (omega (arith, c.proc_at-b.ensures.near), walked_more _ _ _ _ _ c.loop-p.invariant.1.1 c.loop-p-test.true (proc_of_lem c.args.t c.loop-p.p _ c.terms_of-c.ensures c.proc_at-b.ensures.found) c.if-b-ne0.false))
+pub loop-q-preserved : goal.loop-q-preserved
+loop-q-preserved c =
+    let l : c.loop-q.q-index < c.from-3.result = omega arith in
+    (omega (arith, c.in_ok-line.ensures.near), walked_more _ _ _ _ _ c.loop-q.invariant.1 (omega arith) (proc_of_lem c.args.t c.loop-q.q-index _ c.terms_of-terms.ensures (rw get_or-take at c.in_ok-line.ensures.found)))
 
 pub returns : goal.returns
-returns c = late_found _ (procs_late_lem _ (tasks_of c.args.t c.terms_of-c.ensures c.tasks-a.ensures.found) c.if-a-ne0.false (walked_all _ _ _ _ _ c.loop-p.invariant.1.1 c.loop-p-test.false)) refl
+returns c = late_none c.args.t (procs_late_lem c.args.t (tasks_of c.args.t c.terms_of-terms.ensures c.in_ok-behind.ensures.found) (rw (c.from.ensures, c.from-2.ensures) at (walked_all _ _ _ _ _ c.loop-q.invariant.1 (omega arith))))

@@ -1,5 +1,8 @@
-use Rattle.late_lines.specs.Walks.{node_step}
+use Rattle.late_lines.specs.Walks.{node_absent, node_step}
 use Rattle.late_lines.proofs.node_at.Goals as goal
 
-pub returns : goal.returns
-returns c = record { found = node_step _ _ _ _ c.node-r.ensures c.lines.ensures.held c.step.ensures.stepped; near = c.step.ensures.near }
+pub returns-then-absent-clause-found : goal.returns-then-absent-clause-found
+returns-then-absent-clause-found c = node_absent _ _ _ _ c.if-absent.ensures
+
+pub returns-clause-found : goal.returns-clause-found
+returns-clause-found c = node_step _ _ _ _ c.if-absent.ensures c.node.ensures c.step.ensures

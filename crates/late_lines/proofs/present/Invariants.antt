@@ -1,10 +1,7 @@
-use Rattle.std.proofs.Common.{◌≤◌, ◌-◌, ◌≡◌, not}
+use Rattle.std.proofs.Common.{◌≡◌, not}
 use Rattle.table.specs.Mask.{mask_of}
 use Rattle.table.specs.Table.{node_in, is_absent}
 use Rattle.late_lines.proofs.present.Given as goal
 
 abbrev pub invariant-loop-n : goal.invariant-loop-n
-invariant-loop-n l = (l.n ≤ 32) × (l.m ≡ mask_of l.n (λ i. not (is_absent (node_in l.q i))))
-
-abbrev pub decreases-loop-n : goal.decreases-loop-n
-decreases-loop-n l = 32 - l.n
+invariant-loop-n l = l.m ≡ mask_of l.n (λ i. not (is_absent (node_in l.fn.q i)))

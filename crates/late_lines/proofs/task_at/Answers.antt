@@ -1,6 +1,5 @@
-use Rattle.std.proofs.Common.{rules}
 use Rattle.late_lines.specs.Walks.{task_step}
 use Rattle.late_lines.proofs.task_at.Goals as goal
 
-pub returns : goal.returns
-returns c = record { found = search (rules, task_step); near = c.step.ensures.near }
+pub returns-clause-found : goal.returns-clause-found
+returns-clause-found c = task_step c.args.c c.args.x _ c.callee_at-p.ensures c.drops.ensures c.step.ensures

@@ -1,18 +1,24 @@
-use Rattle.std.proofs.Common.{arith}
-use Rattle.late_lines.specs.Walks.{walked_none, walked_more, walked_found, walked_all}
+use Rattle.std.proofs.Common.{◌≡◌, ◌<◌, length, take, get_or-take, length-take-le, arith, rules}
+use Rattle.late_lines.specs.Walks.{failed, walked_more, walked_found, walked_all}
+use Rattle.late_lines.specs.Steps.{values_long}
 use Rattle.late_lines.proofs.tasks.Goals as goal
 
-pub loop-i-init : goal.loop-i-init
-loop-i-init c = (omega arith, (omega arith, walked_none _ _ _))
+pub returns-in_err-line-clause-found : goal.returns-in_err-line-clause-found
+returns-in_err-line-clause-found c =
+    let k : length c.args.task ≡ 4 = search (rules, values_long) in
+    let e : length (take c.from.result c.args.task) ≡ c.from.result = length-take-le _ _ (omega arith) in
+    let l : c.loop-x.x-index < c.from.result = omega arith in
+    failed (walked_found _ _ _ _ _ c.loop-x.invariant.1 (omega arith) (rw get_or-take at c.in_err-line.ensures.found)) c.from_residual.ensures.1
 
-pub task_at-a-requires : goal.task_at-a-requires
-task_at-a-requires c = omega arith
+pub loop-x-preserved : goal.loop-x-preserved
+loop-x-preserved c =
+    let k : length c.args.task ≡ 4 = search (rules, values_long) in
+    let e : length (take c.from.result c.args.task) ≡ c.from.result = length-take-le _ _ (omega arith) in
+    let l : c.loop-x.x-index < c.from.result = omega arith in
+    (omega (arith, c.in_ok-line.ensures.near), walked_more _ _ _ _ _ c.loop-x.invariant.1 (omega arith) (rw get_or-take at c.in_ok-line.ensures.found))
 
-pub returns-then-a-ne0 : goal.returns-then-a-ne0
-returns-then-a-ne0 c = record { found = walked_found _ _ _ _ _ c.loop-i.invariant.1.1 (omega (arith, c.loop-i-test.true)) c.task_at-a.ensures.found c.if-a-ne0.true; near = omega (arith, c.task_at-a.ensures.near) }
-
-pub loop-i-preserved : goal.loop-i-preserved
-loop-i-preserved c = (omega arith, (omega (arith, c.task_at-a.ensures.near), walked_more _ _ _ _ _ c.loop-i.invariant.1.1 (omega (arith, c.loop-i-test.true)) c.task_at-a.ensures.found c.if-a-ne0.false))
-
-pub returns : goal.returns
-returns c = record { found = walked_all _ _ _ _ _ c.loop-i.invariant.1.1 (omega (arith, c.loop-i-test.false)); near = omega arith }
+pub returns-clause-found : goal.returns-clause-found
+returns-clause-found c =
+    let k : length c.args.task ≡ 4 = search (rules, values_long) in
+    let e : length (take c.from.result c.args.task) ≡ c.from.result = length-take-le _ _ (omega arith) in
+    walked_all _ _ _ _ _ c.loop-x.invariant.1 (omega arith)

@@ -1,9 +1,7 @@
-use Rattle.std.proofs.Common.{rules}
-use Rattle.late_nodes.specs.Steps.{arc_good, arc_bad}
+use Rattle.std.proofs.Common.{sym, arith}
+use Rattle.late_nodes.specs.Steps.{unclosed_is}
+use Rattle.late_nodes.specs.MaskLaws.{in_is}
 use Rattle.late_nodes.proofs.arc.Goals as goal
 
-pub returns-then-to-present : goal.returns-then-to-present
-returns-then-to-present c = search (rules, arc_good)
-
-pub returns-then-closed : goal.returns-then-closed
-returns-then-closed c = search (rules, arc_bad)
+pub returns : goal.returns
+returns c = unclosed_is _ _ (sym (in_is c.args.present c.args.to (omega arith))) c.unclosed.ensures

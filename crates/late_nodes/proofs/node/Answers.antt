@@ -1,56 +1,44 @@
-use Rattle.std.proofs.Common.{refl}
+use Rattle.std.proofs.Common.{refl, inl, inr}
 use Rattle.table.specs.Table.{parts}
+use Rattle.checks.specs.Judging.{judged_first, judged_then}
 use Rattle.late_nodes.specs.Terms.{node_fault_by}
-use Rattle.late_nodes.specs.Steps.{node_is, test_is}
+use Rattle.late_nodes.specs.Steps.{node_is}
 use Rattle.late_nodes.proofs.node.Goals as goal
 
 pub returns-in-Absent : goal.returns-in-Absent
 unfolding node_fault_by parts
-returns-in-Absent c = node_is _ _ c.in-Absent.is refl
+returns-in-Absent c = elim c.in-Absent.is [ inl e ↦ node_is _ _ e refl | inr e ↦ node_is _ _ e refl ]
 
 pub returns-in-Start : goal.returns-in-Start
 unfolding node_fault_by parts
-returns-in-Start c = node_is _ _ c.in-Start.is c.arc.ensures
+returns-in-Start c =
+    let h = c.arc-in-Start.ensures in
+    elim c.in-Start.is [
+      | inl e ↦ node_is _ _ e h
+      | inr k ↦ elim k [
+        | inl q ↦ node_is _ _ q.4 h
+        | inr k ↦ elim k [
+          | inl q ↦ node_is _ _ q.1 h
+          | inr k ↦ elim k [
+            | inl q ↦ node_is _ _ q.1 h
+            | inr k ↦ elim k [ inl q ↦ node_is _ _ q.1 h | inr k ↦ elim k [ inl q ↦ node_is _ _ q.1 h | inr q ↦ node_is _ _ q.1 h ] ]
+          ]
+        ]
+      ]
+    ]
 
-pub returns-in-Set : goal.returns-in-Set
+pub returns-in-Send : goal.returns-in-Send
 unfolding node_fault_by parts
-returns-in-Set c = node_is _ _ c.in-Set.is c.arc-in-Set.ensures
-
-pub returns-in-Test : goal.returns-in-Test
-returns-in-Test c = test_is _ _ _ _ c.in-Test.is c.arc-y.ensures c.arc-in-Test.ensures c.first.ensures
-
-pub returns-in-Read : goal.returns-in-Read
-unfolding node_fault_by parts
-returns-in-Read c = node_is _ _ c.in-Read.is c.arc-in-Read.ensures
+returns-in-Send c = elim c.in-Send.is [ inl e ↦ node_is _ _ e c.transfer.ensures | inr e ↦ node_is _ _ e c.transfer.ensures ]
 
 pub returns-in-Call : goal.returns-in-Call
 unfolding node_fault_by parts
 returns-in-Call c = node_is _ _ c.in-Call.is c.call.ensures
 
-pub returns-in-Wait : goal.returns-in-Wait
+pub returns-in_err-arc-in-Test : goal.returns-in_err-arc-in-Test
 unfolding node_fault_by parts
-returns-in-Wait c = node_is _ _ c.in-Wait.is c.arc-in-Wait.ensures
+returns-in_err-arc-in-Test c = node_is _ _ c.in-Test.is (judged_first _ _ c.in_err-arc-in-Test.ensures c.from_residual.ensures.1)
 
-pub returns-in-Signal : goal.returns-in-Signal
+pub returns-in_ok-arc-in-Test : goal.returns-in_ok-arc-in-Test
 unfolding node_fault_by parts
-returns-in-Signal c = node_is _ _ c.in-Signal.is c.arc-in-Signal.ensures
-
-pub returns-in-Send : goal.returns-in-Send
-unfolding node_fault_by parts
-returns-in-Send c = node_is _ _ c.in-Send.is c.transfer.ensures
-
-pub returns-in-Recv : goal.returns-in-Recv
-unfolding node_fault_by parts
-returns-in-Recv c = node_is _ _ c.in-Recv.is c.transfer-in-Recv.ensures
-
-pub returns-in-Assert : goal.returns-in-Assert
-unfolding node_fault_by parts
-returns-in-Assert c = node_is _ _ c.in-Assert.is c.arc-in-Assert.ensures
-
-pub returns-in-Out : goal.returns-in-Out
-unfolding node_fault_by parts
-returns-in-Out c = node_is _ _ c.in-Out.is c.arc-in-Out.ensures
-
-pub returns-in-Return : goal.returns-in-Return
-unfolding node_fault_by parts
-returns-in-Return c = node_is _ _ c.in-Return.is refl
+returns-in_ok-arc-in-Test c = node_is _ _ c.in-Test.is (judged_then _ _ c.in_ok-arc-in-Test.ensures c.arc-in-Test.ensures)

@@ -1,8 +1,7 @@
-use Rattle.late_nodes.specs.Steps.{removals_good, removals_bad}
+use Rattle.std.proofs.Common.{sym}
+use Rattle.late_nodes.specs.Steps.{unclosed_is}
+use Rattle.late_nodes.specs.MaskLaws.{removed_right}
 use Rattle.late_nodes.proofs.removals.Goals as goal
 
-pub returns-then-removed-low : goal.returns-then-removed-low
-returns-then-removed-low c = removals_good c.args.closed c.args.xs c.args.drop c.if-closed.true c.removed.ensures c.low.ensures c.if-removed-low.true
-
-pub returns-then-closed : goal.returns-then-closed
-returns-then-closed c = removals_bad c.args.closed c.args.xs c.args.drop c.if-closed.true c.removed.ensures c.low.ensures c.if-removed-low.false
+pub returns : goal.returns
+returns c = unclosed_is _ _ (sym (removed_right c.args.xs c.args.drop c.removed.ensures c.low.ensures)) c.unclosed.ensures
