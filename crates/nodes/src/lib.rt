@@ -40,8 +40,8 @@ fn targets_end(
     requires { (at ≤ length s.now) × (nodes ≤ 32) }
     ensures { LineAt (last_line (32 ∷ a ∷ b ∷ 61 ∷ []) one nodes) (last_set (32 ∷ a ∷ b ∷ 61 ∷ []) one nodes) s.now at result }
 {
-    let (to, p) = fields::ascending_word(s, at, 32, a, b, 61, b"", one, 1, nodes)?;
-    let e = fields::feed(s, p)?;
+    let (to, p) = lists::ascending_word(s, at, 32, a, b, 61, b"", one, 1, nodes)?;
+    let e = scan::feed(s, p)?;
     Ok((to, e))
 }
 
@@ -59,9 +59,9 @@ fn set_operands(s: &[u8], at: usize, c: Scope, var: u8, op: Op) -> Result<(Node,
     requires { (at ≤ length s.now) × Fits c }
     ensures { LineAt (set_line (scope_in c)) (set_node (scope_in c) var op) s.now at result }
 {
-    let a_field = fields::operand_field(s, at, 97, c.vars);
+    let a_field = operands::operand_field(s, at, 97, c.vars);
     let (_, p) = a_field?;
-    let b_field = fields::operand_field(s, p, 98, c.vars);
+    let b_field = operands::operand_field(s, p, 98, c.vars);
     let (_, q) = b_field?;
     let (to, e) = targets_end(s, q, 116, 111, !c.closed, c.nodes)?;
     let (a, _) = a_field.unwrap();
@@ -73,8 +73,8 @@ fn set_node(s: &[u8], at: usize, c: Scope) -> Result<(Node, usize), Fault>
     requires { (at ≤ length s.now) × Fits c }
     ensures { BodyAt (scope_in c) set_kind s.now at result }
 {
-    let (var, a) = fields::number_word(s, at, 32, 118, 97, 114, 0, c.vars, Fault::Reference)?;
-    let (op, b) = fields::operation_field(s, a, false)?;
+    let (var, a) = numbers::number_word(s, at, 32, 118, 97, 114, 0, c.vars, Fault::Reference)?;
+    let (op, b) = words::operation_field(s, a, false)?;
     set_operands(s, b, c, var, op)
 }
 
@@ -83,11 +83,11 @@ fn test_operands(s: &[u8], at: usize, c: Scope, op: Op) -> Result<(Node, usize),
     requires { (at ≤ length s.now) × Fits c }
     ensures { LineAt (test_line (scope_in c)) (test_node (scope_in c) op) s.now at result }
 {
-    let a_field = fields::operand_field(s, at, 97, c.vars);
+    let a_field = operands::operand_field(s, at, 97, c.vars);
     let (_, p) = a_field?;
-    let b_field = fields::operand_field(s, p, 98, c.vars);
+    let b_field = operands::operand_field(s, p, 98, c.vars);
     let (_, q) = b_field?;
-    let (yes, t) = fields::ascending_word(s, q, 32, 121, 101, 115, b"=", !c.closed, 1, c.nodes)?;
+    let (yes, t) = lists::ascending_word(s, q, 32, 121, 101, 115, b"=", !c.closed, 1, c.nodes)?;
     let (no, e) = targets_end(s, t, 110, 111, !c.closed, c.nodes)?;
     let (a, _) = a_field.unwrap();
     let (b, _) = b_field.unwrap();
@@ -98,7 +98,7 @@ fn test_node(s: &[u8], at: usize, c: Scope) -> Result<(Node, usize), Fault>
     requires { (at ≤ length s.now) × Fits c }
     ensures { BodyAt (scope_in c) test s.now at result }
 {
-    let (op, p) = fields::operation_field(s, at, true)?;
+    let (op, p) = words::operation_field(s, at, true)?;
     test_operands(s, p, c, op)
 }
 
@@ -106,7 +106,7 @@ fn read_node(s: &[u8], at: usize, c: Scope) -> Result<(Node, usize), Fault>
     requires { (at ≤ length s.now) × Fits c }
     ensures { BodyAt (scope_in c) read s.now at result }
 {
-    let (var, a) = fields::number_word(s, at, 32, 118, 97, 114, 0, c.vars, Fault::Reference)?;
+    let (var, a) = numbers::number_word(s, at, 32, 118, 97, 114, 0, c.vars, Fault::Reference)?;
     let (to, e) = targets_end(s, a, 116, 111, !c.closed, c.nodes)?;
     Ok((Node::Read { var, to }, e))
 }
@@ -115,8 +115,8 @@ fn call_node(s: &[u8], at: usize, c: Scope) -> Result<(Node, usize), Fault>
     requires { (at ≤ length s.now) × Fits c }
     ensures { BodyAt (scope_in c) call s.now at result }
 {
-    let (callee, a) = fields::number_field(s, at, b" proc=", 0, c.procs, Fault::Reference)?;
-    let (args, b) = fields::arguments_field(s, a, c.closed, c.vars)?;
+    let (callee, a) = numbers::number_field(s, at, b" proc=", 0, c.procs, Fault::Reference)?;
+    let (args, b) = lists::arguments_field(s, a, c.closed, c.vars)?;
     let (to, e) = targets_end(s, b, 116, 111, !c.closed, c.nodes)?;
     Ok((Node::Call { callee, args, to }, e))
 }
@@ -125,7 +125,7 @@ fn wait_node(s: &[u8], at: usize, c: Scope) -> Result<(Node, usize), Fault>
     requires { (at ≤ length s.now) × Fits c }
     ensures { BodyAt (scope_in c) wait s.now at result }
 {
-    let (sem, a) = fields::number_field(s, at, b" sem=", 0, c.sems, Fault::Reference)?;
+    let (sem, a) = numbers::number_field(s, at, b" sem=", 0, c.sems, Fault::Reference)?;
     let (to, e) = targets_end(s, a, 116, 111, !c.closed, c.nodes)?;
     Ok((Node::Wait { sem, to }, e))
 }
@@ -134,7 +134,7 @@ fn signal_node(s: &[u8], at: usize, c: Scope) -> Result<(Node, usize), Fault>
     requires { (at ≤ length s.now) × Fits c }
     ensures { BodyAt (scope_in c) signal s.now at result }
 {
-    let (sem, a) = fields::number_field(s, at, b" sem=", 0, c.sems, Fault::Reference)?;
+    let (sem, a) = numbers::number_field(s, at, b" sem=", 0, c.sems, Fault::Reference)?;
     let (to, e) = targets_end(s, a, 116, 111, !c.closed, c.nodes)?;
     Ok((Node::Signal { sem, to }, e))
 }
@@ -143,8 +143,8 @@ fn send_node(s: &[u8], at: usize, c: Scope) -> Result<(Node, usize), Fault>
     requires { (at ≤ length s.now) × Fits c }
     ensures { BodyAt (scope_in c) send s.now at result }
 {
-    let (queue, a) = fields::number_field(s, at, b" queue=", 0, c.queues, Fault::Reference)?;
-    let (var, b) = fields::variable_field(s, a, c.closed, c.vars)?;
+    let (queue, a) = numbers::number_field(s, at, b" queue=", 0, c.queues, Fault::Reference)?;
+    let (var, b) = operands::variable_field(s, a, c.closed, c.vars)?;
     let (to, e) = targets_end(s, b, 116, 111, !c.closed, c.nodes)?;
     Ok((Node::Send { queue, var, to }, e))
 }
@@ -153,8 +153,8 @@ fn recv_node(s: &[u8], at: usize, c: Scope) -> Result<(Node, usize), Fault>
     requires { (at ≤ length s.now) × Fits c }
     ensures { BodyAt (scope_in c) recv s.now at result }
 {
-    let (queue, a) = fields::number_field(s, at, b" queue=", 0, c.queues, Fault::Reference)?;
-    let (var, b) = fields::variable_field(s, a, c.closed, c.vars)?;
+    let (queue, a) = numbers::number_field(s, at, b" queue=", 0, c.queues, Fault::Reference)?;
+    let (var, b) = operands::variable_field(s, a, c.closed, c.vars)?;
     let (to, e) = targets_end(s, b, 116, 111, !c.closed, c.nodes)?;
     Ok((Node::Recv { queue, var, to }, e))
 }
@@ -163,7 +163,7 @@ fn assert_node(s: &[u8], at: usize, c: Scope) -> Result<(Node, usize), Fault>
     requires { (at ≤ length s.now) × Fits c }
     ensures { BodyAt (scope_in c) assert s.now at result }
 {
-    let (var, a) = fields::variable_field(s, at, c.closed, c.vars)?;
+    let (var, a) = operands::variable_field(s, at, c.closed, c.vars)?;
     let (to, e) = targets_end(s, a, 116, 111, !c.closed, c.nodes)?;
     Ok((Node::Assert { var, to }, e))
 }
@@ -172,7 +172,7 @@ fn out_node(s: &[u8], at: usize, c: Scope) -> Result<(Node, usize), Fault>
     requires { (at ≤ length s.now) × Fits c }
     ensures { BodyAt (scope_in c) out s.now at result }
 {
-    let (var, a) = fields::variable_field(s, at, c.closed, c.vars)?;
+    let (var, a) = operands::variable_field(s, at, c.closed, c.vars)?;
     let (to, e) = targets_end(s, a, 116, 111, !c.closed, c.nodes)?;
     Ok((Node::Out { var, to }, e))
 }
@@ -181,7 +181,7 @@ fn return_node(s: &[u8], at: usize, c: Scope) -> Result<(Node, usize), Fault>
     requires { at ≤ length s.now }
     ensures { BodyAt (scope_in c) return s.now at result }
 {
-    let e = fields::feed(s, at)?;
+    let e = scan::feed(s, at)?;
     Ok((Node::Return, e))
 }
 
@@ -212,11 +212,11 @@ pub fn node_line(s: &[u8], at: usize, line: usize, c: Scope, lo: u64, below: u64
     ensures { NodeAt (scope_in c) lo below s.now at line result }
 {
     // The node goes into the line as it is read, with no copy on the way: so the faults are not handed on by `?`.
-    let (j, p) = match fields::number_word(s, at, 110, 111, 100, 101, lo, below, Fault::Index) {
+    let (j, p) = match numbers::number_word(s, at, 110, 111, 100, 101, lo, below, Fault::Index) {
         Ok(number) => number,
         Err(f) => return Line::Refused(f, line),
     };
-    let (k, q) = match fields::kind_field(s, p, c.closed, j) {
+    let (k, q) = match words::kind_field(s, p, c.closed, j) {
         Ok(kind) => kind,
         Err(f) => return Line::Refused(f, line),
     };

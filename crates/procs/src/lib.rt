@@ -14,6 +14,7 @@ use nodes::{Line, Scope};
 use records::Counts;
 use rows::{Reached, Refusal};
 use table::{Node, Proc, Slot};
+use text::Fault;
 
 // A procedure all 0.
 pub fn empty_proc() -> Proc
@@ -47,9 +48,9 @@ fn node_stands(s: &[u8], at: usize) -> bool
     ensures { result ≡ node_stands s.now at }
 {
     match scan::after(s, at, b"node=") {
-        scan::Found::At(_) => true,
-        scan::Found::Differs => false,
-        scan::Found::Broken => at < s.len(),
+        Ok(_) => true,
+        Err(Fault::Ended) => at < s.len(),
+        Err(_) => false,
     }
 }
 
@@ -83,7 +84,13 @@ fn below(closed: bool, next: u64, n: u64) -> u64
 
 // In open form n lines whose numbers count up from 0; in closed form the first line's number is 0, and numbers ascend strictly.
 // The slots are filled in their place, and `next_node` is called here alone, so that the compiler writes the line reader out in this loop.
-fn node_rows(s: &[u8], at: usize, line: usize, c: Scope, slots: &mut [Slot; 32]) -> Result<Reached, Refusal>
+fn node_rows(
+    s: &[u8],
+    at: usize,
+    line: usize,
+    c: Scope,
+    slots: &mut [Slot; 32],
+) -> Result<Reached, Refusal>
     requires { (at ≤ length s.now) × Fits c × (0 < c.nodes) × (line < 1000) × (slots.old ≡ no_slots) }
     ensures { SlotsAt (scope_in c) c.closed s.now at line slots.new result }
 {
@@ -119,7 +126,10 @@ pub fn proc_row(
     requires { (at ≤ length s.now) × Counted counts × (i < 8) × (line < 999) }
     ensures { LinesAt (row_in closed counts i) 33 s.now at line result }
 {
-    let (head, e) = line_reader::next_proc(s, at, closed, i).map_err(|fault| Refusal { fault, line })?;
+    let (head, e) = line_reader::next_proc(s, at, closed, i).map_err(|fault| Refusal {
+        fault,
+        line,
+    })?;
     let c = Scope {
         closed,
         procs: counts.procs as u64,

@@ -17,7 +17,8 @@ use Rattle.table.specs.declared.Queue.{Queue}
 use Rattle.records.specs.declared.ProcHead.{ProcHead}
 use Rattle.records.specs.Answer.{QueueAt, SizesAt, ProcAt, head_of}
 use Rattle.numbers.specs.ValueLaws.{mapped_took}
-use Rattle.fields.specs.Interim.{NumberAt, SetAt}
+use Rattle.numbers.specs.Answer.{NumberAt}
+use Rattle.lists.specs.Sets.{SetAt}
 use Rattle.fields.specs.Answer.{Answer}
 use Rattle.fields.specs.FieldLaws.{number_next}
 

@@ -34,9 +34,9 @@ pub fn head_line(s: &[u8], at: usize) -> Result<((u8, bool), usize), Fault>
     requires { at ≤ length s.now }
     ensures { LineAt head_line form_of s.now at result }
 {
-    let (n, a) = fields::number_field(s, at, b"trap=", 1, 2, Fault::Range)?;
-    let (closed, b) = fields::choice_field(s, a, b" form=", b"open", b"closed")?;
-    let e = fields::feed(s, b)?;
+    let (n, a) = numbers::number_field(s, at, b"trap=", 1, 2, Fault::Range)?;
+    let (closed, b) = words::choice_field(s, a, b" form=", b"open", b"closed")?;
+    let e = scan::feed(s, b)?;
     Ok(((n, closed), e))
 }
 
@@ -45,9 +45,9 @@ fn last_counts(s: &[u8], at: usize, tasks: u8, procs: u8) -> Result<(Counts, usi
     requires { (at ≤ length s.now) × (tasks < 5) × (procs < 9) }
     ensures { CountsAt last_counts (counted tasks procs) s.now at result }
 {
-    let (sems, a) = fields::number_field(s, at, b" sems=", 0, 9, Fault::Range)?;
-    let (queues, b) = fields::number_field(s, a, b" queues=", 0, 9, Fault::Range)?;
-    let e = fields::feed(s, b)?;
+    let (sems, a) = numbers::number_field(s, at, b" sems=", 0, 9, Fault::Range)?;
+    let (queues, b) = numbers::number_field(s, a, b" queues=", 0, 9, Fault::Range)?;
+    let e = scan::feed(s, b)?;
     let counts = Counts {
         tasks,
         procs,
@@ -62,8 +62,8 @@ pub fn counts_line(s: &[u8], at: usize) -> Result<(Counts, usize), Fault>
     requires { at ≤ length s.now }
     ensures { CountsAt counts_line counts_of s.now at result }
 {
-    let (tasks, a) = fields::number_field(s, at, b"tasks=", 1, 5, Fault::Range)?;
-    let (procs, b) = fields::number_field(s, a, b" procs=", 1, 9, Fault::Range)?;
+    let (tasks, a) = numbers::number_field(s, at, b"tasks=", 1, 5, Fault::Range)?;
+    let (procs, b) = numbers::number_field(s, a, b" procs=", 1, 9, Fault::Range)?;
     last_counts(s, b, tasks, procs)
 }
 
@@ -72,9 +72,9 @@ pub fn task_line(s: &[u8], at: usize, i: u64, procs: u64) -> Result<(table::Task
     requires { (at ≤ length s.now) × (i < 4) × (procs ≤ 8) }
     ensures { LineAt (task_line procs i) (task_of procs i) s.now at result }
 {
-    let (_, a) = fields::number_field(s, at, b"task=", i, i + 1, Fault::Index)?;
-    let (p, b) = fields::number_field(s, a, b" top=", 0, procs, Fault::Reference)?;
-    let e = fields::feed(s, b)?;
+    let (_, a) = numbers::number_field(s, at, b"task=", i, i + 1, Fault::Index)?;
+    let (p, b) = numbers::number_field(s, a, b" top=", 0, procs, Fault::Reference)?;
+    let e = scan::feed(s, b)?;
     Ok((table::Task { top: p }, e))
 }
 
@@ -83,9 +83,9 @@ pub fn sem_line(s: &[u8], at: usize, i: u64) -> Result<(table::Sem, usize), Faul
     requires { (at ≤ length s.now) × (i < 8) }
     ensures { LineAt (sem_line i) (sem_of i) s.now at result }
 {
-    let (_, a) = fields::number_field(s, at, b"sem=", i, i + 1, Fault::Index)?;
-    let (n, b) = fields::number_field(s, a, b" count=", 0, 256, Fault::Range)?;
-    let e = fields::feed(s, b)?;
+    let (_, a) = numbers::number_field(s, at, b"sem=", i, i + 1, Fault::Index)?;
+    let (n, b) = numbers::number_field(s, a, b" count=", 0, 256, Fault::Range)?;
+    let e = scan::feed(s, b)?;
     Ok((table::Sem { count: n }, e))
 }
 
@@ -93,7 +93,7 @@ fn open_queue(s: &[u8], at: usize, cap: u8) -> Result<(table::Queue, usize), Fau
     requires { at ≤ length s.now }
     ensures { LineAt (blank_field false) (capped false cap) s.now at result }
 {
-    let e = fields::feed(s, at)?;
+    let e = scan::feed(s, at)?;
     Ok((table::Queue { cap, blank: false }, e))
 }
 
@@ -102,8 +102,8 @@ fn closed_queue(s: &[u8], at: usize, cap: u8) -> Result<(table::Queue, usize), F
     requires { at ≤ length s.now }
     ensures { LineAt (blank_field true) (capped true cap) s.now at result }
 {
-    let (blank, a) = fields::choice_field(s, at, b" blank=", b"no", b"yes")?;
-    let e = fields::feed(s, a)?;
+    let (blank, a) = words::choice_field(s, at, b" blank=", b"no", b"yes")?;
+    let e = scan::feed(s, a)?;
     Ok((table::Queue { cap, blank }, e))
 }
 
@@ -112,8 +112,8 @@ pub fn queue_line(s: &[u8], at: usize, closed: bool, i: u64) -> Result<(table::Q
     requires { (at ≤ length s.now) × (i < 8) }
     ensures { QueueAt closed i s.now at result }
 {
-    let (_, a) = fields::number_field(s, at, b"queue=", i, i + 1, Fault::Index)?;
-    let (cap, b) = fields::number_field(s, a, b" cap=", 1, 9, Fault::Range)?;
+    let (_, a) = numbers::number_field(s, at, b"queue=", i, i + 1, Fault::Index)?;
+    let (cap, b) = numbers::number_field(s, a, b" cap=", 1, 9, Fault::Range)?;
     if closed {
         return closed_queue(s, b, cap);
     }
@@ -132,7 +132,7 @@ fn open_proc(
     requires { (at ≤ length s.now) × Sized params vars nodes }
     ensures { DropAt false params vars nodes s.now at result }
 {
-    let e = fields::feed(s, at)?;
+    let e = scan::feed(s, at)?;
     let head = ProcHead {
         params,
         vars,
@@ -153,8 +153,8 @@ fn closed_proc(
     requires { (at ≤ length s.now) × Sized params vars nodes }
     ensures { DropAt true params vars nodes s.now at result }
 {
-    let (drop, a) = fields::ascending_field(s, at, b" drop=", false, 0, params as u64)?;
-    let e = fields::feed(s, a)?;
+    let (drop, a) = lists::ascending_field(s, at, b" drop=", false, 0, params as u64)?;
+    let e = scan::feed(s, a)?;
     let head = ProcHead {
         params,
         vars,
@@ -169,8 +169,8 @@ fn proc_sizes(s: &[u8], at: usize, closed: bool, params: u8) -> Result<(ProcHead
     requires { (at ≤ length s.now) × (params < 5) }
     ensures { SizesAt closed params s.now at result }
 {
-    let (vars, a) = fields::number_field(s, at, b" vars=", params as u64, 17, Fault::Range)?;
-    let (nodes, b) = fields::number_field(s, a, b" nodes=", 2, 33, Fault::Range)?;
+    let (vars, a) = numbers::number_field(s, at, b" vars=", params as u64, 17, Fault::Range)?;
+    let (nodes, b) = numbers::number_field(s, a, b" nodes=", 2, 33, Fault::Range)?;
     if closed {
         return closed_proc(s, b, params, vars, nodes);
     }
@@ -182,7 +182,7 @@ pub fn proc_line(s: &[u8], at: usize, closed: bool, i: u64) -> Result<(ProcHead,
     requires { (at ≤ length s.now) × (i < 8) }
     ensures { ProcAt closed i s.now at result }
 {
-    let (_, a) = fields::number_field(s, at, b"proc=", i, i + 1, Fault::Index)?;
-    let (params, b) = fields::number_field(s, a, b" params=", 0, 5, Fault::Range)?;
+    let (_, a) = numbers::number_field(s, at, b"proc=", i, i + 1, Fault::Index)?;
+    let (params, b) = numbers::number_field(s, a, b" params=", 0, 5, Fault::Range)?;
     proc_sizes(s, b, closed, params)
 }

@@ -51,12 +51,25 @@ fn rows<T: Copy, const N: usize, F: Fn(usize, usize) -> Result<(T, usize), Fault
     Ok((places, Reached { at: p, line: l }))
 }
 
-pub fn task_rows(s: &[u8], at: usize, line: usize, n: usize, procs: u64) -> Result<([Task; 4], Reached), Refusal>
+pub fn task_rows(
+    s: &[u8],
+    at: usize,
+    line: usize,
+    n: usize,
+    procs: u64,
+) -> Result<([Task; 4], Reached), Refusal>
     requires { (at ≤ length s.now) × (n ≤ 4) × (procs ≤ 8) × (line ≤ 1000) }
     ensures { LinesAt (rows (task_row procs) n 0 (replicate 4 no_task)) 4 s.now at line result }
 {
     let none = Task { top: 0 };
-    rows(s, at, line, n, none, |p, i| line_reader::next_task(s, p, i as u64, procs))
+    rows(
+        s,
+        at,
+        line,
+        n,
+        none,
+        |p, i| line_reader::next_task(s, p, i as u64, procs),
+    )
 }
 
 pub fn sem_rows(s: &[u8], at: usize, line: usize, n: usize) -> Result<([Sem; 8], Reached), Refusal>
@@ -64,10 +77,23 @@ pub fn sem_rows(s: &[u8], at: usize, line: usize, n: usize) -> Result<([Sem; 8],
     ensures { LinesAt (rows sem_row n 0 (replicate 8 no_sem)) 8 s.now at line result }
 {
     let none = Sem { count: 0 };
-    rows(s, at, line, n, none, |p, i| line_reader::next_sem(s, p, i as u64))
+    rows(
+        s,
+        at,
+        line,
+        n,
+        none,
+        |p, i| line_reader::next_sem(s, p, i as u64),
+    )
 }
 
-pub fn queue_rows(s: &[u8], at: usize, line: usize, n: usize, closed: bool) -> Result<([Queue; 8], Reached), Refusal>
+pub fn queue_rows(
+    s: &[u8],
+    at: usize,
+    line: usize,
+    n: usize,
+    closed: bool,
+) -> Result<([Queue; 8], Reached), Refusal>
     requires { (at ≤ length s.now) × (n ≤ 8) × (line ≤ 1000) }
     ensures { LinesAt (rows (queue_row closed) n 0 (replicate 8 no_queue)) 8 s.now at line result }
 {
@@ -75,5 +101,12 @@ pub fn queue_rows(s: &[u8], at: usize, line: usize, n: usize, closed: bool) -> R
         cap: 0,
         blank: false,
     };
-    rows(s, at, line, n, none, |p, i| line_reader::next_queue(s, p, closed, i as u64))
+    rows(
+        s,
+        at,
+        line,
+        n,
+        none,
+        |p, i| line_reader::next_queue(s, p, closed, i as u64),
+    )
 }

@@ -1,15 +1,15 @@
 use Rattle.std.proofs.Common.{refl}
-use Rattle.fields.specs.FieldLaws.{number_next, number_stop, choice_next, choice_stop, feed_last, feed_stop}
+use Rattle.fields.specs.FieldLaws.{number_next, number_stop, word_next, word_stop, feed_last, feed_stop}
 use Rattle.records.proofs.head_line.Goals as goal
 
 pub returns-in_err-n : goal.returns-in_err-n
 returns-in_err-n c = number_stop c.in_err-n.ensures c.from_residual.ensures.1
 
 pub returns-in_err-closed : goal.returns-in_err-closed
-returns-in_err-closed c = number_next c.in_ok-n.ensures (choice_stop c.in_err-closed.ensures c.from_residual-in_err-closed.ensures.1)
+returns-in_err-closed c = number_next c.in_ok-n.ensures (word_stop c.in_err-closed.ensures c.from_residual-in_err-closed.ensures.1)
 
 pub returns-in_err-e : goal.returns-in_err-e
-returns-in_err-e c = number_next c.in_ok-n.ensures (choice_next c.in_ok-closed.ensures (feed_stop c.in_err-e.ensures c.from_residual-in_err-e.ensures.1))
+returns-in_err-e c = number_next c.in_ok-n.ensures (word_next c.in_ok-closed.ensures (feed_stop c.in_err-e.ensures c.from_residual-in_err-e.ensures.1))
 
 pub returns : goal.returns
-returns c = number_next c.in_ok-n.ensures (choice_next c.in_ok-closed.ensures (feed_last c.in_ok-e.ensures refl))
+returns c = number_next c.in_ok-n.ensures (word_next c.in_ok-closed.ensures (feed_last c.in_ok-e.ensures refl))
