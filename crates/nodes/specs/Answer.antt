@@ -1,8 +1,7 @@
 -- What the readers of node lines answer.
-use Rattle.std.specs.Prelude.{ℕ, ◌≤◌, ◌<◌, ◌≡◌, List, Bool}
+use Rattle.std.specs.Prelude.{ℕ, ◌≤◌, ◌<◌, ◌≡◌, List, Bool, Ok, Err}
 use Rattle.table.specs.declared.Op.{Op}
 use Rattle.table.specs.declared.Node.{Node}
-use Rattle.text.specs.declared.Fault.{Fault}
 use Rattle.text.specs.Number.{bytes}
 use Rattle.text.specs.declared.NodeKind.{NodeKind}
 use Rattle.text.specs.Value.{ascending, operand}
@@ -12,11 +11,7 @@ use Rattle.text.specs.Reader.{Numbered}
 use Rattle.nodes.specs.declared.Scope.{Scope}
 use Rattle.nodes.specs.declared.Line.{Line as NodeAnswer}
 use Rattle.nodes.specs.declared.Line.TheVariants.{Node as IsNode, Refused as NotNode}
-use Rattle.nodes.specs.declared.To.{To}
-use Rattle.nodes.specs.declared.To.TheVariants.{Is as IsTo, Not as NotTo}
-use Rattle.nodes.specs.declared.Body.{Body}
-use Rattle.nodes.specs.declared.Body.TheVariants.{Is as IsBody, Not as NotBody}
-use Rattle.fields.specs.Answer.{Answer, got, failed, LineAt}
+use Rattle.fields.specs.Answer.{Answer, LineAt}
 
 -- the declared items that references on a node line are judged by
 abbrev pub scope_in : Scope → Judged
@@ -36,25 +31,9 @@ last_line key one n = field key (ascending one 1 n) λ to. end
 abbrev pub last_set : (key : List ℕ) (one : Bool) (n : ℕ) → Vals (last_line key one n) → ℕ
 last_set key one n w = set_of w.0
 
-abbrev pub to_in : To → Answer ℕ
-to_in (IsTo m e) = got m e
-to_in (NotTo f) = failed f
-
-abbrev pub to_fault : To → Fault
-to_fault (IsTo m e) = Fault.Form
-to_fault (NotTo f) = f
-
-abbrev pub body_in : Body → Answer Node
-body_in (IsBody x e) = got x e
-body_in (NotBody f) = failed f
-
-abbrev pub body_fault : Body → Fault
-body_fault (IsBody x e) = Fault.Form
-body_fault (NotBody f) = f
-
 -- what stands behind a node's kind
-pub record BodyAt (c : Judged) (k : NodeKind) (s : List ℕ) (at : ℕ) (r : Body) : Type 0 where
-  pub is : LineAt (fields c k) (node_of c k) s at (body_in r)
+pub record BodyAt (c : Judged) (k : NodeKind) (s : List ℕ) (at : ℕ) (r : Answer Node) : Type 0 where
+  pub is : LineAt (fields c k) (node_of c k) s at r
 
 -- behind the operation of a set node, and of a test
 abbrev pub set_line : Judged → Line
@@ -81,8 +60,8 @@ abbrev pub numbered : (c : Judged) (lo n : ℕ) → Vals (node_line c lo n) → 
 numbered c lo n w = record { at = w.0; node = node_of c w.1.0 w.1.1 }
 
 abbrev pub node_in : NodeAnswer → Answer Numbered
-node_in (IsNode x j e) = got (record { at = j; node = x }) e
-node_in (NotNode f l) = failed f
+node_in (IsNode x j e) = Ok (record { at = j; node = x }, e)
+node_in (NotNode f l) = Err f
 
 abbrev pub NodeFits : ℕ → ℕ → NodeAnswer → Type 0
 NodeFits n line (IsNode x j e) = j < n

@@ -1,6 +1,6 @@
 -- Node line after node line: what is left to do from here gives the whole.
 use Prim.Native.Nat.{ℕ, zero, suc, ◌+◌, ◌-◌, ◌≤◌, ◌<◌}
-use Rattle.std.specs.Prelude.{◌≡◌, refl, Bool, List, [], ◌∷◌, ltb, length, set}
+use Rattle.std.specs.Prelude.{◌≡◌, refl, Bool, List, [], ◌∷◌, ltb, length, set, Result, Ok, Err}
 use Rattle.std.proofs.Common.{sym, ◌∙◌, add-one, length-set}
 use Rattle.std.proofs.Math.Path.{ap}
 use Rattle.std.proofs.Math.Bool.{true, false}
@@ -12,34 +12,25 @@ use Rattle.table.specs.Table.{no_slots}
 use Rattle.table.specs.declared.Node.{Node}
 use Rattle.table.specs.declared.Slot.{Slot}
 use Rattle.text.specs.declared.Fault.{Fault}
-use Rattle.text.specs.declared.Fault.TheVariants.{Form, Index}
+use Rattle.text.specs.declared.Fault.TheVariants.{Index, Ended}
 use Rattle.text.specs.Number.{bytes}
 use Rattle.text.specs.Value.{check, number}
 use Rattle.text.proofs.ValueLaws.{no}
-use Rattle.text.specs.Line.{took, refused, Parser, ◌>>=◌, give, broken, line, line_fault}
+use Rattle.text.specs.Line.{took, refused, Parser, ◌>>=◌, give, After, at as stands, differs, broken, line, line_fault}
 use Rattle.text.proofs.LineLaws.{line_read}
 use Rattle.text.proofs.RowLaws.{or_left}
 use Rattle.text.proofs.NodeLaws.{number_fact}
 use Rattle.text.specs.Format.{Scope as Judged, node_line}
 use Rattle.text.specs.Reader.{rows, Numbered, node_row, slot_of, standing, further_nodes, nodes_of}
-use Rattle.scan.specs.declared.Found.{Found}
-use Rattle.scan.specs.declared.Found.TheVariants.{At as FoundAt, Differs, Broken}
-use Rattle.scan.specs.Place.{AfterKey}
+use Rattle.scan.specs.Place.{AfterKey, keyed}
 use Rattle.fields.specs.FieldLaws.{onto_got}
 use Rattle.nodes.specs.declared.Line.{Line}
 use Rattle.nodes.specs.declared.Line.TheVariants.{Node as IsNode, Refused as NotNode}
 use Rattle.nodes.specs.Answer.{numbered, NodeAt}
-use Rattle.rows.specs.declared.End.TheVariants.{At, Refused}
-use Rattle.procs.specs.declared.Slots.{Slots}
-use Rattle.procs.specs.Answer.{stopped_of, node_stands, is_further, line_due, number_below, SlotsAt}
+use Rattle.rows.specs.declared.Refusal.{Refusal}
+use Rattle.procs.specs.Answer.{node_stands, is_further, line_due, number_below, SlotsAt}
 
--- ---- a refused line; a line beginning `node=`
-module _ {r : Line} {l : List Slot} (z : l ≡ no_slots) where
-  pub stopped_not : {f : Fault} {k : ℕ} → r ≡ NotNode f k → ◌≡◌ {A = Slots} (record { end = Refused f; line = k; slots = l }) (stopped_of r)
-  stopped_not q = rw (q, z)
-
-  pub stopped_is : {x : Node} {j e : ℕ} → r ≡ IsNode x j e → ◌≡◌ {A = Slots} (record { end = Refused Form; line = 0; slots = l }) (stopped_of r)
-  stopped_is q = rw (q, z)
+-- ---- a line beginning `node=`
 
 -- bytes are left
 some_left : (s : List ℕ) (at : ℕ) → at < length s → standing broken (drop at s) ≡ true
@@ -56,15 +47,30 @@ none_left (b ∷ s) (suc n) h = none_left s n (omega arith)
 left : (s : List ℕ) (at : ℕ) → ltb at (length s) ≡ standing broken (drop at s)
 left s at = cases (ltb at (length s)) (λ e. e ∙ sym (some_left s at (ltb-true at (length s) e))) (λ e. e ∙ sym (none_left s at (ltb-false at (length s) e)))
 
-module _ {s : List ℕ} {at : ℕ} {r : Found} (m : AfterKey (bytes "node=") s at r) where
-  pub stands_at : {b : ℕ} → r ≡ FoundAt b → true ≡ node_stands s at
-  stands_at q = rw (← m.same, q)
+key_stands : (a : After) (t : List ℕ) {u : List ℕ} → ◌≡◌ {A = Result (List ℕ) Fault} (Ok u) (keyed a) → true ≡ standing a t
+key_stands (stands t) s e = refl
+key_stands differs s e = no (cc)
+key_stands broken s e = no (cc)
 
-  pub stands_differs : r ≡ Differs → false ≡ node_stands s at
-  stands_differs q = rw (← m.same, q)
+key_broken : (a : After) (t : List ℕ) → ◌≡◌ {A = Result (List ℕ) Fault} (Err Ended) (keyed a) → standing broken t ≡ standing a t
+key_broken (stands t) s e = no (cc)
+key_broken differs s e = no (cc)
+key_broken broken s e = refl
 
-  pub stands_broken : r ≡ Broken → ltb at (length s) ≡ node_stands s at
-  stands_broken q = rw (← m.same, q) (left s at)
+key_differs : (a : After) (t : List ℕ) {f : Fault} → ◌≡◌ {A = Result (List ℕ) Fault} (Err f) (keyed a) → (f ≡ Ended → ⊥) → false ≡ standing a t
+key_differs (stands t) s e n = no (cc)
+key_differs differs s e n = refl
+key_differs broken s e n = absurd (n (cc))
+
+module _ {s : List ℕ} {at : ℕ} where
+  pub stands_at : {b : ℕ} → AfterKey (bytes "node=") s at (Ok b) → true ≡ node_stands s at
+  stands_at m = key_stands _ (drop at s) m.same
+
+  pub stands_broken : AfterKey (bytes "node=") s at (Err Ended) → ltb at (length s) ≡ node_stands s at
+  stands_broken m = left s at ∙ key_broken _ (drop at s) m.same
+
+  pub stands_differs : {f : Fault} → AfterKey (bytes "node=") s at (Err f) → (f ≡ Ended → ⊥) → false ≡ node_stands s at
+  stands_differs m n = key_differs _ (drop at s) m.same n
 
 -- ---- one node line
 module _ {c : Judged} {lo n : ℕ} {s : List ℕ} {p l : ℕ} {r : Line} (m : NodeAt c lo n s p l r) where
@@ -140,8 +146,8 @@ from_start : (c : Judged) (closed : Bool) (l : ℕ) (s : List ℕ) → nodes_fro
 from_start c false l s = let e : c.nodes - 0 ≡ c.nodes = omega arith in rw e
 from_start c true l s = refl
 
-pub nodes_start : {c : Judged} {closed : Bool} {s : List ℕ} {at line : ℕ} → at ≤ length s → 0 < c.nodes → c.nodes ≤ 32 → Noding c closed s at line no_slots at line 0
-nodes_start {c} {closed} {s} {at} {line} h k few = record {
+pub nodes_start : {c : Judged} {closed : Bool} {s : List ℕ} {at line : ℕ} {acc : List Slot} → acc ≡ no_slots → at ≤ length s → 0 < c.nodes → c.nodes ≤ 32 → Noding c closed s at line acc at line 0
+nodes_start {c} {closed} {s} {at} {line} d h k few = rw d (record {
   fuel = c.nodes;
   same = from_start c closed line (drop at s);
   enough = omega arith;
@@ -151,7 +157,7 @@ nodes_start {c} {closed} {s} {at} {line} h k few = record {
   size = refl;
   some = k;
   few = few;
-}
+})
 
 -- one line more in each form: it was read, it was refused, or there is none
 module _ {c : Judged} {s : List ℕ} {at line : ℕ} {acc : List Slot} {p l : ℕ} where
@@ -202,11 +208,10 @@ module _ {c : Judged} {s : List ℕ} {at line : ℕ} {acc : List Slot} {p l : �
 
 module _ {c : Judged} {closed : Bool} {s : List ℕ} {at line : ℕ} {acc : List Slot} {p l next : ℕ} (o : Noding c closed s at line acc p l next)
     {d : Bool} (due : d ≡ line_due closed next c.nodes s p) where
-  pub nodes_end : d ≡ false → SlotsAt c closed s at line (record { end = At p; line = l; slots = acc })
+  pub nodes_end : d ≡ false → SlotsAt c closed s at line acc (Ok (record { at = p; line = l }))
   nodes_end e = record {
     same = from_end closed next o (sym due ∙ e);
     within = o.place;
-    blank = tt;
     lines = omega (arith, o.lines, o.count, o.few);
   }
 
@@ -218,15 +223,14 @@ module _ {c : Judged} {closed : Bool} {s : List ℕ} {at line : ℕ} {acc : List
     nodes_below = omega (arith, within, o.few)
 
     module _ {r : Line} (m : NodeAt c next n s p l r) where
-      pub nodes_stop : {f : Fault} {k : ℕ} → r ≡ NotNode f k → {y : Slots} → y ≡ stopped_of r → SlotsAt c closed s at line y
-      nodes_stop {f} {k} q h =
-          let z : k ≡ l = node_line_lem m q in
-          rw (h, q, z) (record {
-            same = from_refused closed next o (sym due ∙ e) (rw b at m) q;
+      pub nodes_stop : {y : Refusal} → r ≡ NotNode y.fault y.line → SlotsAt c closed s at line acc (Err y)
+      nodes_stop {y} q =
+          let z : y.line ≡ l = node_line_lem m q in
+          record {
+            same = rw z (from_refused closed next o (sym due ∙ e) (rw b at m) q);
             within = tt;
-            blank = refl;
             lines = omega (arith, o.lines, o.count, o.few);
-          })
+          }
 
       module _ {x : Node} {j to : ℕ} (q : r ≡ IsNode x j to) where
         pub nodes_index : j < 32

@@ -6,9 +6,12 @@ ghost use Rattle.std.specs.Prelude.{◌≤◌, ◌≡◌, length};
 ghost use Rattle.table.specs.Table.{no_table};
 ghost use Rattle.text.specs.Reader.{table, bad, reading, read};
 ghost use Rattle.records.specs.Answer.{Counted};
-ghost use Rattle.reader.specs.Answer.{no_objects, ObjectsAt, no_front, FrontAt, answered, fault_of, head_fault, counts_fault};
+ghost use Rattle.rows.specs.Rows.{LinesAt};
+ghost use Rattle.reader.specs.Answer.{object_rows, FrontAt, answered};
 
 use late_nodes::{Callee, Terms};
+use records::Counts;
+use rows::{Reached, Refusal};
 use table::{Node, Proc, Queue, Sem, Slot, Table, Task};
 use text::{Fault, Reading};
 
@@ -40,167 +43,70 @@ pub fn no_table() -> Table
     }
 }
 
-// The tasks, semaphores and queues, with the line reached; or their first fault, with its line and places all 0.
+// The tasks, semaphores and queues.
 #[derive(Clone, Copy)]
 struct Objects {
-    end: rows::End,
-    line: usize,
     task: [Task; 4],
     sem: [Sem; 8],
     queue: [Queue; 8],
 }
 
-// What stands before the procedures, with the line reached; or the first fault, with its line and places all 0.
+// What stands before the procedures.
 #[derive(Clone, Copy)]
 struct Front {
-    end: rows::End,
-    line: usize,
     trap: u8,
     closed: bool,
-    counts: records::Counts,
-    task: [Task; 4],
-    sem: [Sem; 8],
-    queue: [Queue; 8],
-}
-
-fn head_fault(row: records::HeadLine) -> Fault
-    ensures { result ≡ head_fault row }
-{
-    match row {
-        records::HeadLine::Is(_, _, _) => Fault::Form,
-        records::HeadLine::Refused(f) => f,
-    }
-}
-
-fn counts_fault(row: records::CountsLine) -> Fault
-    ensures { result ≡ counts_fault row }
-{
-    match row {
-        records::CountsLine::Is(_, _) => Fault::Form,
-        records::CountsLine::Refused(f) => f,
-    }
-}
-
-fn fault_of(end: rows::End) -> Fault
-    ensures { result ≡ fault_of end }
-{
-    match end {
-        rows::End::At(_) => Fault::Form,
-        rows::End::Refused(f) => f,
-    }
-}
-
-// A refusal, with places all 0.
-fn no_objects(end: rows::End, line: usize) -> Objects
-    ensures { result ≡ no_objects end line }
-{
-    Objects {
-        end,
-        line,
-        task: [Task { top: 0 }; 4],
-        sem: [Sem { count: 0 }; 8],
-        queue: [Queue {
-            cap: 0,
-            blank: false,
-        }; 8],
-    }
+    counts: Counts,
+    objects: Objects,
 }
 
 // The lines of tasks, semaphores and queues.
-fn object_rows(s: &[u8], at: usize, line: usize, closed: bool, counts: records::Counts) -> Objects
+fn object_rows(
+    s: &[u8],
+    at: usize,
+    line: usize,
+    closed: bool,
+    counts: Counts,
+) -> Result<(Objects, Reached), Refusal>
     requires { (at ≤ length s.now) × Counted counts × (line ≤ 3) }
-    ensures { ObjectsAt closed counts s.now at line result }
+    ensures { LinesAt (object_rows closed counts) 20 s.now at line result }
 {
-    let a = rows::task_rows(s, at, line, counts.tasks as usize, counts.procs as u64);
-    let first = a.end;
-    let rows::End::At(p) = first else {
-        return no_objects(first, a.line);
-    };
-    let b = rows::sem_rows(s, p, a.line, counts.sems as usize);
-    let second = b.end;
-    let rows::End::At(q) = second else {
-        return no_objects(second, b.line);
-    };
-    let c = rows::queue_rows(s, q, b.line, counts.queues as usize, closed);
-    let third = c.end;
-    let rows::End::At(_) = third else {
-        return no_objects(third, c.line);
-    };
-    let task = a.task;
-    let sem = b.sem;
-    let queue = c.queue;
-    Objects {
-        end: third,
-        line: c.line,
-        task,
-        sem,
-        queue,
-    }
-}
-
-// A refusal, with places all 0.
-fn no_front(f: Fault, line: usize) -> Front
-    ensures { result ≡ no_front f line }
-{
-    let counts = records::Counts {
-        tasks: 0,
-        procs: 0,
-        sems: 0,
-        queues: 0,
-    };
-    Front {
-        end: rows::End::Refused(f),
-        line,
-        trap: 0,
-        closed: false,
-        counts,
-        task: [Task { top: 0 }; 4],
-        sem: [Sem { count: 0 }; 8],
-        queue: [Queue {
-            cap: 0,
-            blank: false,
-        }; 8],
-    }
+    let (task, a) = rows::task_rows(s, at, line, counts.tasks as usize, counts.procs as u64)?;
+    let (sem, b) = rows::sem_rows(s, a.at, a.line, counts.sems as usize)?;
+    let (queue, end) = rows::queue_rows(s, b.at, b.line, counts.queues as usize, closed)?;
+    Ok((Objects { task, sem, queue }, end))
 }
 
 // The lines before the procedures.
-fn front_rows(s: &[u8]) -> Front
+fn front_rows(s: &[u8]) -> Result<(Front, Reached), Refusal>
     ensures { FrontAt s.now (answered (table 1 s.now)) result }
 {
-    let head = line_reader::next_head(s, 0);
-    let records::HeadLine::Is(trap, closed, a) = head else {
-        return no_front(head_fault(head), 1);
-    };
-    let row = line_reader::next_counts(s, a);
-    let records::CountsLine::Is(counts, b) = row else {
-        return no_front(counts_fault(row), 2);
-    };
-    let o = object_rows(s, b, 3, closed, counts);
-    let end = o.end;
-    let rows::End::At(_) = end else {
-        return no_front(fault_of(end), o.line);
-    };
-    let task = o.task;
-    let sem = o.sem;
-    let queue = o.queue;
-    Front {
+    let ((trap, closed), a) = line_reader::next_head(s, 0).map_err(|fault| Refusal {
+        fault,
+        line: 1,
+    })?;
+    let (counts, b) = line_reader::next_counts(s, a).map_err(|fault| Refusal { fault, line: 2 })?;
+    let (objects, end) = object_rows(s, b, 3, closed, counts)?;
+    Ok((
+        Front {
+            trap,
+            closed,
+            counts,
+            objects,
+        },
         end,
-        line: o.line,
-        trap,
-        closed,
-        counts,
-        task,
-        sem,
-        queue,
-    }
+    ))
 }
 
 // The same of any bytes.
-fn front_of(s: &[u8]) -> Front
+fn front_of(s: &[u8]) -> Result<(Front, Reached), Refusal>
     ensures { FrontAt s.now (read s.now) result }
 {
     if s.len() > 65536 {
-        return no_front(Fault::Long, 0);
+        return Err(Refusal {
+            fault: Fault::Long,
+            line: 0,
+        });
     }
     front_rows(s)
 }
@@ -220,19 +126,27 @@ fn refused(f: Fault, line: usize) -> Reading
 }
 
 // Any bytes: the table, or the number and line of the first fault with a table all 0. The table is filled in its place, late faults
-// are looked for procedure by procedure, and a refusal has a local of its own, so that the table is copied once only, into the answer.
+// are looked for procedure by procedure, and a refusal has a local of its own, so that the table is copied once only, into the answer:
+// so faults are not handed on by `?` from a function that fills the table.
 pub fn read(s: &[u8]) -> Reading
     ensures { result ≡ read s.now }
 {
-    let o = front_of(s);
-    let counts = o.counts;
-    let task = o.task;
-    let sem = o.sem;
-    let queue = o.queue;
+    let (front, start) = match front_of(s) {
+        Ok(read) => read,
+        Err(r) => {
+            let bad = refused(r.fault, r.line);
+            return bad;
+        }
+    };
+    let counts = front.counts;
+    let objects = front.objects;
+    let task = objects.task;
+    let sem = objects.sem;
+    let queue = objects.queue;
     let none = procs::empty_proc();
     let mut table = Table {
-        trap: o.trap,
-        closed: o.closed,
+        trap: front.trap,
+        closed: front.closed,
         tasks: counts.tasks,
         procs: counts.procs,
         sems: counts.sems,
@@ -242,61 +156,53 @@ pub fn read(s: &[u8]) -> Reading
         queue,
         proc: [none; 8],
     };
-    let first = o.end;
-    let rows::End::At(start) = first else {
-        return Reading {
-            number: codes::number(fault_of(first)),
-            line: o.line,
-            table,
-        };
-    };
     let mut callee = [Callee { params: 0, drop: 0 }; 8];
     let n = counts.procs as usize;
-    let mut p = start;
-    let mut l = o.line;
-    let mut i = 0;
-    while i < n {
-        let row = procs::proc_row(s, p, l, o.closed, counts, i as u64);
-        let end = row.end;
-        let rows::End::At(e) = end else {
-            let bad = refused(fault_of(end), row.line);
-            return bad;
-        };
-        let q = row.proc;
-        table.proc[i] = q;
-        callee[i] = Callee {
-            params: q.params,
-            drop: q.drop,
-        };
-        p = e;
-        l = row.line;
-        i += 1;
+    let mut p = start.at;
+    let mut l = start.line;
+    for i in 0..n {
+        match procs::proc_row(s, p, l, front.closed, counts, i as u64) {
+            Ok((q, reached)) => {
+                table.proc[i] = q;
+                callee[i] = Callee {
+                    params: q.params,
+                    drop: q.drop,
+                };
+                p = reached.at;
+                l = reached.line;
+            }
+            Err(r) => {
+                let bad = refused(r.fault, r.line);
+                return bad;
+            }
+        }
     }
     if p < s.len() {
         let bad = refused(Fault::Ended, l);
         return bad;
     }
     let terms = Terms {
-        closed: o.closed,
+        closed: front.closed,
         callee,
         queue,
     };
-    let a = late_lines::tasks(task, counts.tasks, terms);
-    if a.number != 0 {
-        let bad = refused(late::fault(a.number), a.line);
-        return bad;
-    }
-    l = a.line + counts.sems as usize + counts.queues as usize;
-    i = 0;
-    while i < n {
-        let q = table.proc[i];
-        let b = late_lines::proc_at(q, terms, l);
-        if b.number != 0 {
-            let bad = refused(late::fault(b.number), b.line);
+    let behind = match late_lines::tasks(task, counts.tasks, terms) {
+        Ok(line) => line,
+        Err(late) => {
+            let bad = refused(late.fault, late.line);
             return bad;
         }
-        l = b.line;
-        i += 1;
+    };
+    let mut k = behind + counts.sems as usize + counts.queues as usize;
+    for i in 0..n {
+        let q = table.proc[i];
+        match late_lines::proc_at(q, terms, k) {
+            Ok(line) => k = line,
+            Err(late) => {
+                let bad = refused(late.fault, late.line);
+                return bad;
+            }
+        }
     }
     Reading {
         number: 0,

@@ -1,6 +1,6 @@
 -- A set of parameters is small; lines that differ by the form.
-use Rattle.std.specs.Prelude.{ℕ, zero, suc, ◌+◌, ◌≤◌, ◌<◌, ◌≡◌, refl, List, [], ◌∷◌, Bool, true, false, ltb, eqb, length, take, drop}
-use Rattle.std.proofs.Common.{sym, ◌∙◌, ap, arith, add-zero, ne_eqb, ltb-true, le-leb}
+use Rattle.std.specs.Prelude.{ℕ, zero, suc, ◌+◌, ◌≤◌, ◌<◌, ◌≡◌, refl, List, [], ◌∷◌, Bool, true, false, ltb, eqb, length, take, drop, Ok}
+use Rattle.std.proofs.Common.{ap, arith, add-zero, ne_eqb, ltb-true, le-leb}
 use Rattle.std.proofs.Math.Option.{Option, none, some}
 use Rattle.table.specs.Cases.{cases}
 use Rattle.table.specs.Mask.{mask_of}
@@ -13,17 +13,13 @@ use Rattle.text.proofs.ValueLaws.{no}
 use Rattle.text.specs.Line.{took, After, at as stands, differs, broken, after, run, verdict, judged, value_of, after_key, field_of}
 use Rattle.text.specs.Format.{elem, set_of}
 use Rattle.text.proofs.NodeLaws.{list_fact}
-use Rattle.numbers.specs.declared.Number.{Number}
-use Rattle.numbers.specs.declared.Number.TheVariants.{Is as IsNumber}
-use Rattle.numbers.specs.Answer.{NumberAt}
-use Rattle.lists.specs.declared.Set.{Set}
-use Rattle.lists.specs.declared.Set.TheVariants.{Is as IsSet}
-use Rattle.lists.specs.Sets.{SetAt}
-use Rattle.records.specs.declared.QueueLine.{QueueLine}
-use Rattle.records.specs.declared.ProcLine.{ProcLine}
+use Rattle.table.specs.declared.Queue.{Queue}
 use Rattle.records.specs.declared.ProcHead.{ProcHead}
 use Rattle.records.specs.Answer.{QueueAt, SizesAt, ProcAt, head_of}
 use Rattle.numbers.specs.ValueLaws.{mapped_took}
+use Rattle.numbers.specs.Answer.{NumberAt}
+use Rattle.lists.specs.Sets.{SetAt}
+use Rattle.fields.specs.Answer.{Answer}
 use Rattle.fields.specs.FieldLaws.{number_next}
 
 -- ---- a value that was read has no fault
@@ -69,24 +65,24 @@ cut k (suc d) f h =
 small : (n : ℕ) (xs : List ℕ) → n ≤ 8 → within 0 n xs ≡ true → set_of xs < 256
 small n xs h e = rw (cut 8 24 (λ i. elem i xs) (λ i k. absent n i (omega arith) xs e)) (mask_of_lt 8 (λ i. elem i xs))
 
-pub set_small : {n : ℕ} {key s : List ℕ} {at : ℕ} {r : Set} → SetAt false 0 n key s at r → {v e : ℕ} → r ≡ IsSet v e → n < 5 → v < 256
-set_small {n} {key} {s} {at} m {v} {e} q h =
-    let t = mapped_took set_of (field_of key (ascending false 0 n) 0 (drop at s)) {x = v} {l = 0} {s = drop e s} (sym (sym (m.same 0) ∙ rw q)) in
+pub set_small : {n : ℕ} {key s : List ℕ} {at v e : ℕ} → SetAt false 0 n key s at (Ok (v, e)) → n < 5 → v < 256
+set_small {n} {key} {s} {at} {v} {e} m h =
+    let t = mapped_took set_of (field_of key (ascending false 0 n) 0 (drop at s)) {x = v} {l = 0} {s = drop e s} (m.same 0) in
     rw (← t.2) (small n t.0 (omega arith) (list_fact false 0 n t.0 (field_check key (ascending false 0 n) 0 (drop at s) t.1)).1)
 
 -- ---- the two forms
-pub queue_form : {closed b : Bool} {i : ℕ} {s : List ℕ} {at : ℕ} {r : QueueLine} → closed ≡ b → QueueAt b i s at r → QueueAt closed i s at r
+pub queue_form : {closed b : Bool} {i : ℕ} {s : List ℕ} {at : ℕ} {r : Answer Queue} → closed ≡ b → QueueAt b i s at r → QueueAt closed i s at r
 queue_form q u = rw q u
 
 pub head_drop : {k m n : ℕ} {x y : ℕ} → x ≡ y → ◌≡◌ {A = ProcHead} (record { params = k; vars = m; nodes = n; drop = y }) (record { params = k; vars = m; nodes = n; drop = x })
 head_drop p = rw p
 
-module _ {closed : Bool} {k : ℕ} {s : List ℕ} {at : ℕ} {r : ProcLine} where
+module _ {closed : Bool} {k : ℕ} {s : List ℕ} {at : ℕ} {r : Answer ProcHead} where
   pub sizes_form : {b : Bool} → closed ≡ b → SizesAt b k s at r → SizesAt closed k s at r
   sizes_form q u = rw q u
 
-pub proc_sizes : {closed : Bool} {i j k a b : ℕ} {s : List ℕ} {at : ℕ} {x y : Number} {r : ProcLine}
-    → NumberAt i (i + 1) Index (bytes "proc=") s at x → x ≡ IsNumber j a → NumberAt 0 5 Range (bytes " params=") s a y → y ≡ IsNumber k b
+pub proc_sizes : {closed : Bool} {i j k a b : ℕ} {s : List ℕ} {at : ℕ} {r : Answer ProcHead}
+    → NumberAt i (i + 1) Index (bytes "proc=") s at (Ok (j, a)) → NumberAt 0 5 Range (bytes " params=") s a (Ok (k, b))
     → SizesAt closed k s b r → ProcAt closed i s at r
-proc_sizes {closed = true} {i = i} m q n p u = record { is = number_next {g = head_of true i} m q (number_next n p u.is); fits = u.fits }
-proc_sizes {closed = false} {i = i} m q n p u = record { is = number_next {g = head_of false i} m q (number_next n p u.is); fits = u.fits }
+proc_sizes {closed = true} {i = i} m n u = record { is = number_next {g = head_of true i} m (number_next n u.is); fits = u.fits }
+proc_sizes {closed = false} {i = i} m n u = record { is = number_next {g = head_of false i} m (number_next n u.is); fits = u.fits }

@@ -2,159 +2,111 @@
 
 #![tactic(auto)]
 
-ghost use Rattle.std.specs.Prelude.{◌+◌, ◌≤◌, ◌≡◌, length, replicate};
+ghost use Rattle.std.specs.Prelude.{ℕ, ◌≤◌, ◌<◌, length, replicate, IfOk};
 ghost use Rattle.table.specs.Table.{no_task, no_sem, no_queue};
-ghost use Rattle.text.specs.Reader.{task_row, sem_row, queue_row};
-ghost use Rattle.rows.specs.Rows.{RowsAt, task_fault, sem_fault, queue_fault};
+ghost use Rattle.text.specs.Line.{Parser};
+ghost use Rattle.text.specs.Reader.{rows, task_row, sem_row, queue_row};
+ghost use Rattle.rows.specs.Rows.{RowAt, LinesAt};
 
-// Where the text goes on after some lines, or the fault of the line reached.
-#[derive(Clone, Copy)]
-pub enum End {
-    At(usize),
-    Refused(text::Fault),
-}
+use table::{Queue, Sem, Task};
+use text::Fault;
 
-// What some lines hold, with the line reached; or their first fault, with its line and places that are all 0.
+// Where the text goes on after some lines, and on which line.
 #[derive(Clone, Copy)]
-pub struct Tasks {
-    pub end: End,
+pub struct Reached {
+    pub at: usize,
     pub line: usize,
-    pub task: [table::Task; 4],
 }
 
+// The first fault of some lines, and its line.
 #[derive(Clone, Copy)]
-pub struct Sems {
-    pub end: End,
+pub struct Refusal {
+    pub fault: Fault,
     pub line: usize,
-    pub sem: [table::Sem; 8],
 }
 
-#[derive(Clone, Copy)]
-pub struct Queues {
-    pub end: End,
-    pub line: usize,
-    pub queue: [table::Queue; 8],
-}
-
-fn task_fault(row: records::TaskLine) -> text::Fault
-    ensures { result ≡ task_fault row }
+// n lines, the i-th read at a place p by `row(p, i)` and put into place i.
+fn rows<T: Copy, const N: usize, F: Fn(usize, usize) -> Result<(T, usize), Fault>>(
+    s: &[u8],
+    at: usize,
+    line: usize,
+    n: usize,
+    none: T,
+    row: F,
+) -> Result<([T; N], Reached), Refusal>
+    requires sizes { (at ≤ length s.now) × (n ≤ N) × (N ≤ 8) × (line ≤ 1000) }
+    requires calls { (p i : ℕ) → p ≤ length s.now → i < n → F.pre row p i }
+    requires within { (p i : ℕ) (r : _) → p ≤ length s.now → i < n → F.post row p i r → IfOk r (λ a. a.1 ≤ length s.now) }
+    ensures { (f : ℕ → Parser T) → ((p i : ℕ) (r : _) → p ≤ length s.now → i < n → F.post row p i r → RowAt (f i) s.now p r) → LinesAt (rows f n 0 (replicate N none)) N s.now at line result }
 {
-    match row {
-        records::TaskLine::Is(_, _) => text::Fault::Form,
-        records::TaskLine::Refused(f) => f,
+    let mut places = [none; N];
+    let mut p = at;
+    let mut l = line;
+    for i in 0..n {
+        let (x, e) = row(p, i).map_err(|fault| Refusal { fault, line: l })?;
+        places[i] = x;
+        p = e;
+        l += 1;
     }
+    Ok((places, Reached { at: p, line: l }))
 }
 
-fn sem_fault(row: records::SemLine) -> text::Fault
-    ensures { result ≡ sem_fault row }
-{
-    match row {
-        records::SemLine::Is(_, _) => text::Fault::Form,
-        records::SemLine::Refused(f) => f,
-    }
-}
-
-fn queue_fault(row: records::QueueLine) -> text::Fault
-    ensures { result ≡ queue_fault row }
-{
-    match row {
-        records::QueueLine::Is(_, _) => text::Fault::Form,
-        records::QueueLine::Refused(f) => f,
-    }
-}
-
-pub fn task_rows(s: &[u8], at: usize, line: usize, n: usize, procs: u64) -> Tasks
+pub fn task_rows(
+    s: &[u8],
+    at: usize,
+    line: usize,
+    n: usize,
+    procs: u64,
+) -> Result<([Task; 4], Reached), Refusal>
     requires { (at ≤ length s.now) × (n ≤ 4) × (procs ≤ 8) × (line ≤ 1000) }
-    ensures { RowsAt (task_row procs) n (replicate 4 no_task) s.now at line result.end result.line result.task × (result.line ≤ line + 4) }
+    ensures { LinesAt (rows (task_row procs) n 0 (replicate 4 no_task)) 4 s.now at line result }
 {
-    let none = table::Task { top: 0 };
-    let mut task = [none; 4];
-    let mut p = at;
-    let mut l = line;
-    let mut i = 0;
-    while i < n {
-        let row = line_reader::next_task(s, p, i as u64, procs);
-        let records::TaskLine::Is(t, e) = row else {
-            return Tasks {
-                end: End::Refused(task_fault(row)),
-                line: l,
-                task: [table::Task { top: 0 }; 4],
-            };
-        };
-        task[i] = t;
-        p = e;
-        l += 1;
-        i += 1;
-    }
-    Tasks {
-        end: End::At(p),
-        line: l,
-        task,
-    }
+    let none = Task { top: 0 };
+    rows(
+        s,
+        at,
+        line,
+        n,
+        none,
+        |p, i| line_reader::next_task(s, p, i as u64, procs),
+    )
 }
 
-pub fn sem_rows(s: &[u8], at: usize, line: usize, n: usize) -> Sems
+pub fn sem_rows(s: &[u8], at: usize, line: usize, n: usize) -> Result<([Sem; 8], Reached), Refusal>
     requires { (at ≤ length s.now) × (n ≤ 8) × (line ≤ 1000) }
-    ensures { RowsAt sem_row n (replicate 8 no_sem) s.now at line result.end result.line result.sem × (result.line ≤ line + 8) }
+    ensures { LinesAt (rows sem_row n 0 (replicate 8 no_sem)) 8 s.now at line result }
 {
-    let none = table::Sem { count: 0 };
-    let mut sem = [none; 8];
-    let mut p = at;
-    let mut l = line;
-    let mut i = 0;
-    while i < n {
-        let row = line_reader::next_sem(s, p, i as u64);
-        let records::SemLine::Is(x, e) = row else {
-            return Sems {
-                end: End::Refused(sem_fault(row)),
-                line: l,
-                sem: [table::Sem { count: 0 }; 8],
-            };
-        };
-        sem[i] = x;
-        p = e;
-        l += 1;
-        i += 1;
-    }
-    Sems {
-        end: End::At(p),
-        line: l,
-        sem,
-    }
+    let none = Sem { count: 0 };
+    rows(
+        s,
+        at,
+        line,
+        n,
+        none,
+        |p, i| line_reader::next_sem(s, p, i as u64),
+    )
 }
 
-pub fn queue_rows(s: &[u8], at: usize, line: usize, n: usize, closed: bool) -> Queues
+pub fn queue_rows(
+    s: &[u8],
+    at: usize,
+    line: usize,
+    n: usize,
+    closed: bool,
+) -> Result<([Queue; 8], Reached), Refusal>
     requires { (at ≤ length s.now) × (n ≤ 8) × (line ≤ 1000) }
-    ensures { RowsAt (queue_row closed) n (replicate 8 no_queue) s.now at line result.end result.line result.queue × (result.line ≤ line + 8) }
+    ensures { LinesAt (rows (queue_row closed) n 0 (replicate 8 no_queue)) 8 s.now at line result }
 {
-    let none = table::Queue {
+    let none = Queue {
         cap: 0,
         blank: false,
     };
-    let mut queue = [none; 8];
-    let mut p = at;
-    let mut l = line;
-    let mut i = 0;
-    while i < n {
-        let row = line_reader::next_queue(s, p, closed, i as u64);
-        let records::QueueLine::Is(x, e) = row else {
-            return Queues {
-                end: End::Refused(queue_fault(row)),
-                line: l,
-                queue: [table::Queue {
-                    cap: 0,
-                    blank: false,
-                }; 8],
-            };
-        };
-        queue[i] = x;
-        p = e;
-        l += 1;
-        i += 1;
-    }
-    Queues {
-        end: End::At(p),
-        line: l,
-        queue,
-    }
+    rows(
+        s,
+        at,
+        line,
+        n,
+        none,
+        |p, i| line_reader::next_queue(s, p, closed, i as u64),
+    )
 }

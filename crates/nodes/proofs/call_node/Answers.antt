@@ -1,30 +1,20 @@
-use Rattle.std.proofs.Common.{rules}
 use Rattle.text.specs.Format.{node_of}
-use Rattle.fields.specs.FieldLaws.{args_next, args_stop, args_within, number_next, number_stop, number_within}
+use Rattle.fields.specs.FieldLaws.{number_next, number_stop, list_next, list_stop}
 use Rattle.nodes.specs.NodeLaws.{last_got, last_stop, call_to}
 use Rattle.nodes.proofs.call_node.Goals as goal
 
-pub number_field-callee_field-requires : goal.number_field-callee_field-requires
-number_field-callee_field-requires c = search (rules, number_within, args_within)
-
-pub returns-in_default : goal.returns-in_default
+pub returns-in_err-callee : goal.returns-in_err-callee
 unfolding node_of
-returns-in_default c = search (rules, number_next, number_stop)
+returns-in_err-callee c = record { is = number_stop c.in_err-callee.ensures c.from_residual.ensures.1 }
 
-pub arguments_field-list-requires : goal.arguments_field-list-requires
-arguments_field-list-requires c = search (rules, number_within, args_within)
-
-pub returns-in_default-list : goal.returns-in_default-list
+pub returns-in_err-args : goal.returns-in_err-args
 unfolding node_of
-returns-in_default-list c = search (rules, number_next, number_stop, args_next, args_stop)
+returns-in_err-args c = record { is = number_next c.in_ok-callee.ensures (list_stop c.in_err-args.ensures c.from_residual-in_err-args.ensures.1) }
 
-pub targets_end-last-requires : goal.targets_end-last-requires
-targets_end-last-requires c = search (rules, number_within, args_within)
-
-pub returns-in_default-last : goal.returns-in_default-last
+pub returns-in_err-to : goal.returns-in_err-to
 unfolding node_of
-returns-in_default-last c = search (rules, number_next, number_stop, args_next, args_stop, last_stop)
+returns-in_err-to c = record { is = number_next c.in_ok-callee.ensures (list_next c.in_ok-args.ensures (λ x1 h1. last_stop c.in_err-to.ensures c.from_residual-in_err-to.ensures.1)) }
 
 pub returns : goal.returns
 unfolding node_of
-returns c = search (rules, number_next, args_next, last_got, call_to)
+returns c = record { is = number_next c.in_ok-callee.ensures (list_next c.in_ok-args.ensures (λ x1 h1. last_got c.in_ok-to.ensures (λ x h. call_to h1 h))) }

@@ -1,23 +1,16 @@
-use Rattle.std.proofs.Common.{rules}
 use Rattle.text.specs.Format.{node_of}
-use Rattle.fields.specs.FieldLaws.{variable_next, variable_stop, variable_within}
+use Rattle.fields.specs.FieldLaws.{variable_next, variable_stop}
 use Rattle.nodes.specs.NodeLaws.{last_got, last_stop, out_to}
 use Rattle.nodes.proofs.out_node.Goals as goal
 
-pub variable_field-name-requires : goal.variable_field-name-requires
-variable_field-name-requires c = search (rules, variable_within)
-
-pub returns-in_default : goal.returns-in_default
+pub returns-in_err-var : goal.returns-in_err-var
 unfolding node_of
-returns-in_default c = search (rules, variable_next, variable_stop)
+returns-in_err-var c = record { is = variable_stop c.in_err-var.ensures c.from_residual.ensures.1 }
 
-pub targets_end-last-requires : goal.targets_end-last-requires
-targets_end-last-requires c = search (rules, variable_within)
-
-pub returns-in_default-last : goal.returns-in_default-last
+pub returns-in_err-to : goal.returns-in_err-to
 unfolding node_of
-returns-in_default-last c = search (rules, variable_next, variable_stop, last_stop)
+returns-in_err-to c = record { is = variable_next c.in_ok-var.ensures (λ x0 h0. last_stop c.in_err-to.ensures c.from_residual-in_err-to.ensures.1) }
 
 pub returns : goal.returns
 unfolding node_of
-returns c = search (rules, variable_next, last_got, out_to)
+returns c = record { is = variable_next c.in_ok-var.ensures (λ x0 h0. last_got c.in_ok-to.ensures (λ x h. out_to h0 h)) }

@@ -1,30 +1,20 @@
-use Rattle.std.proofs.Common.{rules}
 use Rattle.text.specs.Format.{node_of}
-use Rattle.fields.specs.FieldLaws.{number_next, number_stop, number_within, variable_next, variable_stop, variable_within}
+use Rattle.fields.specs.FieldLaws.{number_next, number_stop, variable_next, variable_stop}
 use Rattle.nodes.specs.NodeLaws.{last_got, last_stop, recv_to}
 use Rattle.nodes.proofs.recv_node.Goals as goal
 
-pub number_field-queue_field-requires : goal.number_field-queue_field-requires
-number_field-queue_field-requires c = search (rules, number_within, variable_within)
-
-pub returns-in_default : goal.returns-in_default
+pub returns-in_err-queue : goal.returns-in_err-queue
 unfolding node_of
-returns-in_default c = search (rules, number_next, number_stop)
+returns-in_err-queue c = record { is = number_stop c.in_err-queue.ensures c.from_residual.ensures.1 }
 
-pub variable_field-name-requires : goal.variable_field-name-requires
-variable_field-name-requires c = search (rules, number_within, variable_within)
-
-pub returns-in_default-name : goal.returns-in_default-name
+pub returns-in_err-var : goal.returns-in_err-var
 unfolding node_of
-returns-in_default-name c = search (rules, number_next, number_stop, variable_next, variable_stop)
+returns-in_err-var c = record { is = number_next c.in_ok-queue.ensures (variable_stop c.in_err-var.ensures c.from_residual-in_err-var.ensures.1) }
 
-pub targets_end-last-requires : goal.targets_end-last-requires
-targets_end-last-requires c = search (rules, number_within, variable_within)
-
-pub returns-in_default-last : goal.returns-in_default-last
+pub returns-in_err-to : goal.returns-in_err-to
 unfolding node_of
-returns-in_default-last c = search (rules, number_next, number_stop, variable_next, variable_stop, last_stop)
+returns-in_err-to c = record { is = number_next c.in_ok-queue.ensures (variable_next c.in_ok-var.ensures (λ x1 h1. last_stop c.in_err-to.ensures c.from_residual-in_err-to.ensures.1)) }
 
 pub returns : goal.returns
 unfolding node_of
-returns c = search (rules, number_next, variable_next, last_got, recv_to)
+returns c = record { is = number_next c.in_ok-queue.ensures (variable_next c.in_ok-var.ensures (λ x1 h1. last_got c.in_ok-to.ensures (λ x h. recv_to h1 h))) }

@@ -1,25 +1,15 @@
-use Rattle.std.proofs.Common.{rules}
 use Rattle.text.specs.Format.{node_of}
-use Rattle.fields.specs.FieldLaws.{number_next, number_stop, number_within, op_next, op_stop, op_within}
+use Rattle.fields.specs.FieldLaws.{number_next, number_stop, word_next, word_stop}
 use Rattle.nodes.proofs.set_node.Goals as goal
 
-pub number_word-var_field-requires : goal.number_word-var_field-requires
-number_word-var_field-requires c = search (rules, number_within, op_within)
-
-pub returns-in_default : goal.returns-in_default
+pub returns-in_err-var : goal.returns-in_err-var
 unfolding node_of
-returns-in_default c = search (rules, number_next, number_stop)
+returns-in_err-var c = record { is = number_stop c.in_err-var.ensures c.from_residual.ensures.1 }
 
-pub operation_field-word-requires : goal.operation_field-word-requires
-operation_field-word-requires c = search (rules, number_within, op_within)
-
-pub returns-in_default-word : goal.returns-in_default-word
+pub returns-in_err-op : goal.returns-in_err-op
 unfolding node_of
-returns-in_default-word c = search (rules, number_next, number_stop, op_next, op_stop)
-
-pub set_operands-requires : goal.set_operands-requires
-set_operands-requires c = search (rules, number_within, op_within)
+returns-in_err-op c = record { is = number_next c.in_ok-var.ensures (word_stop c.in_err-op.ensures c.from_residual-in_err-op.ensures.1) }
 
 pub returns : goal.returns
 unfolding node_of
-returns c = search (rules, number_next, op_next)
+returns c = record { is = number_next c.in_ok-var.ensures (word_next c.in_ok-op.ensures (c.set_operands.ensures)) }

@@ -1,23 +1,16 @@
-use Rattle.std.proofs.Common.{rules}
 use Rattle.text.specs.Format.{node_of}
-use Rattle.fields.specs.FieldLaws.{number_next, number_stop, number_within}
+use Rattle.fields.specs.FieldLaws.{number_next, number_stop}
 use Rattle.nodes.specs.NodeLaws.{last_got, last_stop, signal_to}
 use Rattle.nodes.proofs.signal_node.Goals as goal
 
-pub number_field-sem_field-requires : goal.number_field-sem_field-requires
-number_field-sem_field-requires c = search (rules, number_within)
-
-pub returns-in_default : goal.returns-in_default
+pub returns-in_err-sem : goal.returns-in_err-sem
 unfolding node_of
-returns-in_default c = search (rules, number_next, number_stop)
+returns-in_err-sem c = record { is = number_stop c.in_err-sem.ensures c.from_residual.ensures.1 }
 
-pub targets_end-last-requires : goal.targets_end-last-requires
-targets_end-last-requires c = search (rules, number_within)
-
-pub returns-in_default-last : goal.returns-in_default-last
+pub returns-in_err-to : goal.returns-in_err-to
 unfolding node_of
-returns-in_default-last c = search (rules, number_next, number_stop, last_stop)
+returns-in_err-to c = record { is = number_next c.in_ok-sem.ensures (last_stop c.in_err-to.ensures c.from_residual-in_err-to.ensures.1) }
 
 pub returns : goal.returns
 unfolding node_of
-returns c = search (rules, number_next, last_got, signal_to)
+returns c = record { is = number_next c.in_ok-sem.ensures (last_got c.in_ok-to.ensures (λ x h. signal_to h)) }

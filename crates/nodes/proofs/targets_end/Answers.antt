@@ -1,19 +1,12 @@
-use Rattle.std.proofs.Common.{rules}
-use Rattle.fields.specs.FieldLaws.{set_within}
-use Rattle.nodes.specs.NodeLaws.{targets_fed, targets_stop, targets_unfed}
+use Rattle.std.proofs.Common.{sym}
+use Rattle.fields.specs.FieldLaws.{list_next, list_stop, feed_last, feed_stop}
 use Rattle.nodes.proofs.targets_end.Goals as goal
 
-pub ascending_word-set-requires : goal.ascending_word-set-requires
-ascending_word-set-requires c = search (rules, set_within)
+pub returns-in_err-to : goal.returns-in_err-to
+returns-in_err-to c = list_stop c.in_err-to.ensures c.from_residual.ensures.1
 
-pub returns-in_default : goal.returns-in_default
-returns-in_default c = search (rules, targets_stop, targets_unfed)
-
-pub feed-end-requires : goal.feed-end-requires
-feed-end-requires c = search (rules, set_within)
-
-pub returns-in_default-end : goal.returns-in_default-end
-returns-in_default-end c = search (rules, targets_stop, targets_unfed)
+pub returns-in_err-e : goal.returns-in_err-e
+returns-in_err-e c = list_next c.in_ok-to.ensures (λ x0 h0. feed_stop c.in_err-e.ensures c.from_residual-in_err-e.ensures.1)
 
 pub returns : goal.returns
-returns c = search (rules, targets_fed)
+returns c = list_next c.in_ok-to.ensures (λ x0 h0. feed_last c.in_ok-e.ensures (sym h0))

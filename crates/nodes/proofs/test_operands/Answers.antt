@@ -1,34 +1,18 @@
-use Rattle.std.proofs.Common.{rules}
-use Rattle.fields.specs.FieldLaws.{operand_next, operand_stop, operand_within, set_next, set_stop, set_within}
-use Rattle.nodes.specs.NodeLaws.{last_got, last_stop, no_fault, test_no}
+use Rattle.fields.specs.FieldLaws.{operand_next, operand_stop, list_next, list_stop}
+use Rattle.nodes.specs.NodeLaws.{last_got, last_stop, test_no, operand_of}
 use Rattle.nodes.proofs.test_operands.Goals as goal
 
-pub returns-in_default : goal.returns-in_default
-returns-in_default c = search (rules, operand_stop)
+pub returns-in_err-p : goal.returns-in_err-p
+returns-in_err-p c = operand_stop c.in_err-p.ensures c.from_residual.ensures.1
 
-pub operand_field-b_field-requires : goal.operand_field-b_field-requires
-operand_field-b_field-requires c = search (rules, operand_within)
+pub returns-in_err-q : goal.returns-in_err-q
+returns-in_err-q c = operand_next c.in_ok-p.ensures (operand_stop c.in_err-q.ensures c.from_residual-in_err-q.ensures.1)
 
-pub returns-in_default-b_field : goal.returns-in_default-b_field
-returns-in_default-b_field c = search (rules, operand_next, operand_stop)
+pub returns-in_err-yes : goal.returns-in_err-yes
+returns-in_err-yes c = operand_next c.in_ok-p.ensures (operand_next c.in_ok-q.ensures (list_stop c.in_err-yes.ensures c.from_residual-in_err-yes.ensures.1))
 
-pub ascending_word-yes_field-requires : goal.ascending_word-yes_field-requires
-ascending_word-yes_field-requires c = search (rules, operand_within)
-
-pub returns-in_default-yes_field : goal.returns-in_default-yes_field
-returns-in_default-yes_field c = search (rules, operand_next, set_stop)
-
-pub targets_end-last-requires : goal.targets_end-last-requires
-targets_end-last-requires c = (search (rules, set_within), c.requires.1.nodes)
-
-pub returns-in_default-last : goal.returns-in_default-last
-returns-in_default-last c = operand_next c.operand_field-a_field.ensures c.in-Is.is (search (rules, operand_next, set_next, last_stop))
-
-pub returns-in_default-a_field : goal.returns-in_default-a_field
-returns-in_default-a_field c = no_fault c.in_default-a_field.is
-
-pub returns-in_default-b_field-2 : goal.returns-in_default-b_field-2
-returns-in_default-b_field-2 c = no_fault c.in_default-b_field-2.is
+pub returns-in_err-no : goal.returns-in_err-no
+returns-in_err-no c = operand_next c.in_ok-p.ensures (operand_next c.in_ok-q.ensures (list_next c.in_ok-yes.ensures (λ x2 h2. last_stop c.in_err-no.ensures c.from_residual-in_err-no.ensures.1)))
 
 pub returns : goal.returns
-returns c = operand_next c.operand_field-a_field.ensures c.in-Is.is (search (rules, operand_next, set_next, last_got, test_no))
+returns c = operand_next c.in_ok-p.ensures (operand_next c.in_ok-q.ensures (list_next c.in_ok-yes.ensures (λ x2 h2. last_got c.in_ok-no.ensures (λ x h. test_no (operand_of c.in_ok-p.was c.unwrap-a.ensures) (operand_of c.in_ok-q.was c.unwrap-b.ensures) h2 h))))

@@ -5,5 +5,5 @@ use Rattle.procs.proofs.below.Goals as goal
 pub returns-then-further : goal.returns-then-further
 returns-then-further c = search (rules, below_further)
 
-pub returns : goal.returns
-returns c = search (rules, below_next)
+pub returns-else-further : goal.returns-else-further
+returns-else-further c = search (rules, below_next)

@@ -1,15 +1,8 @@
-use Rattle.std.proofs.Common.{rules}
-use Rattle.procs.specs.NodesLaws.{stands_at, stands_differs, stands_broken}
+use Rattle.procs.specs.NodesLaws.{stands_at, stands_broken}
 use Rattle.procs.proofs.node_stands.Goals as goal
 
--- src/lib.rt:66:1
-pub returns-in-At : goal.returns-in-At
-returns-in-At c = search (rules, stands_at)
+pub returns-in-Ok : goal.returns-in-Ok
+returns-in-Ok c = stands_at c.in-Ok.ensures
 
--- src/lib.rt:66:1
-pub returns-in-Differs : goal.returns-in-Differs
-returns-in-Differs c = search (rules, stands_differs)
-
--- src/lib.rt:66:1
-pub returns-in-Broken : goal.returns-in-Broken
-returns-in-Broken c = search (rules, stands_broken)
+pub returns-in-Err-Ended : goal.returns-in-Err-Ended
+returns-in-Err-Ended c = stands_broken (rw c.in-Err-Ended.field-0-is at c.in-Err-Ended.ensures)

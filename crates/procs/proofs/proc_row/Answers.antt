@@ -1,12 +1,22 @@
-use Rattle.std.proofs.Common.{rules}
-use Rattle.procs.specs.ProcLaws.{row_refused, row_is, head_within, scope_fits, head_nodes}
+use Rattle.std.proofs.Common.{◌≡◌, rules, refl, Ok}
+use Rattle.procs.specs.ProcLaws.{row_refused, row_is, row_stop, head_within, scope_fits, head_nodes}
 use Rattle.procs.proofs.proc_row.Goals as goal
 
-pub returns-in_default : goal.returns-in_default
-returns-in_default c = search (rules, row_refused)
+pub returns-in_err-head : goal.returns-in_err-head
+returns-in_err-head c = row_refused c.args.counts c.next_proc.ensures (search rules)
 
-pub node_rows-body-requires : goal.node_rows-body-requires
-node_rows-body-requires c = (search (rules, head_within), search (rules, scope_fits), search (rules, head_nodes), search rules)
+pub node_rows-requires : goal.node_rows-requires
+node_rows-requires c =
+    let q : c.next_proc.result ≡ Ok (c.in_ok-head.head, c.in_ok-head.e) = search rules in
+    let m = rw q at c.next_proc.ensures in
+    (head_within m, scope_fits m c.requires.1, head_nodes m, search rules, refl)
+
+pub returns-in_err-reached : goal.returns-in_err-reached
+returns-in_err-reached c =
+    let q : c.next_proc.result ≡ Ok (c.in_ok-head.head, c.in_ok-head.e) = search rules in
+    row_stop (rw q at c.next_proc.ensures) c.args.counts c.args.line c.in_err-reached.ensures c.from_residual-in_err-reached.ensures.1
 
 pub returns : goal.returns
-returns c = search (rules, row_is)
+returns c =
+    let q : c.next_proc.result ≡ Ok (c.in_ok-head.head, c.in_ok-head.e) = search rules in
+    row_is (rw q at c.next_proc.ensures) c.args.counts c.args.line c.in_ok-reached.ensures

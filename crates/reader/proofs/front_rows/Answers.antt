@@ -1,23 +1,35 @@
 -- `reader::front_rows` reads the lines before the procedures.
-use Rattle.std.proofs.Common.{rules}
+use Rattle.std.proofs.Common.{◌≡◌, rules, Ok}
 use Rattle.reader.specs.ReaderLaws.{head_stop, head_place, counts_stop, counts_place, counts_fit, front_stop, front_end}
 use Rattle.reader.proofs.front_rows.Goals as goal
 
-pub returns-in_default : goal.returns-in_default
-returns-in_default c = search (rules, head_stop)
+pub returns-in_err-trap : goal.returns-in_err-trap
+returns-in_err-trap c = head_stop c.next_head.ensures (search rules)
 
-pub next_counts-row-requires : goal.next_counts-row-requires
-next_counts-row-requires c = search (rules, head_place)
+pub next_counts-requires : goal.next_counts-requires
+next_counts-requires c =
+    let q : c.next_head.result ≡ Ok ((c.in_ok-trap.trap, c.in_ok-trap.closed), c.in_ok-trap.a) = search rules in
+    head_place c.next_head.ensures q
 
-pub returns-in_default-row : goal.returns-in_default-row
-returns-in_default-row c = search (rules, counts_stop)
+pub returns-in_err-counts : goal.returns-in_err-counts
+returns-in_err-counts c =
+    let q : c.next_head.result ≡ Ok ((c.in_ok-trap.trap, c.in_ok-trap.closed), c.in_ok-trap.a) = search rules in
+    counts_stop c.next_head.ensures q c.next_counts.ensures (search rules)
 
-pub object_rows-o-requires : goal.object_rows-o-requires
-object_rows-o-requires c = (search (rules, counts_place), search (rules, counts_fit), search rules)
+pub object_rows-requires : goal.object_rows-requires
+object_rows-requires c =
+    let q : c.next_head.result ≡ Ok ((c.in_ok-trap.trap, c.in_ok-trap.closed), c.in_ok-trap.a) = search rules in
+    let p : c.next_counts.result ≡ Ok (c.in_ok-counts.counts, c.in_ok-counts.b) = search rules in
+    (counts_place c.next_head.ensures q c.next_counts.ensures p, counts_fit c.next_head.ensures q c.next_counts.ensures p, search rules)
 
-pub returns-in_default-end : goal.returns-in_default-end
-returns-in_default-end c = front_stop c.next_head-head.ensures c.in-Is.is c.next_counts-row.ensures c.in-Is-row.is
-    c.object_rows-o.ensures c.in_default-end.is c.fault_of.ensures c.no_front-in_default-end.ensures
+pub returns-in_err-objects : goal.returns-in_err-objects
+returns-in_err-objects c =
+    let q : c.next_head.result ≡ Ok ((c.in_ok-trap.trap, c.in_ok-trap.closed), c.in_ok-trap.a) = search rules in
+    let p : c.next_counts.result ≡ Ok (c.in_ok-counts.counts, c.in_ok-counts.b) = search rules in
+    front_stop c.next_head.ensures q c.next_counts.ensures p c.in_err-objects.ensures c.from_residual-in_err-objects.ensures.1
 
 pub returns : goal.returns
-returns c = search (rules, front_end)
+returns c =
+    let q : c.next_head.result ≡ Ok ((c.in_ok-trap.trap, c.in_ok-trap.closed), c.in_ok-trap.a) = search rules in
+    let p : c.next_counts.result ≡ Ok (c.in_ok-counts.counts, c.in_ok-counts.b) = search rules in
+    front_end c.next_head.ensures q c.next_counts.ensures p c.in_ok-objects.ensures

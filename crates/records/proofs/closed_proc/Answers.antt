@@ -1,28 +1,17 @@
-use Rattle.std.proofs.Common.{◌<◌, arith, rules}
-use Rattle.fields.specs.FieldLaws.{feed_last, feed_stop, set_next, set_stop, set_within}
+use Rattle.std.proofs.Common.{◌<◌, rules, arith}
+use Rattle.std.proofs.lemmas.Result.{IfOk-from_err}
+use Rattle.fields.specs.FieldLaws.{list_next, list_stop, feed_last, feed_stop}
 use Rattle.records.specs.LineLaws.{head_drop, set_small}
 use Rattle.records.proofs.closed_proc.Goals as goal
 
--- src/lib.rt:353:9
-pub ascending_field-list-requires : goal.ascending_field-list-requires
-ascending_field-list-requires c = search (rules, set_within)
+pub returns-in_err-drop : goal.returns-in_err-drop
+returns-in_err-drop c = record { is = list_stop c.in_err-drop.ensures c.from_residual.ensures.1; fits = IfOk-from_err _ _ c.from_residual.ensures.0 }
 
--- src/lib.rt:355:9
-pub returns-in_default : goal.returns-in_default
-returns-in_default c = search (rules, set_stop)
+pub returns-in_err-e : goal.returns-in_err-e
+returns-in_err-e c = record { is = list_next c.in_ok-drop.ensures (λ x0 h0. feed_stop c.in_err-e.ensures c.from_residual-in_err-e.ensures.1); fits = IfOk-from_err _ _ c.from_residual-in_err-e.ensures.0 }
 
--- src/lib.rt:357:9
-pub feed-end-requires : goal.feed-end-requires
-feed-end-requires c = search (rules, set_within)
-
--- src/lib.rt:359:9
-pub returns-in_default-end : goal.returns-in_default-end
-returns-in_default-end c = search (rules, set_stop, set_next, feed_stop)
-
--- src/lib.rt:365:15
 pub overflow_cast-head : goal.overflow_cast-head
-overflow_cast-head c = let h : c.in-Is.drop < 256 = search (rules, set_small) in omega arith
+overflow_cast-head c = let h : c.in_ok-drop.drop < 256 = set_small c.in_ok-drop.ensures (search rules) in omega arith
 
--- src/lib.rt:349:1
 pub returns : goal.returns
-returns c = search (rules, set_next, feed_last, head_drop)
+returns c = record { is = list_next c.in_ok-drop.ensures (λ x0 h0. feed_last c.in_ok-e.ensures (head_drop h0)); fits = search rules }

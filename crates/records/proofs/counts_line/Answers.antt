@@ -1,27 +1,12 @@
-use Rattle.std.proofs.Common.{rules}
-use Rattle.fields.specs.FieldLaws.{choice_within, number_below, number_next, number_stop, number_within}
+use Rattle.std.proofs.lemmas.Result.{IfOk-from_err}
+use Rattle.fields.specs.FieldLaws.{number_next, number_stop}
 use Rattle.records.proofs.counts_line.Goals as goal
 
--- src/lib.rt:126:9
-pub number_field-first-requires : goal.number_field-first-requires
-number_field-first-requires c = search (rules, number_within, number_below, choice_within)
+pub returns-in_err-tasks : goal.returns-in_err-tasks
+returns-in_err-tasks c = record { is = number_stop c.in_err-tasks.ensures c.from_residual.ensures.1; fit = IfOk-from_err _ _ c.from_residual.ensures.0 }
 
--- src/lib.rt:128:9
-pub returns-in_default : goal.returns-in_default
-returns-in_default c = search (rules, number_next, number_stop)
+pub returns-in_err-procs : goal.returns-in_err-procs
+returns-in_err-procs c = record { is = number_next c.in_ok-tasks.ensures (number_stop c.in_err-procs.ensures c.from_residual-in_err-procs.ensures.1); fit = IfOk-from_err _ _ c.from_residual-in_err-procs.ensures.0 }
 
--- src/lib.rt:130:9
-pub number_field-second-requires : goal.number_field-second-requires
-number_field-second-requires c = search (rules, number_within)
-
--- src/lib.rt:132:9
-pub returns-in_default-second : goal.returns-in_default-second
-returns-in_default-second c = search (rules, number_next, number_stop)
-
--- src/lib.rt:134:5
-pub last_counts-requires : goal.last_counts-requires
-last_counts-requires c = search (rules, number_within, number_below)
-
--- src/lib.rt:122:1
 pub returns : goal.returns
-returns c = search (rules, number_next)
+returns c = record { is = number_next c.in_ok-tasks.ensures (number_next c.in_ok-procs.ensures (c.last_counts.ensures.is)); fit = c.last_counts.ensures.fit }

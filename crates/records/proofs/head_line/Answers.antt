@@ -1,31 +1,15 @@
-use Rattle.std.proofs.Common.{rules}
-use Rattle.fields.specs.FieldLaws.{choice_next, choice_stop, choice_within, feed_last, feed_stop, number_next, number_stop, number_within}
+use Rattle.std.proofs.Common.{refl}
+use Rattle.fields.specs.FieldLaws.{number_next, number_stop, word_next, word_stop, feed_last, feed_stop}
 use Rattle.records.proofs.head_line.Goals as goal
 
--- src/lib.rt:80:9
-pub number_field-trap-requires : goal.number_field-trap-requires
-number_field-trap-requires c = search (rules, number_within, choice_within)
+pub returns-in_err-n : goal.returns-in_err-n
+returns-in_err-n c = number_stop c.in_err-n.ensures c.from_residual.ensures.1
 
--- src/lib.rt:82:9
-pub returns-in_default : goal.returns-in_default
-returns-in_default c = search (rules, number_next, number_stop)
+pub returns-in_err-closed : goal.returns-in_err-closed
+returns-in_err-closed c = number_next c.in_ok-n.ensures (word_stop c.in_err-closed.ensures c.from_residual-in_err-closed.ensures.1)
 
--- src/lib.rt:84:9
-pub choice_field-form-requires : goal.choice_field-form-requires
-choice_field-form-requires c = search (rules, number_within, choice_within)
+pub returns-in_err-e : goal.returns-in_err-e
+returns-in_err-e c = number_next c.in_ok-n.ensures (word_next c.in_ok-closed.ensures (feed_stop c.in_err-e.ensures c.from_residual-in_err-e.ensures.1))
 
--- src/lib.rt:86:9
-pub returns-in_default-form : goal.returns-in_default-form
-returns-in_default-form c = search (rules, number_next, number_stop, choice_next, choice_stop)
-
--- src/lib.rt:88:9
-pub feed-end-requires : goal.feed-end-requires
-feed-end-requires c = search (rules, number_within, choice_within)
-
--- src/lib.rt:90:9
-pub returns-in_default-end : goal.returns-in_default-end
-returns-in_default-end c = search (rules, number_next, number_stop, choice_next, choice_stop, feed_stop)
-
--- src/lib.rt:76:1
 pub returns : goal.returns
-returns c = search (rules, number_next, choice_next, feed_last)
+returns c = number_next c.in_ok-n.ensures (word_next c.in_ok-closed.ensures (feed_last c.in_ok-e.ensures refl))

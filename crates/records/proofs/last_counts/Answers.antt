@@ -1,31 +1,16 @@
-use Rattle.std.proofs.Common.{rules}
-use Rattle.fields.specs.FieldLaws.{choice_within, feed_last, feed_stop, number_below, number_next, number_stop, number_within}
+use Rattle.std.proofs.Common.{refl, rules}
+use Rattle.std.proofs.lemmas.Result.{IfOk-from_err}
+use Rattle.fields.specs.FieldLaws.{number_below, number_next, number_stop, feed_last, feed_stop}
 use Rattle.records.proofs.last_counts.Goals as goal
 
--- src/lib.rt:100:9
-pub number_field-third-requires : goal.number_field-third-requires
-number_field-third-requires c = search (rules, number_within, number_below, choice_within)
+pub returns-in_err-sems : goal.returns-in_err-sems
+returns-in_err-sems c = record { is = number_stop c.in_err-sems.ensures c.from_residual.ensures.1; fit = IfOk-from_err _ _ c.from_residual.ensures.0 }
 
--- src/lib.rt:102:9
-pub returns-in_default : goal.returns-in_default
-returns-in_default c = search (rules, number_next, number_stop)
+pub returns-in_err-queues : goal.returns-in_err-queues
+returns-in_err-queues c = record { is = number_next c.in_ok-sems.ensures (number_stop c.in_err-queues.ensures c.from_residual-in_err-queues.ensures.1); fit = IfOk-from_err _ _ c.from_residual-in_err-queues.ensures.0 }
 
--- src/lib.rt:104:9
-pub number_field-fourth-requires : goal.number_field-fourth-requires
-number_field-fourth-requires c = search (rules, number_within)
+pub returns-in_err-e : goal.returns-in_err-e
+returns-in_err-e c = record { is = number_next c.in_ok-sems.ensures (number_next c.in_ok-queues.ensures (feed_stop c.in_err-e.ensures c.from_residual-in_err-e.ensures.1)); fit = IfOk-from_err _ _ c.from_residual-in_err-e.ensures.0 }
 
--- src/lib.rt:106:9
-pub returns-in_default-fourth : goal.returns-in_default-fourth
-returns-in_default-fourth c = search (rules, number_next, number_stop)
-
--- src/lib.rt:108:9
-pub feed-end-requires : goal.feed-end-requires
-feed-end-requires c = search (rules, number_within, choice_within)
-
--- src/lib.rt:110:9
-pub returns-in_default-end : goal.returns-in_default-end
-returns-in_default-end c = search (rules, number_next, number_stop, feed_stop)
-
--- src/lib.rt:96:1
 pub returns : goal.returns
-returns c = search (rules, number_next, feed_last, number_below)
+returns c = record { is = number_next c.in_ok-sems.ensures (number_next c.in_ok-queues.ensures (feed_last c.in_ok-e.ensures refl)); fit = record { tasks = search rules; procs = search rules; sems = number_below c.in_ok-sems.ensures; queues = number_below c.in_ok-queues.ensures } }

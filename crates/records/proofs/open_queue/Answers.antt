@@ -1,15 +1,9 @@
-use Rattle.std.proofs.Common.{rules}
-use Rattle.fields.specs.FieldLaws.{choice_within, feed_last, feed_stop, number_within}
+use Rattle.std.proofs.Common.{refl}
+use Rattle.fields.specs.FieldLaws.{feed_last, feed_stop}
 use Rattle.records.proofs.open_queue.Goals as goal
 
--- src/lib.rt:175:9
-pub feed-end-requires : goal.feed-end-requires
-feed-end-requires c = search (rules, number_within, choice_within)
+pub returns-in_err-e : goal.returns-in_err-e
+returns-in_err-e c = feed_stop c.in_err-e.ensures c.from_residual.ensures.1
 
--- src/lib.rt:177:9
-pub returns-in_default : goal.returns-in_default
-returns-in_default c = search (rules, feed_stop)
-
--- src/lib.rt:171:1
 pub returns : goal.returns
-returns c = search (rules, feed_last)
+returns c = feed_last c.in_ok-e.ensures refl

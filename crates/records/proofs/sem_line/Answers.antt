@@ -1,31 +1,15 @@
-use Rattle.std.proofs.Common.{rules}
-use Rattle.fields.specs.FieldLaws.{choice_within, feed_last, feed_stop, number_next, number_stop, number_within}
+use Rattle.std.proofs.Common.{refl}
+use Rattle.fields.specs.FieldLaws.{number_next, number_stop, feed_last, feed_stop}
 use Rattle.records.proofs.sem_line.Goals as goal
 
--- src/lib.rt:156:9
-pub number_field-index-requires : goal.number_field-index-requires
-number_field-index-requires c = search (rules, number_within, choice_within)
+pub returns-in_err-a : goal.returns-in_err-a
+returns-in_err-a c = number_stop c.in_err-a.ensures c.from_residual.ensures.1
 
--- src/lib.rt:158:9
-pub returns-in_default : goal.returns-in_default
-returns-in_default c = search (rules, number_next, number_stop)
+pub returns-in_err-n : goal.returns-in_err-n
+returns-in_err-n c = number_next c.in_ok-a.ensures (number_stop c.in_err-n.ensures c.from_residual-in_err-n.ensures.1)
 
--- src/lib.rt:160:9
-pub number_field-count-requires : goal.number_field-count-requires
-number_field-count-requires c = search (rules, number_within)
+pub returns-in_err-e : goal.returns-in_err-e
+returns-in_err-e c = number_next c.in_ok-a.ensures (number_next c.in_ok-n.ensures (feed_stop c.in_err-e.ensures c.from_residual-in_err-e.ensures.1))
 
--- src/lib.rt:162:9
-pub returns-in_default-count : goal.returns-in_default-count
-returns-in_default-count c = search (rules, number_next, number_stop)
-
--- src/lib.rt:164:9
-pub feed-end-requires : goal.feed-end-requires
-feed-end-requires c = search (rules, number_within, choice_within)
-
--- src/lib.rt:166:9
-pub returns-in_default-end : goal.returns-in_default-end
-returns-in_default-end c = search (rules, number_next, number_stop, feed_stop)
-
--- src/lib.rt:152:1
 pub returns : goal.returns
-returns c = search (rules, number_next, feed_last)
+returns c = number_next c.in_ok-a.ensures (number_next c.in_ok-n.ensures (feed_last c.in_ok-e.ensures refl))
