@@ -11,12 +11,15 @@ ghost use Rattle.closing.specs.Close.{close, refusal};
 ghost use Rattle.closing.specs.Program.{printed};
 ghost use Rattle.exploring.specs.Explore.{explore};
 ghost use Rattle.put.specs.Put.{Put};
+ghost use Rattle.text.specs.Structure.{table_fault};
+ghost use Rattle.faults.specs.FaultLaws.{judged};
+ghost use Rattle.bufshani.specs.Check.{number_of};
 
 use closing::Closing;
 use exploring::Exploring;
 use machine::{Entries, Frame, Running, State};
 use table::Table;
-use text::{Reading, Writing};
+use text::{Fault, Reading, Writing};
 
 fn refused(n: u8) -> Closing
     ensures { result ≡ refusal n }
@@ -29,13 +32,13 @@ fn refused(n: u8) -> Closing
     }
 }
 
-// The closer's answer for a table whose fault is n.
-fn close_checked(t: Table, n: u8) -> Closing
-    requires { n ≡ fault t }
+// The closer's answer for a table that is checked.
+fn close_checked(t: Table, checked: Result<(), Fault>) -> Closing
+    requires { checked ≡ judged (table_fault t) }
     ensures { result ≡ close t }
 {
-    if n != 0 {
-        return refused(n);
+    if let Err(f) = checked {
+        return refused(codes::number(f));
     }
     if t.closed {
         return refused(9);
@@ -67,38 +70,38 @@ fn no_state() -> State
     }
 }
 
-// The runner's answer for a table whose fault is n.
+// The runner's answer for a table that is checked.
 fn run_checked(
     t: Table,
-    n: u8,
+    checked: Result<(), Fault>,
     schedule: &[u8],
     values: &[i32],
     most: usize,
     log: &mut [u8],
 ) -> Running
-    requires { n ≡ fault t }
+    requires { checked ≡ judged (table_fault t) }
     ensures answer { result ≡ (run t schedule.now values.now most log.old).answer }
     ensures log { log.new ≡ (run t schedule.now values.now most log.old).log }
 {
-    if n != 0 {
+    if let Err(f) = checked {
         let state = no_state();
         return Running {
             steps: 0,
             used: 0,
-            stop: n,
+            stop: codes::number(f),
             state,
         };
     }
     runner::run_valid(t, schedule, values, most, log)
 }
 
-// The explorer's answer for a table whose fault is n.
-fn explore_checked(t: Table, n: u8, depth: usize, bound: u64) -> Exploring
-    requires { n ≡ fault t }
+// The explorer's answer for a table that is checked.
+fn explore_checked(t: Table, checked: Result<(), Fault>, depth: usize, bound: u64) -> Exploring
+    requires { checked ≡ judged (table_fault t) }
     ensures { result ≡ explore t depth bound }
 {
-    if n != 0 {
-        return explore_answer::refused(n);
+    if let Err(f) = checked {
+        return explore_answer::refused(codes::number(f));
     }
     if t.closed {
         if 24 < depth {
@@ -109,15 +112,15 @@ fn explore_checked(t: Table, n: u8, depth: usize, bound: u64) -> Exploring
     explore_answer::refused(9)
 }
 
-// The writer's answer for a table whose fault is n.
-fn write_checked(t: Table, n: u8, out: &mut [u8]) -> Writing
-    requires { n ≡ fault t }
+// The writer's answer for a table that is checked.
+fn write_checked(t: Table, checked: Result<(), Fault>, out: &mut [u8]) -> Writing
+    requires { checked ≡ judged (table_fault t) }
     ensures answer { result ≡ (write_to t out.old).answer }
     ensures buffer { out.new ≡ (write_to t out.old).buffer }
 {
-    if n != 0 {
+    if let Err(f) = checked {
         return Writing {
-            number: n,
+            number: codes::number(f),
             line: 0,
             len: 0,
         };
@@ -125,9 +128,10 @@ fn write_checked(t: Table, n: u8, out: &mut [u8]) -> Writing
     writer::write_ready(t, out)
 }
 
-// The fault of a hand-made table, 0 if it has none.
-pub fn check(t: Table) -> u8
-    ensures { result ≡ fault t }
+// The first fault of a hand-made table, by the lines that it stands for.
+pub fn check(t: Table) -> Result<(), Fault>
+    ensures found { result ≡ judged (table_fault t) }
+    ensures number { number_of result ≡ fault t }
 {
     faults::fault(t)
 }
@@ -144,16 +148,14 @@ pub fn write(t: Table, out: &mut [u8]) -> Writing
     ensures answer { result ≡ (write_to t out.old).answer }
     ensures buffer { out.new ≡ (write_to t out.old).buffer }
 {
-    let n = faults::fault(t);
-    write_checked(t, n, out)
+    write_checked(t, faults::fault(t), out)
 }
 
 // The closed table of an open one.
 pub fn close(t: Table) -> Closing
     ensures { result ≡ close t }
 {
-    let n = faults::fault(t);
-    close_checked(t, n)
+    close_checked(t, faults::fault(t))
 }
 
 // Runs a schedule of task numbers, with a value list, the most dropped nodes per step and a log buffer.
@@ -161,16 +163,14 @@ pub fn run(t: Table, schedule: &[u8], values: &[i32], most: usize, log: &mut [u8
     ensures answer { result ≡ (run t schedule.now values.now most log.old).answer }
     ensures log { log.new ≡ (run t schedule.now values.now most log.old).log }
 {
-    let n = faults::fault(t);
-    run_checked(t, n, schedule, values, most, log)
+    run_checked(t, faults::fault(t), schedule, values, most, log)
 }
 
 // The first path of at most `depth` steps of a closed table that comes to a standstill or fails an assertion, in the order in which paths are tried, at most `bound` of them.
 pub fn explore(t: Table, depth: usize, bound: u64) -> Exploring
     ensures { result ≡ explore t depth bound }
 {
-    let n = faults::fault(t);
-    explore_checked(t, n, depth, bound)
+    explore_checked(t, faults::fault(t), depth, bound)
 }
 
 // What the closing program prints for a text: its bytes as far as the buffer reaches, and their number, at most 65,536.

@@ -9,7 +9,8 @@ use Rattle.text.specs.Reader.{late, first_late, good, bad}
 use Rattle.text.specs.Writer.{tidy}
 use Rattle.text.specs.Structure.{first_in, lines_fault, table_fault}
 use Rattle.text.proofs.LinedLaws.{lined_of}
-use Rattle.checks.specs.Judging.{judged, Fails, judged_first, judged_none}
+pub use Rattle.checks.specs.Judging.{judged}
+use Rattle.checks.specs.Judging.{Fails, judged_first, judged_none}
 use Rattle.late.specs.Late.{Counted}
 use Rattle.unused.specs.Unused.{Ranged}
 
