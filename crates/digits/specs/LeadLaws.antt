@@ -1,20 +1,19 @@
 -- Laws of the digits at a place: each says what a step of the code shows.
-use Rattle.std.specs.Prelude.{◌≡◌, ℕ, zero, suc, ◌+◌, ◌-◌, ◌*◌, ◌%◌, ◌<◌, ◌≤◌, true, false, ◌&&◌, ◌⊎◌, List, [], ◌∷◌, ◌++◌, length, take, drop, nat_le, slice_index, slice_index_or, slice_range}
+use Rattle.std.specs.Prelude.{Some, ◌≡◌, ℕ, zero, suc, ◌+◌, ◌-◌, ◌*◌, ◌%◌, ◌<◌, ◌≤◌, true, false, ◌&&◌, ◌⊎◌, List, [], ◌∷◌, ◌++◌, length, take, drop, nat_le, slice_index, slice_index_or, slice_range}
 use Rattle.std.proofs.Math.Path.{refl, sym, ap}
 use Rattle.std.proofs.Common.{◌∙◌, arith, drop_of_length-le, length-drop, length-append, drop-cons, drop-drop, length-take-le, le-leb, leb-true}
 use Rattle.std.proofs.Math.Logic.{inl, inr}
 use Rattle.std.proofs.lemmas.Bool.{lt-leb}
 use Rattle.text.specs.Number.{all_digits, is_digit, value, value_from}
 use Rattle.text.proofs.NumberLaws.{by_order, and_left, and_right, all_head, all_tail}
-use Rattle.digits.specs.declared.Num.TheVariants.{Good}
 use Rattle.digits.specs.declared.Lead.{Lead}
 use Rattle.digits.specs.Read.{digit_of, capped, digits_of, leading_digits, lead_from, lead_of, four_from, first_of}
 use Rattle.table.specs.Cases.{cases}
 
 -- ---- one digit
-pub digit_wraps : {b r : ℕ} → b < 256 → r < 256 → (r + 48) % 256 ≡ b → r ≡ digit_of b
+pub digit_wraps : (b : ℕ) → b < 256 → (b + 208) % 256 ≡ digit_of b
 unfolding digit_of
-digit_wraps {b} {r} h k e = by_order b 48 (λ l. rw (lt-leb 48 b l) (omega arith)) (λ l. rw (le-leb 48 b l) (omega arith))
+digit_wraps b h = by_order b 48 (λ l. rw (lt-leb 48 b l) (omega arith)) (λ l. rw (le-leb 48 b l) (omega arith))
 
 module _ (b : ℕ) {d : ℕ} (e : d ≡ digit_of b) where
   sides : ((48 ≤ b) × (d + 48 ≡ b)) ⊎ ((b < 48) × (208 ≤ d))
@@ -118,9 +117,9 @@ module _ {first : ℕ} {s : List ℕ} {from v i : ℕ} (m : Leading first s from
   pub lead_small : v ≤ 4294967296
   lead_small = m.small
 
-  pub lead_over : length s ≤ i → record { value = v; end = i } ≡ lead_from first s from
+  pub lead_over : length s ≤ i → record { value = v; end = length s } ≡ lead_from first s from
   unfolding leading_digits
-  lead_over h = lead_none v s i m.small (rw (drop_of_length-le s h)) ∙ m.same
+  lead_over h = let e : i ≡ length s = omega (arith, m.within) in rw e at (lead_none v s i m.small (rw (drop_of_length-le s h)) ∙ m.same)
 
   pub lead_on : {r : Lead} → r ≡ lead_from v s i → r ≡ lead_from first s from
   lead_on e = e ∙ m.same
@@ -159,7 +158,7 @@ module _ (v : ℕ) (s : List ℕ) (at : ℕ) (h : 4 ≤ length s - at) {a : ℕ}
   abbrev x : ℕ
   x = slice_index s at
 
-  pub four_first : 9 < a → record { value = v; end = at } ≡ four_from v s at
+  four_first : 9 < a → record { value = v; end = at } ≡ four_from v s at
   unfolding four_from all_digits
   four_first k = rw (le-leb 4 (length s - at) h, four_bytes s at h, digit_no x p k)
 
@@ -167,7 +166,7 @@ module _ (v : ℕ) (s : List ℕ) (at : ℕ) (h : 4 ≤ length s - at) {a : ℕ}
     abbrev y : ℕ
     y = slice_index s (at + 1)
 
-    pub four_second : 9 < b → record { value = v; end = at } ≡ four_from v s at
+    four_second : 9 < b → record { value = v; end = at } ≡ four_from v s at
     unfolding four_from all_digits
     four_second k = rw (le-leb 4 (length s - at) h, four_bytes s at h, digit_yes x p i, digit_no y q k)
 
@@ -175,7 +174,7 @@ module _ (v : ℕ) (s : List ℕ) (at : ℕ) (h : 4 ≤ length s - at) {a : ℕ}
       abbrev z : ℕ
       z = slice_index s (at + 2)
 
-      pub four_third : 9 < c → record { value = v; end = at } ≡ four_from v s at
+      four_third : 9 < c → record { value = v; end = at } ≡ four_from v s at
       unfolding four_from all_digits
       four_third k = rw (le-leb 4 (length s - at) h, four_bytes s at h, digit_yes x p i, digit_yes y q j, digit_no z r k)
 
@@ -183,9 +182,18 @@ module _ (v : ℕ) (s : List ℕ) (at : ℕ) (h : 4 ≤ length s - at) {a : ℕ}
         abbrev u : ℕ
         u = slice_index s (at + 3)
 
-        pub four_fourth : 9 < d → record { value = v; end = at } ≡ four_from v s at
+        four_fourth : 9 < d → record { value = v; end = at } ≡ four_from v s at
         unfolding four_from all_digits
         four_fourth k = rw (le-leb 4 (length s - at) h, four_bytes s at h, digit_yes x p i, digit_yes y q j, digit_yes z r l, digit_no u t k)
+
+pub four_none : (v : ℕ) (s : List ℕ) (at : ℕ) → 4 ≤ length s - at → {a b c d : ℕ}
+    → a ≡ digit_of (slice_index s at) → b ≡ digit_of (slice_index s (at + 1)) → c ≡ digit_of (slice_index s (at + 2)) → d ≡ digit_of (slice_index s (at + 3))
+    → (9 < a) ⊎ ((a ≤ 9) × (9 < b)) ⊎ ((a ≤ 9) × (b ≤ 9) × (9 < c)) ⊎ ((a ≤ 9) × (b ≤ 9) × (c ≤ 9) × (9 < d))
+    → record { value = v; end = at } ≡ four_from v s at
+four_none v s at h p q r t (inl k) = four_first v s at h p k
+four_none v s at h p q r t (inr (inl k)) = four_second v s at h p k.0 q k.1
+four_none v s at h p q r t (inr (inr (inl k))) = four_third v s at h p k.0 q k.1 r k.2
+four_none v s at h p q r t (inr (inr (inr k))) = four_fourth v s at h p k.0 q k.1 r k.2 t k.3
 
 pub four_is : {a b c d w : ℕ} → w ≡ a * 1000 + b * 100 + c * 10 + d → (v : ℕ) (s : List ℕ) (at : ℕ) → 4 ≤ length s - at
     → a ≤ 9 → a ≡ digit_of (slice_index s at) → b ≤ 9 → b ≡ digit_of (slice_index s (at + 1)) → c ≤ 9 → c ≡ digit_of (slice_index s (at + 2)) → d ≤ 9 → d ≡ digit_of (slice_index s (at + 3))
@@ -278,7 +286,7 @@ first_leading s at h q = four_leading (four s at h refl) (first_small s at h ref
 pub record LeadAt (s : List ℕ) (at v e : ℕ) : Type 0 where
   pub from : at ≤ e
   pub within : e ≤ length s
-  pub same : digits_of (slice_range s at e) ≡ Good v
+  pub same : digits_of (slice_range s at e) ≡ Some v
 
 pub lead_at : (s : List ℕ) (at : ℕ) {r : Lead} → r ≡ lead_of s at → at ≤ length s → LeadAt s at r.value r.end
 unfolding lead_from digits_of value

@@ -1,7 +1,5 @@
 -- What the number reader answers.
-use Rattle.std.specs.Prelude.{ℕ, ◌+◌, ◌-◌, min, Bool, true, false, cond, ◌&&◌, List, [], ◌∷◌, length, take, drop, nat_le}
-use Rattle.digits.specs.declared.Num.{Num}
-use Rattle.digits.specs.declared.Num.TheVariants.{Good, Bad}
+use Rattle.std.specs.Prelude.{None, Option, Some, ℕ, ◌+◌, ◌-◌, min, Bool, true, false, cond, ◌&&◌, List, [], ◌∷◌, length, take, drop, nat_le}
 use Rattle.digits.specs.declared.Lead.{Lead}
 use Rattle.text.specs.Number.{is_digit, all_digits, spelt, value, value_from}
 
@@ -9,18 +7,18 @@ use Rattle.text.specs.Number.{is_digit, all_digits, spelt, value, value_from}
 unfoldable pub digit_of : ℕ → ℕ
 digit_of b = cond (nat_le 48 b) (b - 48) (b + 208)
 
-abbrev pub pick_num : Bool → ℕ → Num
-pick_num true v = Good v
-pick_num false v = Bad
+abbrev pub pick_num : Bool → ℕ → Option ℕ
+pick_num true v = Some v
+pick_num false v = None
 
 -- the number, or 2^32 for any that is larger
 abbrev pub capped : ℕ → ℕ
 capped v = min v 4294967296
 
-unfoldable pub digits_of : List ℕ → Num
+unfoldable pub digits_of : List ℕ → Option ℕ
 digits_of t = pick_num (all_digits t) (capped (value t))
 
-unfoldable pub number_of : List ℕ → Num
+unfoldable pub number_of : List ℕ → Option ℕ
 number_of t = pick_num (spelt t) (capped (value t))
 
 -- ---- the digits at a place

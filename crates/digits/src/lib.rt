@@ -6,13 +6,6 @@ ghost use Rattle.std.specs.Prelude.{◌≡◌, ◌+◌, ◌-◌, ◌*◌, ◌≤
 ghost use Rattle.text.specs.Number.{spelt, value};
 ghost use Rattle.digits.specs.Read.{digit_of, capped, digits_of, number_of, lead_of, lead_from, four_from, first_of};
 
-// The number, or 2^32 for any that is larger; or none is spelt.
-#[derive(Clone, Copy)]
-pub enum Num {
-    Good(u64),
-    Bad,
-}
-
 // The number that the digits at a place say, at most 2^32, and where they end.
 #[derive(Clone, Copy)]
 pub struct Lead {
@@ -24,7 +17,7 @@ pub struct Lead {
 pub fn digit(b: u8) -> u8
     ensures { result ≡ digit_of b }
 {
-    std::num::wrapping_sub_u8(b, 48)
+    b.wrapping_sub(b'0')
 }
 
 // One digit more, at most 2^32.
@@ -32,28 +25,22 @@ fn push(v: u64, b: u8) -> u64
     requires { (v ≤ 4294967296) × (48 ≤ b) × (b ≤ 57) }
     ensures { result ≡ capped (v * 10 + (b - 48)) }
 {
-    let w = v * 10 + ((b - 48) as u64);
-    if 4294967296 < w { 4294967296 } else { w }
+    let w = v * 10 + u64::from(b - b'0');
+    w.min(4294967296)
 }
 
-// The number that digits say, at most 2^32.
-pub fn digit_run(t: &[u8]) -> Num
+// The number that digits say, or 2^32 for any that is larger.
+pub fn digit_run(t: &[u8]) -> Option<u64>
     ensures { result ≡ digits_of t.now }
 {
     let mut v: u64 = 0;
-    let mut i = 0;
-    while i < t.len() {
-        let b = t[i];
-        if b < 48 {
-            return Num::Bad;
+    for b in t {
+        if !b.is_ascii_digit() {
+            return None;
         }
-        if 57 < b {
-            return Num::Bad;
-        }
-        v = push(v, b);
-        i += 1;
+        v = push(v, *b);
     }
-    Num::Good(v)
+    Some(v)
 }
 
 // The digits at a place, behind digits that say another number.
@@ -62,17 +49,17 @@ fn further_digits(s: &[u8], from: usize, first: u64) -> Lead
     ensures { result ≡ lead_from first s.now from }
 {
     let mut v = first;
-    let mut i = from;
-    while i < s.len() {
+    for i in from..s.len() {
         let b = s[i];
-        let d = digit(b);
-        if 9 < d {
+        if 9 < digit(b) {
             return Lead { value: v, end: i };
         }
         v = push(v, b);
-        i += 1;
     }
-    Lead { value: v, end: i }
+    Lead {
+        value: v,
+        end: s.len(),
+    }
 }
 
 // The number that four digits say.
@@ -80,7 +67,7 @@ fn joined(a: u8, b: u8, c: u8, d: u8) -> u64
     requires { (a ≤ 9) × (b ≤ 9) × (c ≤ 9) × (d ≤ 9) }
     ensures { result ≡ a * 1000 + b * 100 + c * 10 + d }
 {
-    (a as u64) * 1000 + (b as u64) * 100 + (c as u64) * 10 + (d as u64)
+    u64::from(a) * 1000 + u64::from(b) * 100 + u64::from(c) * 10 + u64::from(d)
 }
 
 // Four digits more, if there are four. All are read before one is judged, so that they can be judged at once.
@@ -99,16 +86,7 @@ fn four_more(s: &[u8], from: usize, first: u64) -> Lead
     let b = digit(s[from + 1]);
     let c = digit(s[from + 2]);
     let d = digit(s[from + 3]);
-    if 9 < a {
-        return none;
-    }
-    if 9 < b {
-        return none;
-    }
-    if 9 < c {
-        return none;
-    }
-    if 9 < d {
+    if 9 < a || 9 < b || 9 < c || 9 < d {
         return none;
     }
     Lead {
@@ -136,36 +114,31 @@ pub fn digits_at(s: &[u8], at: usize) -> Lead
 {
     let lead = first_digits(s, at);
     let mut v = lead.value;
-    let mut i = lead.end;
-    while i < s.len() {
-        let b = s[i];
-        let d = digit(b);
+    for i in lead.end..s.len() {
+        let d = digit(s[i]);
         if 9 < d {
             return Lead { value: v, end: i };
         }
         if 429496729 <= v {
             return further_digits(s, i, v);
         }
-        v = v * 10 + (d as u64);
-        i += 1;
+        v = v * 10 + u64::from(d);
     }
-    Lead { value: v, end: i }
+    Lead {
+        value: v,
+        end: s.len(),
+    }
 }
 
-// The number that bytes spell.
-pub fn number(t: &[u8]) -> Num
+// The number that bytes spell, with no needless leading zero.
+pub fn number(t: &[u8]) -> Option<u64>
     ensures { result ≡ number_of t.now }
 {
-    let n = t.len();
-    if n == 0 {
-        return Num::Bad;
+    if t.is_empty() {
+        return None;
     }
-    if n == 1 {
-        return digit_run(t);
-    }
-    let b = t[0];
-    if b == 48 {
-        return Num::Bad;
+    if t[0] == b'0' && 1 < t.len() {
+        return None;
     }
     digit_run(t)
 }
@@ -175,23 +148,5 @@ pub fn less(a: &[u8], b: &[u8]) -> bool
     requires { (spelt a.now ≡ true) × (spelt b.now ≡ true) }
     ensures { result ≡ nat_lt (value a.now) (value b.now) }
 {
-    if a.len() < b.len() {
-        return true;
-    }
-    if b.len() < a.len() {
-        return false;
-    }
-    let mut i = 0;
-    while i < a.len() {
-        let x = a[i];
-        let y = b[i];
-        if x < y {
-            return true;
-        }
-        if y < x {
-            return false;
-        }
-        i += 1;
-    }
-    false // equal
+    (a.len(), a) < (b.len(), b)
 }

@@ -1,49 +1,66 @@
 -- Laws of a list's items: each says what a step of the code shows.
-use Rattle.std.specs.Prelude.{ℕ, suc, ◌+◌, ◌-◌, ◌*◌, ◌%◌, ◌^◌, ◌≤◌, ◌<◌, ◌≡◌, refl, Bool, true, false, ◌&&◌, not, List, [], ◌∷◌, ltb, leb, eqb, length, take, drop, get_or}
-use Rattle.std.proofs.Common.{sym, ◌∙◌, arith, one-mul, shl_exact, drop_of_length-le, length-drop, drop-drop}
+use Rattle.std.specs.Prelude.{ℕ, suc, ◌+◌, ◌-◌, ◌^◌, ◌≤◌, ◌<◌, ◌≡◌, refl, Bool, true, false, ◌&&◌, List, [], ◌∷◌, ltb, leb, eqb, length, take, drop, Option, Some, None, Ok, Err, ok_or, cond}
+use Rattle.std.proofs.Common.{sym, ◌∙◌, arith, length-drop, drop-drop, take_all, ltb-false}
 use Rattle.std.proofs.Math.Option.{none}
-use Rattle.std.proofs.Math.Numerals.{add-one}
-use Rattle.std.proofs.Math.Seq.{drop-cons}
-use borrow.Author.Tests.{lt-ltb, le-ltb, le-leb, lt-leb, ne_eqb}
+use Rattle.std.specs.List.{position_or_len}
+use Rattle.std.proofs.lemmas.List.Recursion.{is_position_or_len}
+use Rattle.std.proofs.lemmas.Option.{same_Some}
+use borrow.Author.Tests.{lt-ltb, le-ltb}
 use Rattle.table.specs.Cases.{cases}
 use Rattle.table.specs.Mask.{pick}
+use Rattle.text.specs.declared.Fault.{Fault}
 use Rattle.text.specs.Number.{spelt, value}
 use Rattle.text.proofs.NumberLaws.{by_order}
 use Rattle.text.specs.Value.{numeral, split, each}
-use Rattle.digits.specs.declared.Num.{Num}
-use Rattle.digits.specs.declared.Num.TheVariants.{Good, Bad}
 use Rattle.digits.specs.Read.{number_of, capped}
 use Rattle.digits.specs.NumeralLaws.{spelt_good, numeral_bad}
-use Rattle.lists.specs.declared.Item.{Item}
-use Rattle.lists.specs.declared.Item.TheVariants.{Is, Not}
 use Rattle.lists.specs.Items.{up_to, next_comma, CommaAt, more, bit_of, part, item_for, item_of}
 
+-- ---- from what `ok_or` gives
+pub ok_some : {A : Type 0} (o : Option A) (f : Fault) {v : A} → Ok v ≡ ok_or o f → o ≡ Some v
+ok_some None f q = cc
+ok_some (Some v) f q = cc
+
+pub err_none : {A : Type 0} (o : Option A) (f : Fault) {g : Fault} → Err g ≡ ok_or o f → (o ≡ None) × (g ≡ f)
+err_none None f q = (refl, cc)
+err_none (Some v) f q = cc
+
 -- ---- up to the next comma
-pub record Seeking (t : List ℕ) (from i : ℕ) : Type 0 where
-  pub from_on : from ≤ i
-  pub within : i ≤ length t
-  pub same : i + up_to (drop i t) ≡ from + up_to (drop from t)
+up_short : (s : List ℕ) → up_to s ≤ length s
+unfolding up_to
+up_short [] = omega arith
+up_short (b ∷ s) = cases (eqb b 44) (λ e. rw e (omega arith)) (λ e. rw e (omega (arith, up_short s)))
 
-pub seeking_start : (t : List ℕ) (from : ℕ) → from ≤ length t → Seeking t from from
-seeking_start t from h = record { from_on = omega arith; within = h; same = refl }
+abbrev pub is_comma : ℕ → Bool
+is_comma b = eqb b 44
 
-module _ {t : List ℕ} {from i : ℕ} (m : Seeking t from i) where
-  found : up_to (drop i t) ≡ 0 → CommaAt t from i
-  found e = record { same = omega (arith, m.same); from_on = m.from_on; within = m.within }
+-- where a comma is looked for finds what is said
+up_position : (s : List ℕ) → up_to s ≡ position_or_len is_comma s
+unfolding up_to
+up_position s = is_position_or_len up_to is_comma refl (λ x xs. cases (eqb x 44) (λ e. rw e) (λ e. rw e (omega arith))) s
 
-  pub seeking_comma : i < length t → get_or t i 0 ≡ 44 → CommaAt t from i
-  unfolding up_to
-  seeking_comma h e = found (rw (drop-cons t i 0 h, e))
+module _ (t : List ℕ) (from : ℕ) (h : from ≤ length t) {u : List ℕ} (w : u ≡ take (length t - from) (drop from t)) {r : Option ℕ}
+    (q : r ≡ cond (ltb (position_or_len is_comma u) (length u)) (Some (position_or_len is_comma u)) None) where
+  found : r ≡ cond (ltb (up_to (drop from t)) (length (drop from t))) (Some (up_to (drop from t))) None
+  found =
+      let e : u ≡ drop from t = w ∙ take_all (length t - from) (drop from t) (simp length-drop (omega arith)) in
+      rw (up_position (drop from t)) (rw e at q)
 
-  pub seeking_end : length t ≤ i → CommaAt t from i
-  unfolding up_to
-  seeking_end h = found (rw (drop_of_length-le t h))
+  pub comma_some : {n : ℕ} → r ≡ Some n → CommaAt t from (from + n)
+  comma_some {n} k = cases (ltb (up_to (drop from t)) (length (drop from t)))
+      (λ l.
+      let f : ◌≡◌ {A = Option ℕ} (Some n) (Some (up_to (drop from t))) = sym k ∙ (rw l at found) in
+      let e = same_Some n (up_to (drop from t)) f in
+      let d = up_short (drop from t) in
+      record { same = omega (arith, e); from_on = omega arith; within = omega (arith, e, d, length-drop from t) })
+      (λ l. absurd (let f : ◌≡◌ {A = Option ℕ} (Some n) None = sym k ∙ (rw l at found) in cc))
 
-  pub seeking_turn : i < length t → (get_or t i 0 ≡ 44 → ⊥) → Seeking t from (i + 1)
-  unfolding up_to
-  seeking_turn h a =
-      let e : up_to (drop i t) ≡ up_to (drop (i + 1) t) + 1 = rw (add-one (up_to (drop (i + 1) t)), add-one i, drop-cons t i 0 h, ne_eqb (get_or t i 0) 44 a) in
-      record { from_on = omega arith; within = omega arith; same = omega (arith, m.same) }
+  pub comma_none : r ≡ None → CommaAt t from (length t)
+  comma_none k = cases (ltb (up_to (drop from t)) (length (drop from t)))
+      (λ l. absurd (let f : ◌≡◌ {A = Option ℕ} None (Some (up_to (drop from t))) = sym k ∙ (rw l at found) in cc))
+      (λ l.
+      let d = ltb-false (up_to (drop from t)) (length (drop from t)) l in
+      record { same = omega (arith, d, up_short (drop from t), length-drop from t); from_on = h; within = omega arith })
 
 -- the first item and the others
 pub split_first : (s : List ℕ) → split s ≡ take (up_to s) s ∷ more s (up_to s)
@@ -69,17 +86,6 @@ comma_split {t} {from} {to} c =
         (λ l. le-ltb (to - from) (length (drop from t)) (simp length-drop (omega (arith, c.from_on, c.within))) ∙ sym (le-ltb to (length t) l))
 
 -- ---- a number's bit
-pub bit_low : (lo n v : ℕ) → v < lo → 0 ≡ bit_of lo n v
-bit_low lo n v h = rw (lt-leb lo v h)
-
-pub bit_high : (lo n v : ℕ) → lo ≤ v → n ≤ v → 0 ≡ bit_of lo n v
-bit_high lo n v h k = rw (le-leb lo v h, le-ltb v n k)
-
-pub bit_is : (lo n v : ℕ) → n ≤ 32 → lo ≤ v → v < n → (1 * 2 ^ v) % 4294967296 ≡ bit_of lo n v
-bit_is lo n v u h k =
-    let e : (1 * 2 ^ v) % 2 ^ 32 ≡ 1 * 2 ^ v = shl_exact 1 v 32 (omega arith) (omega arith) in
-    e ∙ one-mul (2 ^ v) ∙ rw (le-leb lo v h, lt-ltb v n k)
-
 -- a number that is capped is as far outside as it is
 pub bit_capped : (lo n x v : ℕ) → capped x ≡ v → n ≤ 32 → bit_of lo n v ≡ bit_of lo n x
 bit_capped lo n x v c u =
@@ -94,14 +100,14 @@ bit_capped lo n x v c u =
     go false false = refl
 
 -- ---- an item
-module _ {t : List ℕ} {from to : ℕ} (c : CommaAt t from to) {w : Num} (d : w ≡ number_of (part t from to)) (lo n : ℕ) where
-  pub item_bad : w ≡ Bad → Not ≡ item_of lo n t from
+module _ {t : List ℕ} {from to : ℕ} (c : CommaAt t from to) (lo n : ℕ) where
+  pub item_bad : None ≡ number_of (part t from to) → None ≡ item_of lo n t from
   unfolding item_of
-  item_bad h = rw (← c.same, ← d, h)
+  item_bad h = rw (← c.same, ← h)
 
-  pub item_good : {v m : ℕ} → w ≡ Good v → m ≡ bit_of lo n v → Is to m ≡ item_of lo n t from
+  pub item_good : {v m : ℕ} → Some v ≡ number_of (part t from to) → m ≡ bit_of lo n v → Some (m, to) ≡ item_of lo n t from
   unfolding item_of
-  item_good h b = rw (← c.same, ← d, h, b)
+  item_good h b = rw (← c.same, ← h, b)
 
 -- an item that is a number, and the others
 pub record Itemized (lo n : ℕ) (t : List ℕ) (from to m : ℕ) : Type 0 where
@@ -112,28 +118,23 @@ pub record Itemized (lo n : ℕ) (t : List ℕ) (from to m : ℕ) : Type 0 where
   pub split : split (drop from t) ≡ part t from to ∷ more t to
 
 -- what an item says of the items from a place on
-abbrev pub ItemIs : ℕ → ℕ → List ℕ → ℕ → Item → Type 0
-ItemIs lo n t from (Is to m) = Itemized lo n t from to m
-ItemIs lo n t from Not = each numeral (split (drop from t)) ≡ none
+abbrev pub ItemIs : ℕ → ℕ → List ℕ → ℕ → Option (ℕ × ℕ) → Type 0
+ItemIs lo n t from (Some (m, to)) = Itemized lo n t from to m
+ItemIs lo n t from None = each numeral (split (drop from t)) ≡ none
 
-pub record ItemAt (lo n : ℕ) (t : List ℕ) (from : ℕ) (r : Item) : Type 0 where
+pub record ItemAt (lo n : ℕ) (t : List ℕ) (from : ℕ) (r : Option (ℕ × ℕ)) : Type 0 where
   pub is : ItemIs lo n t from r
-
-up_short : (s : List ℕ) → up_to s ≤ length s
-unfolding up_to
-up_short [] = omega arith
-up_short (b ∷ s) = cases (eqb b 44) (λ e. rw e (omega arith)) (λ e. rw e (omega (arith, up_short s)))
 
 pub comma_here : (t : List ℕ) (from : ℕ) → from ≤ length t → CommaAt t from (next_comma t from)
 comma_here t from h = record { same = refl; from_on = omega arith; within = omega (arith, up_short (drop from t), length-drop from t) }
 
-pub item_read : (lo n : ℕ) (t : List ℕ) (from : ℕ) {r : Item} → r ≡ item_of lo n t from → from ≤ length t → n ≤ 32 → ItemAt lo n t from r
+pub item_read : (lo n : ℕ) (t : List ℕ) (from : ℕ) {r : Option (ℕ × ℕ)} → r ≡ item_of lo n t from → from ≤ length t → n ≤ 32 → ItemAt lo n t from r
 unfolding item_of each
 item_read lo n t from q h u = rw q (go (next_comma t from) (comma_here t from h) (number_of (part t from (next_comma t from))) refl)
   where
-    go : (to : ℕ) → CommaAt t from to → (w : Num) → w ≡ number_of (part t from to) → ItemAt lo n t from (item_for lo n to w)
-    go to c Bad d = record { is = rw (comma_split c, numeral_bad (part t from to) d refl) }
-    go to c (Good v) d =
+    go : (to : ℕ) → CommaAt t from to → (w : Option ℕ) → w ≡ number_of (part t from to) → ItemAt lo n t from (item_for lo n to w)
+    go to c None d = record { is = rw (comma_split c, numeral_bad (part t from to) d refl) }
+    go to c (Some v) d =
         let g = spelt_good (part t from to) d refl in
         record {
           is = record {
@@ -145,16 +146,8 @@ item_read lo n t from q h u = rw q (go (next_comma t from) (comma_here t from h)
           };
         }
 
-pub item_next : (lo n : ℕ) (t : List ℕ) (to : ℕ) {r : Item} → r ≡ item_of lo n t (to + 1) → to < length t → n ≤ 32 → ItemAt lo n t (to + 1) r
+pub item_next : (lo n : ℕ) (t : List ℕ) (to : ℕ) {r : Option (ℕ × ℕ)} → r ≡ item_of lo n t (to + 1) → to < length t → n ≤ 32 → ItemAt lo n t (to + 1) r
 item_next lo n t to q h u = item_read lo n t (to + 1) q (omega arith) u
-
-pub kept_none : (m : ℕ) (b : Bool) → m ≡ 0 → false ≡ b && not (eqb m 0)
-kept_none m true h = rw h
-kept_none m false h = refl
-
-pub kept_some : (m : ℕ) (b : Bool) → (m ≡ 0 → ⊥) → b ≡ b && not (eqb m 0)
-kept_some m true h = rw (ne_eqb m 0 h)
-kept_some m false h = refl
 
 pub comma_from : {t : List ℕ} {from to : ℕ} → CommaAt t from to → from ≤ to
 comma_from c = c.from_on

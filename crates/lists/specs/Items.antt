@@ -1,12 +1,8 @@
 -- What the readers of a list's items answer.
-use Rattle.std.specs.Prelude.{ℕ, suc, ◌+◌, ◌-◌, ◌^◌, ◌≤◌, ◌≡◌, Bool, ◌&&◌, List, [], ◌∷◌, ltb, leb, eqb, length, take, drop}
+use Rattle.std.specs.Prelude.{ℕ, suc, ◌+◌, ◌-◌, ◌^◌, ◌≤◌, ◌≡◌, Bool, ◌&&◌, List, [], ◌∷◌, ltb, leb, eqb, length, take, drop, Option, Some, None}
 use Rattle.table.specs.Mask.{pick}
 use Rattle.text.specs.Value.{split}
-use Rattle.digits.specs.declared.Num.{Num}
-use Rattle.digits.specs.declared.Num.TheVariants.{Good, Bad}
 use Rattle.digits.specs.Read.{number_of}
-use Rattle.lists.specs.declared.Item.{Item}
-use Rattle.lists.specs.declared.Item.TheVariants.{Is, Not}
 
 -- the count of bytes before the next comma
 unfoldable pub up_to : List ℕ → ℕ
@@ -36,10 +32,10 @@ abbrev pub part : List ℕ → ℕ → ℕ → List ℕ
 part t from to = take (to - from) (drop from t)
 
 -- the answer for an item that ends at a place
-abbrev pub item_for : ℕ → ℕ → ℕ → Num → Item
-item_for lo n to (Good v) = Is to (bit_of lo n v)
-item_for lo n to Bad = Not
+abbrev pub item_for : ℕ → ℕ → ℕ → Option ℕ → Option (ℕ × ℕ)
+item_for lo n to (Some v) = Some (bit_of lo n v, to)
+item_for lo n to None = None
 
 -- the item from a place to the next comma
-unfoldable pub item_of : ℕ → ℕ → List ℕ → ℕ → Item
+unfoldable pub item_of : ℕ → ℕ → List ℕ → ℕ → Option (ℕ × ℕ)
 item_of lo n t from = item_for lo n (next_comma t from) (number_of (part t from (next_comma t from)))

@@ -1,5 +1,5 @@
 -- Laws of whole lists of numbers: each says what a step of the code shows.
-use Rattle.std.specs.Prelude.{ℕ, suc, ◌-◌, ◌^◌, ◌≤◌, ◌<◌, ◌≡◌, Bool, ◌&&◌, List, [], ◌∷◌, ltb, length, take, drop}
+use Rattle.std.specs.Prelude.{ℕ, suc, ◌-◌, ◌^◌, ◌≤◌, ◌<◌, ◌≡◌, Bool, ◌&&◌, List, [], ◌∷◌, ltb, length, take, drop, Option as Maybe, Some, Ok, Err, ok_or}
 use Rattle.std.proofs.Math.Path.{refl, sym}
 use Rattle.std.proofs.Common.{◌∙◌, ap, arith, pow_pos, take_all, le-ltb, ltb-false, ne_eqb}
 use Rattle.std.proofs.Math.Bool.{true, false}
@@ -7,27 +7,20 @@ use Rattle.std.proofs.Math.Option.{Option, none, some}
 use Rattle.std.proofs.Math.Nat.{add-zero}
 use Rattle.std.proofs.Math.Seq.{take-length}
 use Rattle.text.specs.declared.Fault.{Fault}
-use Rattle.text.specs.declared.Fault.TheVariants.{Form, Misspelt, Ended, Reference}
+use Rattle.text.specs.declared.Fault.TheVariants.{Misspelt, Reference}
 use Rattle.text.specs.Number.{bytes, all_digits, spelt, value, every}
 use Rattle.text.proofs.NumberLaws.{all_head, all_tail, spelt_all}
-use Rattle.text.specs.Value.{ascending, same, numeral, split, followed, each, said_list, ascends, within, said, unsaid, check}
-use Rattle.text.specs.Line.{refused, judged, field_of}
+use Rattle.text.specs.Value.{ValueKind, Of, ascending, same, numeral, split, followed, each, said_list, ascends, within, said, unsaid, check}
+use Rattle.text.specs.Line.{refused, judged}
 use Rattle.text.specs.Format.{elem, set_of}
-use Rattle.digits.specs.declared.Num.{Num}
-use Rattle.digits.specs.declared.Num.TheVariants.{Good, Bad}
 use Rattle.digits.specs.Read.{number_of}
 use Rattle.digits.specs.NumeralLaws.{spelt_bad, spelt_good}
-use Rattle.scan.specs.declared.Token.{Token}
-use Rattle.scan.specs.declared.Token.TheVariants.{At as Between, Not as Refused}
-use Rattle.scan.specs.declared.Found.{Found}
-use Rattle.scan.specs.declared.Found.TheVariants.{At, Differs, Broken}
-use Rattle.scan.specs.Place.{AfterKey, ValueAt, RefusalOf}
+use Rattle.scan.specs.Place.{Answer, Within, AfterKey, ValueAt}
+use Rattle.scan.specs.PlaceLaws.{value_within, field_found, field_refused}
 use Rattle.numbers.specs.Answer.{mapped}
-use Rattle.lists.specs.declared.Set.{Set}
-use Rattle.lists.specs.declared.Set.TheVariants.{Is, Not}
 use Rattle.lists.specs.Items.{up_to, more, inside, bit_of}
-use Rattle.lists.specs.ItemLaws.{split_first, bit_capped}
-use Rattle.lists.specs.Sets.{SetEnds, SetWithin, SetJudged, SetSaid, single_of, SetIn, SetAt}
+use Rattle.lists.specs.ItemLaws.{ok_some, err_none, split_first, bit_capped}
+use Rattle.lists.specs.Sets.{Ends, Judged, ValueIn, FieldAt, SetJudged, SetSaid, single_of}
 use Rattle.lists.specs.TotalLaws.{total, total_is, mask_none}
 use Rattle.lists.specs.SetLaws.{bit_inside}
 use Rattle.table.specs.Cases.{cases}
@@ -76,104 +69,77 @@ one_refused lo n t l s h =
     (λ k. rw (k, take_all (up_to t) t (ltb-false (up_to t) (length t) k), h))))
 
 -- ---- a list of one number
-module _ (t : List ℕ) (e lo n : ℕ) {w : Num} (d : w ≡ number_of t) where
-  pub single_bad : w ≡ Bad → SetSaid true lo n t e (Not Misspelt)
+module _ (t : List ℕ) (e lo n : ℕ) where
+  pub single_bad : {w : Maybe ℕ} {f : Fault} → w ≡ number_of t → Err f ≡ ok_or w Misspelt → SetSaid true lo n t e (Err f)
   unfolding said
-  single_bad h = record { judged = record { same = λ l s. rw (one_refused lo n t l (drop e s) (spelt_bad t d h)); ends = tt } }
+  single_bad {w} d q =
+      let z = err_none w Misspelt q in
+      record { same = λ l s. rw (z.1, one_refused lo n t l (drop e s) (spelt_bad t d z.0)); ends = tt }
 
-  module _ {v b : ℕ} (h : w ≡ Good v) (u : n ≤ 32) (k : b ≡ bit_of lo n v) where
+  module _ {v b : ℕ} (d : Some v ≡ number_of t) (u : n ≤ 32) (k : b ≡ bit_of lo n v) where
     bit_said : b ≡ bit_of lo n (value t)
-    bit_said = k ∙ bit_capped lo n (value t) v (spelt_good t d h).1 u
+    bit_said = k ∙ bit_capped lo n (value t) v (spelt_good t d refl).1 u
 
-    single_outside : b ≡ 0 → SetSaid true lo n t e (Not Reference)
+    single_outside : b ≡ 0 → SetSaid true lo n t e (Err Reference)
     unfolding said check ascends every
     single_outside z =
         let i : inside lo n (value t) ≡ false = sym (bit_inside lo n (value t) b bit_said) ∙ rw z in
-        record { judged = record { same = λ l s. rw (one_said t (spelt_good t d h).0, i); ends = tt } }
+        record { same = λ l s. rw (one_said t (spelt_good t d refl).0, i); ends = tt }
 
-    single_is : (b ≡ 0 → ⊥) → SetSaid true lo n t e (Is b e)
+    single_is : (b ≡ 0 → ⊥) → SetSaid true lo n t e (Ok (b, e))
     unfolding said check ascends every total
     single_is z =
         let i : inside lo n (value t) ≡ true = sym (bit_inside lo n (value t) b bit_said) ∙ rw (ne_eqb b 0 z) in
         let m : b ≡ 2 ^ value t = bit_said ∙ rw i in
         let j : within lo n (value t ∷ []) ≡ true = rw i in
         let f : set_of (value t ∷ []) ≡ b = total_is lo n (value t ∷ []) u refl j ∙ add-zero (2 ^ value t) ∙ sym m in
-        record { judged = record { same = λ l s. rw (one_said t (spelt_good t d h).0, i, f); ends = refl } }
+        record { same = λ l s. rw (one_said t (spelt_good t d refl).0, i, f); ends = refl }
 
 module _ (lo n v e : ℕ) {b : ℕ} (k : b ≡ bit_of lo n v) where
-  pub one_outside : b ≡ 0 → Not Reference ≡ single_of lo n v e
+  pub one_outside : b ≡ 0 → Err Reference ≡ single_of lo n v e
   unfolding single_of
   one_outside z = let i : inside lo n v ≡ false = sym (bit_inside lo n v b k) ∙ rw z in rw i
 
-  pub one_is : (b ≡ 0 → ⊥) → Is b e ≡ single_of lo n v e
+  pub one_is : (b ≡ 0 → ⊥) → Ok (b, e) ≡ single_of lo n v e
   unfolding single_of
   one_is z =
       let i : inside lo n v ≡ true = sym (bit_inside lo n v b k) ∙ rw (ne_eqb b 0 z) in
       let m : b ≡ 2 ^ v = k ∙ rw i in
       rw (i, m)
 
-pub one_value : (lo n : ℕ) (t : List ℕ) (v e : ℕ) {r : Set} → Good v ≡ number_of t → n ≤ 32 → r ≡ single_of lo n v e → SetSaid true lo n t e r
+pub one_value : (lo n : ℕ) (t : List ℕ) (v e : ℕ) {r : Answer ℕ} → Some v ≡ number_of t → n ≤ 32 → r ≡ single_of lo n v e → SetSaid true lo n t e r
 unfolding single_of
 one_value lo n t v e d u q =
     cases (inside lo n v)
-    (λ i. rw (q, i) (single_is t e lo n d refl u (rw i) (λ z. omega (arith, pow_pos v))))
-    (λ i. let k : 0 ≡ bit_of lo n v = rw i in rw (q, i) (single_outside t e lo n d refl u k refl))
+    (λ i. rw (q, i) (single_is t e lo n d u (rw i) (λ z. omega (arith, pow_pos v))))
+    (λ i. let k : 0 ≡ bit_of lo n v = rw i in rw (q, i) (single_outside t e lo n d u k refl))
 
-pub single_one : (lo n : ℕ) (t : List ℕ) {v e : ℕ} {w : Num} {r : Set} → w ≡ number_of t → w ≡ Good v → n ≤ 32 → r ≡ single_of lo n v e → SetSaid true lo n t e r
-single_one lo n t {v} {e} d h u q = one_value lo n t v e (sym h ∙ d) u q
+pub single_one : (lo n : ℕ) (t : List ℕ) {v e : ℕ} {w : Maybe ℕ} {r : Answer ℕ} → w ≡ number_of t → Ok v ≡ ok_or w Misspelt → n ≤ 32 → r ≡ single_of lo n v e → SetSaid true lo n t e r
+single_one lo n t {v} {e} {w} d h u q = one_value lo n t v e (sym (ok_some w Misspelt h) ∙ d) u q
 
 -- ---- a list
-pub list_single : {one : Bool} {lo n : ℕ} {t : List ℕ} {e : ℕ} {r : Set} → one ≡ true → SetSaid true lo n t e r → SetSaid one lo n t e r
-list_single h a = rw h a
-
-pub list_none : {one : Bool} (lo n : ℕ) (t : List ℕ) (e : ℕ) {x : Bool} → one ≡ false → x ≡ same (bytes "none") t → x ≡ true → SetSaid one lo n t e (Is 0 e)
+pub list_none : {one : Bool} (lo n : ℕ) (t : List ℕ) (e : ℕ) {x : Bool} → one ≡ false → x ≡ same (bytes "none") t → x ≡ true → SetSaid one lo n t e (Ok (0, e))
 unfolding said check ascends every elem
 list_none lo n t e h p k =
     let f : set_of [] ≡ 0 = mask_none 32 in
-    rw h (record { judged = record { same = λ l s. rw (← p, k, f); ends = refl } })
+    rw h (record { same = λ l s. rw (← p, k, f); ends = refl })
 
-pub list_rising : {one : Bool} {lo n : ℕ} {t : List ℕ} {e : ℕ} {r : Set} {x : Bool} → one ≡ false → x ≡ same (bytes "none") t → x ≡ false
+pub list_rising : {one : Bool} {lo n : ℕ} (t : List ℕ) {e : ℕ} {r : Answer ℕ} {x : Bool} → one ≡ false → x ≡ same (bytes "none") t → x ≡ false
     → SetJudged false lo n (each numeral (split t)) e r → SetSaid one lo n t e r
 unfolding said
-list_rising h p k a = rw h (record { judged = rw (← p, k) a })
+list_rising t h p k a = rw h (rw (← p, k) a)
 
 -- ---- from a list to its place, and to its field
-module _ {s : List ℕ} {at : ℕ} {r : Token} (m : ValueAt s at r) where
-  pub set_stop : (one : Bool) (lo n : ℕ) {x y : Fault} → r ≡ Refused y → x ≡ RefusalOf r → SetIn one lo n s at (Not x)
-  set_stop one lo n q z = record { same = λ l. rw (z, q) (ap (mapped set_of) (rw q at (m.same (ascending one lo n) l))); within = tt }
+ends_within : {A : Type 0} (s : List ℕ) (e : ℕ) (r : Answer A) → Ends e r → e < length s → Within s r
+ends_within s e (Ok p) h w = rw h w
+ends_within s e (Err f) h w = tt
 
-  value_within : {b e : ℕ} → r ≡ Between b e → (b ≤ e) × (e < length s)
-  value_within q = rw q at m.within
+module _ {B : Type 0} (k : ValueKind) (g : Of k → B) {s : List ℕ} {at : ℕ} where
+  pub value_judged : {b e : ℕ} {r : Answer B} → ValueAt s at (Ok (b, e)) → Judged k g (said k (take (e - b) (drop b s))) e r → ValueIn k g s at r
+  value_judged {e = e} {r = r} m d = record { same = λ l. d.same l s ∙ ap (mapped g) (m.same k l); within = ends_within s e r d.ends (value_within m).1 }
 
-  pub set_from : {b e : ℕ} → r ≡ Between b e → b ≤ e
-  set_from q = (value_within q).0
+  pub field_missing : {key : List ℕ} {f : Fault} → AfterKey key s at (Err f) → FieldAt k g key s at (Err f)
+  field_missing a = record { same = λ l. ap (mapped g) (field_refused a k l); within = tt }
 
-  pub set_to : {b e : ℕ} → r ≡ Between b e → e ≤ length s
-  set_to q = omega (arith, (value_within q).1)
-
-  pub set_step : {one : Bool} {lo n b e : ℕ} {v : Set} → r ≡ Between b e → SetSaid one lo n (take (e - b) (drop b s)) e v → SetIn one lo n s at v
-  set_step {one} {lo} {n} {b} {e} {v} q d =
-      record { same = λ l. d.judged.same l s ∙ ap (mapped set_of) (rw q at (m.same (ascending one lo n) l)); within = reach v d.judged.ends }
-    where
-      reach : (v : Set) → SetEnds e v → SetWithin s v
-      reach (Is k p) h = rw h (value_within q).1
-      reach (Not f) h = tt
-
-pub set_one : {one : Bool} {lo n : ℕ} {s : List ℕ} {at : ℕ} {r : Set} → one ≡ true → SetIn true lo n s at r → SetIn one lo n s at r
-set_one h a = rw h a
-
-pub set_many : {one : Bool} {lo n : ℕ} {s : List ℕ} {at : ℕ} {r : Set} → one ≡ false → SetIn false lo n s at r → SetIn one lo n s at r
-set_many h a = rw h a
-
-module _ {key s : List ℕ} {at : ℕ} {r : Found} (m : AfterKey key s at r) where
-  pub set_found : {one : Bool} {lo n b : ℕ} {v : Set} → r ≡ At b → SetIn one lo n s b v → SetAt one lo n key s at v
-  unfolding field_of
-  set_found q u = record { same = λ l. u.same l ∙ rw (← m.same, q); within = u.within }
-
-  pub set_differs : (one : Bool) (lo n : ℕ) → r ≡ Differs → SetAt one lo n key s at (Not Form)
-  unfolding field_of
-  set_differs one lo n e = record { same = λ l. rw (← m.same, e); within = tt }
-
-  pub set_broken : (one : Bool) (lo n : ℕ) → r ≡ Broken → SetAt one lo n key s at (Not Ended)
-  unfolding field_of
-  set_broken one lo n e = record { same = λ l. rw (← m.same, e); within = tt }
+  pub field_value : {key : List ℕ} {b : ℕ} {r : Answer B} → AfterKey key s at (Ok b) → ValueIn k g s b r → FieldAt k g key s at r
+  field_value a m = record { same = λ l. m.same l ∙ ap (mapped g) (field_found a k l); within = m.within }

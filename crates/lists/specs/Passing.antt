@@ -1,34 +1,34 @@
 -- What the readers of a call's variables answer.
-use Rattle.std.specs.Prelude.{ℕ, ◌+◌, ◌<◌, min, ◌≡◌, Bool, true, false, List, ltb, eqb, length, drop}
+use Rattle.std.specs.Prelude.{ℕ, ◌+◌, min, Bool, List, ltb, eqb, Option as Maybe, Some, None}
 use Rattle.std.proofs.Math.Option.{Option, none, some}
 use Rattle.table.specs.Mask.{pick}
 use Rattle.table.specs.Table.{removed}
 use Rattle.table.specs.declared.Args.{Args}
 use Rattle.text.specs.Number.{bytes}
 use Rattle.text.specs.Value.{arguments, said_variable, said}
-use Rattle.text.specs.Line.{Outcome, took, refused, judged, field_of}
 use Rattle.text.specs.Format.{args_of}
-use Rattle.numbers.specs.Answer.{mapped}
-use Rattle.lists.specs.declared.Argument.{Argument}
-use Rattle.lists.specs.declared.Argument.TheVariants.{Is as IsArgument, Not as NotArgument}
-use Rattle.lists.specs.declared.Passed.{Passed}
-use Rattle.lists.specs.declared.Passed.TheVariants.{Is, Not}
+use Rattle.scan.specs.Place.{Answer}
 use Rattle.lists.specs.Items.{next_comma, part}
+use Rattle.lists.specs.Sets.{Judged, FieldAt}
 
 -- ---- one variable
 
--- the answer for what bytes that end at a place say: a variable, and whether it is declared; 0 stands for one that is not
-abbrev pub argument_for : Bool → ℕ → ℕ → Option (Option ℕ) → Argument
-argument_for c n to none = NotArgument
-argument_for c n to (some none) = pick c (IsArgument to removed true) NotArgument
-argument_for c n to (some (some v)) = pick (ltb v n) (IsArgument to v true) (IsArgument to 0 false)
+-- the answer for what bytes say: a variable, or one that is not declared; none for what is misspelt
+abbrev pub argument_for : Bool → ℕ → Option (Option ℕ) → Maybe (Maybe ℕ)
+argument_for c n none = None
+argument_for c n (some none) = pick c (Some (Some removed)) None
+argument_for c n (some (some v)) = Some (pick (ltb v n) (Some v) None)
 
-unfoldable pub argument_of : Bool → ℕ → List ℕ → ℕ → Argument
-argument_of c n w to = argument_for c n to (said_variable w)
+unfoldable pub argument_of : Bool → ℕ → List ℕ → Maybe (Maybe ℕ)
+argument_of c n w = argument_for c n (said_variable w)
 
--- the one from a place to the next comma
-unfoldable pub argument_from : Bool → ℕ → List ℕ → ℕ → Argument
-argument_from c n t from = argument_of c n (part t from (next_comma t from)) (next_comma t from)
+-- the one from a place to the next comma, and where it ends
+abbrev pub ending : ℕ → Maybe (Maybe ℕ) → Maybe (Maybe ℕ × ℕ)
+ending to (Some v) = Some (v, to)
+ending to None = None
+
+unfoldable pub argument_from : Bool → ℕ → List ℕ → ℕ → Maybe (Maybe ℕ × ℕ)
+argument_from c n t from = ending (next_comma t from) (argument_of c n (part t from (next_comma t from)))
 
 -- ---- all of them
 
@@ -42,26 +42,19 @@ pushed_of a v = record {
   a3 = pick (eqb a.len 3) v a.a3;
 }
 
-abbrev pub passed_in : ℕ → List ℕ → Passed → Outcome Args
-passed_in l s (Is a e) = took a l (drop e s)
-passed_in l s (Not f) = refused f l
+-- no variables, once one is not declared
+abbrev pub with_of : Maybe Args → Maybe ℕ → Maybe Args
+with_of (Some a) (Some v) = Some (pushed_of a v)
+with_of (Some a) None = None
+with_of None v = None
 
-abbrev pub PassedEnds : ℕ → Passed → Type 0
-PassedEnds e (Is a q) = q ≡ e
-PassedEnds e (Not f) = Unit {0}
+-- the answer for a list that bytes say, and for the field
 
-abbrev pub PassedWithin : List ℕ → Passed → Type 0
-PassedWithin s (Is a e) = e < length s
-PassedWithin s (Not f) = Unit {0}
+abbrev pub PassedJudged : Bool → ℕ → Option (List (Option ℕ)) → ℕ → Answer Args → Type 0
+PassedJudged c n o e r = Judged (arguments c n) args_of o e r
 
--- the answer for a list that bytes say
-pub record PassedJudged (c : Bool) (n : ℕ) (o : Option (List (Option ℕ))) (e : ℕ) (r : Passed) : Type 0 where
-  pub same : (l : ℕ) (s : List ℕ) → passed_in l s r ≡ mapped args_of (judged (arguments c n) o l (drop e s))
-  pub ends : PassedEnds e r
+abbrev pub PassedSaid : Bool → ℕ → List ℕ → ℕ → Answer Args → Type 0
+PassedSaid c n t e r = PassedJudged c n (said (arguments c n) t) e r
 
-pub record PassedSaid (c : Bool) (n : ℕ) (t : List ℕ) (e : ℕ) (r : Passed) : Type 0 where
-  pub judged : PassedJudged c n (said (arguments c n) t) e r
-
-pub record PassedAt (c : Bool) (n : ℕ) (s : List ℕ) (at : ℕ) (r : Passed) : Type 0 where
-  pub same : (l : ℕ) → passed_in l s r ≡ mapped args_of (field_of (bytes " args=") (arguments c n) l (drop at s))
-  pub within : PassedWithin s r
+abbrev pub PassedAt : Bool → ℕ → List ℕ → ℕ → Answer Args → Type 0
+PassedAt c n s at r = FieldAt (arguments c n) args_of (bytes " args=") s at r

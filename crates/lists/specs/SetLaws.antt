@@ -1,5 +1,5 @@
 -- Laws of the readers of sets: each says what a step of the code shows.
-use Rattle.std.specs.Prelude.{ℕ, ◌+◌, ◌-◌, ◌^◌, ◌≤◌, ◌<◌, ◌≡◌, Bool, true, false, ◌&&◌, not, List, ◌∷◌, ltb, leb, eqb, length, drop}
+use Rattle.std.specs.Prelude.{ℕ, ◌+◌, ◌-◌, ◌^◌, ◌≤◌, ◌<◌, ◌≡◌, Bool, true, false, ◌&&◌, not, List, ◌∷◌, ltb, leb, eqb, length, drop, Option as Maybe, Some, Ok, Err, ok_or}
 use Rattle.std.proofs.Math.Path.{refl}
 use Rattle.std.proofs.Common.{sym, ◌∙◌, ap, arith, add_assoc, pow-suc, Fits, add-one, pow_pos, pow_mono}
 use Rattle.std.proofs.Math.Option.{Option, none, some}
@@ -9,6 +9,7 @@ use Rattle.std.proofs.Math.Pow.{pow-lt}
 use borrow.Author.Tests.{lt-ltb, le-ltb, ltb-true, ne_eqb, not-true, not-false}
 use Rattle.table.specs.Cases.{cases}
 use Rattle.table.specs.Mask.{pick}
+use Rattle.text.specs.declared.Fault.{Fault}
 use Rattle.text.specs.declared.Fault.TheVariants.{Misspelt, Reference}
 use Rattle.text.specs.Number.{spelt, value, every}
 use Rattle.text.proofs.NumberLaws.{and_left, and_right}
@@ -16,23 +17,20 @@ use Rattle.text.specs.Value.{ascending, numeral, split, followed, each, ascends,
 use Rattle.text.specs.Line.{judged}
 use Rattle.text.specs.Format.{set_of}
 use Rattle.numbers.specs.Answer.{mapped}
-use Rattle.lists.specs.declared.Item.{Item}
-use Rattle.lists.specs.declared.Item.TheVariants.{Is as IsItem, Not as NotItem}
-use Rattle.lists.specs.declared.Set.{Set}
-use Rattle.lists.specs.declared.Set.TheVariants.{Is, Not}
+use Rattle.scan.specs.Place.{Answer, answer_in}
 use Rattle.lists.specs.Items.{more, inside, bit_of, part, item_of}
-use Rattle.lists.specs.ItemLaws.{Itemized, ItemAt, item_next}
-use Rattle.lists.specs.Sets.{set_in, SetJudged}
+use Rattle.lists.specs.ItemLaws.{err_none, Itemized, ItemAt, item_next}
+use Rattle.lists.specs.Sets.{SetJudged}
 use Rattle.lists.specs.TotalLaws.{total, total_first, within_first, total_is}
 
 -- the answer where the items up to x made m, all of them inside or not, and the others say o
-abbrev pub finish : (lo n e x m : ℕ) → Bool → Option (List ℕ) → Set
-finish lo n e x m ok none = Not Misspelt
-finish lo n e x m ok (some ys) = pick (ascends (x ∷ ys)) (pick (ok && within lo n ys) (Is (m + total ys) e) (Not Reference)) (Not Misspelt)
+abbrev pub finish : (lo n e x m : ℕ) → Bool → Option (List ℕ) → Answer ℕ
+finish lo n e x m ok none = Err Misspelt
+finish lo n e x m ok (some ys) = pick (ascends (x ∷ ys)) (pick (ok && within lo n ys) (Ok (m + total ys, e)) (Err Reference)) (Err Misspelt)
 
 -- the first item
 first_said : (lo n e x : ℕ) (o : Option (List ℕ)) → n ≤ 32 → (l : ℕ) (s : List ℕ)
-    → set_in l s (finish lo n e x (bit_of lo n x) (inside lo n x) o) ≡ mapped set_of (judged (ascending false lo n) (followed (some x) o) l (drop e s))
+    → answer_in l s (finish lo n e x (bit_of lo n x) (inside lo n x) o) ≡ mapped set_of (judged (ascending false lo n) (followed (some x) o) l (drop e s))
 unfolding unsaid check
 first_said lo n e x none u l s = refl
 first_said lo n e x (some ys) u l s =
@@ -53,32 +51,32 @@ next_said : (lo n e x y m : ℕ) (ok : Bool) (o : Option (List ℕ)) → ltb x y
     → finish lo n e x m ok (followed (some y) o) ≡ finish lo n e y (m + bit_of lo n y) (ok && inside lo n y) o
 unfolding ascends every total
 next_said lo n e x y m ok none k = refl
-next_said lo n e x y m ok (some ys) k = rw k (ap (λ (r : Set). pick (ascends (y ∷ ys)) r (Not Misspelt)) (go ok (inside lo n y)))
+next_said lo n e x y m ok (some ys) k = rw k (ap (λ (r : Answer ℕ). pick (ascends (y ∷ ys)) r (Err Misspelt)) (go ok (inside lo n y)))
   where
-    go : (a b : Bool) → pick (a && (b && within lo n ys)) (Is (m + (2 ^ y + total ys)) e) (Not Reference)
-        ≡ pick ((a && b) && within lo n ys) (Is ((m + pick b (2 ^ y) 0) + total ys) e) (Not Reference)
+    go : (a b : Bool) → pick {A = Answer ℕ} (a && (b && within lo n ys)) (Ok (m + (2 ^ y + total ys), e)) (Err Reference)
+        ≡ pick {A = Answer ℕ} ((a && b) && within lo n ys) (Ok ((m + pick b (2 ^ y) 0) + total ys, e)) (Err Reference)
     go true true = rw (add_assoc m (2 ^ y) (total ys))
     go true false = refl
     go false b = refl
 
 -- one that is not above the last
-order_said : (lo n e x y m : ℕ) (ok : Bool) (o : Option (List ℕ)) → ltb x y ≡ false → finish lo n e x m ok (followed (some y) o) ≡ Not Misspelt
+order_said : (lo n e x y m : ℕ) (ok : Bool) (o : Option (List ℕ)) → ltb x y ≡ false → finish lo n e x m ok (followed (some y) o) ≡ Err Misspelt
 unfolding ascends
 order_said lo n e x y m ok none k = refl
 order_said lo n e x y m ok (some ys) k = rw k
 
 -- ---- an item
-module _ {lo n : ℕ} {t : List ℕ} {from : ℕ} {r : Item} (a : ItemAt lo n t from r) where
-  item_is : {to m : ℕ} → r ≡ IsItem to m → Itemized lo n t from to m
+module _ {lo n : ℕ} {t : List ℕ} {from : ℕ} {r : Maybe (ℕ × ℕ)} (a : ItemAt lo n t from r) where
+  item_is : {to m : ℕ} → r ≡ Some (m, to) → Itemized lo n t from to m
   item_is q = rw q at a.is
 
   -- what the items from here on say
-  item_said : {to m : ℕ} → r ≡ IsItem to m → each numeral (split (drop from t)) ≡ followed (some (value (part t from to))) (each numeral (more t to))
+  item_said : {to m : ℕ} → r ≡ Some (m, to) → each numeral (split (drop from t)) ≡ followed (some (value (part t from to))) (each numeral (more t to))
   unfolding each
   item_said q = rw ((item_is q).split, (item_is q).good)
 
 -- an item behind a comma
-module _ (lo n : ℕ) (t : List ℕ) (last : ℕ) {r : Item} (a : r ≡ item_of lo n t (last + 1)) (h : last < length t) (u : n ≤ 32) {to m : ℕ} (q : r ≡ IsItem to m) where
+module _ (lo n : ℕ) (t : List ℕ) (last : ℕ) {r : Maybe (ℕ × ℕ)} (a : r ≡ item_of lo n t (last + 1)) (h : last < length t) (u : n ≤ 32) {to m : ℕ} (q : r ≡ Some (m, to)) where
   next : Itemized lo n t (last + 1) to m
   next = item_is (item_next lo n t last a h u) q
 
@@ -148,14 +146,14 @@ pub record Rising (lo n e : ℕ) (t : List ℕ) (from to m : ℕ) (ok : Bool) : 
   pub good : spelt (part t from to) ≡ true
   pub small : m < 2 ^ (value (part t from to) + 1)
   pub fits : m < 4294967296
-  pub rest : (l : ℕ) (s : List ℕ) → set_in l s (finish lo n e (value (part t from to)) m ok (each numeral (more t to)))
+  pub rest : (l : ℕ) (s : List ℕ) → answer_in l s (finish lo n e (value (part t from to)) m ok (each numeral (more t to)))
       ≡ mapped set_of (judged (ascending false lo n) (each numeral (split t)) l (drop e s))
 
-pub first_bad : {lo n : ℕ} {t : List ℕ} (e : ℕ) {r : Item} → ItemAt lo n t 0 r → r ≡ NotItem → SetJudged false lo n (each numeral (split t)) e (Not Misspelt)
+pub first_bad : {lo n : ℕ} {t : List ℕ} (e : ℕ) {r : Maybe (ℕ × ℕ)} → ItemAt lo n t 0 r → {f : Fault} → Err f ≡ ok_or r Misspelt → SetJudged false lo n (each numeral (split t)) e (Err f)
 unfolding unsaid
-first_bad e a q = record { same = λ l s. rw (rw q at a.is); ends = tt }
+first_bad e {r} a q = let z = err_none r Misspelt q in record { same = λ l s. rw (z.1, rw (z.0) at a.is); ends = tt }
 
-pub rising_start : {lo n : ℕ} {t : List ℕ} {to m : ℕ} {ok : Bool} (e : ℕ) {r : Item} → ItemAt lo n t 0 r → r ≡ IsItem to m → n ≤ 32 → ok ≡ true && not (eqb m 0)
+pub rising_start : {lo n : ℕ} {t : List ℕ} {to m : ℕ} {ok : Bool} (e : ℕ) {r : Maybe (ℕ × ℕ)} → ItemAt lo n t 0 r → r ≡ Some (m, to) → n ≤ 32 → ok ≡ true && not (eqb m 0)
     → Rising lo n e t 0 to m ok
 rising_start {lo} {n} {t} {to} {m} {ok} e a q u k =
     let i = item_is a q in
@@ -170,33 +168,33 @@ rising_start {lo} {n} {t} {to} {m} {ok} e a q u k =
     }
 
 module _ {lo n e : ℕ} {t : List ℕ} {from to m : ℕ} {ok : Bool} (g : Rising lo n e t from to m ok) where
-  pub rising_end : length t ≤ to → ok ≡ true → SetJudged false lo n (each numeral (split t)) e (Is m e)
+  pub rising_end : length t ≤ to → ok ≡ true → SetJudged false lo n (each numeral (split t)) e (Ok (m, e))
   unfolding each ascends every total
   rising_end h k = record { same = λ l s. rw (k, le-ltb to (length t) h, add-zero m) at (g.rest l s); ends = refl }
 
-  pub rising_outside : length t ≤ to → ok ≡ false → SetJudged false lo n (each numeral (split t)) e (Not Reference)
+  pub rising_outside : length t ≤ to → ok ≡ false → SetJudged false lo n (each numeral (split t)) e (Err Reference)
   unfolding each ascends
   rising_outside h k = record { same = λ l s. rw (k, le-ltb to (length t) h) at (g.rest l s); ends = tt }
 
-  module _ (h : to < length t) {r : Item} (a : ItemAt lo n t (to + 1) r) where
+  module _ (h : to < length t) {r : Maybe (ℕ × ℕ)} (a : ItemAt lo n t (to + 1) r) where
     here : more t to ≡ split (drop (to + 1) t)
     here = rw (lt-ltb to (length t) h, add-one to)
 
-    pub rising_bad : r ≡ NotItem → SetJudged false lo n (each numeral (split t)) e (Not Misspelt)
-    rising_bad q = record { same = λ l s. rw (here, rw q at a.is) at (g.rest l s); ends = tt }
+    pub rising_bad : {f : Fault} → Err f ≡ ok_or r Misspelt → SetJudged false lo n (each numeral (split t)) e (Err f)
+    rising_bad q = let z = err_none r Misspelt q in record { same = λ l s. rw (z.1) (rw (here, rw (z.0) at a.is) at (g.rest l s)); ends = tt }
 
-    module _ {end b : ℕ} (q : r ≡ IsItem end b) {z : Bool} (k : z ≡ ltb (value (part t from to)) (value (part t (to + 1) end))) where
+    module _ {end b : ℕ} (q : r ≡ Some (b, end)) {z : Bool} (k : z ≡ ltb (value (part t from to)) (value (part t (to + 1) end))) where
       following : each numeral (more t to) ≡ followed (some (value (part t (to + 1) end))) (each numeral (more t end))
       following = ap (λ (ss : List (List ℕ)). each numeral ss) here ∙ item_said a q
 
-      pub rising_order : not z ≡ true → SetJudged false lo n (each numeral (split t)) e (Not Misspelt)
+      pub rising_order : not z ≡ true → SetJudged false lo n (each numeral (split t)) e (Err Misspelt)
       rising_order w =
           let x = value (part t from to) in
           let y = value (part t (to + 1) end) in
-          let d : finish lo n e x m ok (each numeral (more t to)) ≡ Not Misspelt =
+          let d : finish lo n e x m ok (each numeral (more t to)) ≡ Err Misspelt =
           ap (finish lo n e x m ok) following ∙ order_said lo n e x y m ok (each numeral (more t end)) (sym k ∙ not-true z w)
           in
-          record { same = λ l s. sym (ap (set_in l s) d) ∙ g.rest l s; ends = tt }
+          record { same = λ l s. sym (ap (answer_in l s) d) ∙ g.rest l s; ends = tt }
 
       pub rising_fits : not z ≡ false → n ≤ 32 → Fits w32 (m + b)
       rising_fits w u = record { fits = (bit_above lo n _ _ m b u g.small g.fits (sym k ∙ not-false z w) (item_is a q).bit).1 }
@@ -219,5 +217,5 @@ module _ {lo n e : ℕ} {t : List ℕ} {from to m : ℕ} {ok : Bool} (g : Rising
             good = i.good;
             small = f.0;
             fits = f.1;
-            rest = λ l s. sym (ap (set_in l s) d) ∙ g.rest l s;
+            rest = λ l s. sym (ap (answer_in l s) d) ∙ g.rest l s;
           }

@@ -1,33 +1,29 @@
 -- Laws of short numbers that ascend: each says what a step of the code shows.
 use Prim.Native.Nat.{ℕ, zero, suc, ◌+◌, ◌-◌, ◌^◌, ◌≤◌, ◌<◌}
-use Rattle.std.specs.Prelude.{◌≡◌, Bool, true, false, ◌&&◌, not, List, [], ◌∷◌, ltb, leb, eqb, drop}
+use Rattle.std.specs.Prelude.{◌≡◌, Bool, true, false, ◌&&◌, not, List, [], ◌∷◌, ltb, leb, eqb, drop, Option, Some, None, Ok}
 use Rattle.std.proofs.Math.Path.{refl, sym}
-use Rattle.std.proofs.Common.{◌∙◌, ap, arith, zero-add, pow-suc, add-one, Fits, pow_mono, drop_of_length-le, length-drop, take_all, drop-cons, drop-drop, take-take, length-take-le}
-use Rattle.std.specs.Int.{w32, w64}
+use Rattle.std.proofs.Common.{◌∙◌, ap, arith, zero-add, Fits, pow_mono, drop_of_length-le, length-drop, take_all, drop-cons, drop-drop, take-take, length-take-le}
+use Rattle.std.specs.Int.{w64}
 use Rattle.std.proofs.Math.ListN.{length, take, get_or}
 use Rattle.std.proofs.Math.Seq.{take-nil, get_or-take}
-use borrow.Author.Tests.{lt-ltb, ltb-true, le-leb, lt-leb, leb-false, eq-eqb, ne_eqb, eqb-true}
+use Rattle.std.proofs.lemmas.Option.{some_pair_parts}
+use borrow.Author.Tests.{lt-ltb, le-leb, lt-leb, leb-false, eq-eqb, ne_eqb, eqb-true}
 use Rattle.table.specs.Cases.{cases}
 use Rattle.table.specs.Mask.{pick}
 use Rattle.text.specs.Number.{bytes, value, all_digits}
-use Rattle.text.proofs.NumberLaws.{by_order, and_right, all_head, all_tail, spelt_all}
-use Rattle.text.specs.Value.{same}
+use Rattle.text.proofs.NumberLaws.{by_order, all_head, all_tail, spelt_all}
+use Rattle.text.specs.Value.{ascending, same}
+use Rattle.text.specs.Format.{set_of}
 use Rattle.text.specs.Line.{run, stops}
 use Rattle.scan.specs.PlaceLaws.{count_more, count_none, Running, running_start, running_digits, run_turn, value_ends}
-use Rattle.numbers.specs.declared.Short.{Short}
-use Rattle.numbers.specs.declared.Short.TheVariants.{Is as IsShort, Not as NotShort}
 use Rattle.numbers.specs.Numerals.{short_of}
 use Rattle.numbers.specs.NumeralLaws.{Spelt, short_few, short_is, short_numeral}
-use Rattle.lists.specs.declared.Item.TheVariants.{Is as IsItem}
-use Rattle.lists.specs.declared.ShortList.{ShortList}
-use Rattle.lists.specs.declared.ShortList.TheVariants.{Is as IsQuick, Not as NotQuick}
-use Rattle.lists.specs.declared.Set.{Set}
-use Rattle.lists.specs.declared.Set.TheVariants.{Is as IsSet}
+use Rattle.scan.specs.Place.{Answer}
 use Rattle.lists.specs.Items.{up_to, CommaAt, inside, bit_of, part}
 use Rattle.lists.specs.ItemLaws.{comma_split, ItemAt}
 use Rattle.lists.specs.Sets.{SetSaid, single_of, SetIn}
 use Rattle.lists.specs.SetLaws.{Rising, rising_start, rising_end, rising_turn}
-use Rattle.lists.specs.ListLaws.{one_value, list_rising, set_step}
+use Rattle.lists.specs.ListLaws.{one_value, list_rising, value_judged}
 use Rattle.lists.specs.Short.{on_short, ended_by, quick_from, quick_of}
 
 -- ---- digits are no commas
@@ -81,7 +77,7 @@ module _ {u : List ℕ} {from to v : ℕ} (g : Running u 0 from) (p : Spelt u fr
         in
         record { same = omega (arith, d, c, p.from); from_on = omega (arith, p.from); within = rw (whole_length u) inside_run }
 
-    item_in : (lo n : ℕ) {m : ℕ} → m ≡ bit_of lo n v → ItemAt lo n (whole u) from (IsItem to m)
+    item_in : (lo n : ℕ) {m : ℕ} → m ≡ bit_of lo n v → ItemAt lo n (whole u) from (Some (m, to))
     item_in lo n q =
         let w : part (whole u) from to ≡ part u from to = whole_part u from to inside_run in
         record {
@@ -95,17 +91,17 @@ module _ {u : List ℕ} {from to v : ℕ} (g : Running u 0 from) (p : Spelt u fr
         }
 
 -- ---- one short number
-pub single_at : (s : List ℕ) (at lo n : ℕ) {a : Short} {v to : ℕ} {z : Bool} {r : Set} → a ≡ short_of s at → a ≡ IsShort v to → at ≤ length s → n ≤ 32
+pub single_at : (s : List ℕ) (at lo n : ℕ) {v to : ℕ} {z : Bool} {r : Answer ℕ} → Some (v, to) ≡ short_of s at → at ≤ length s → n ≤ 32
     → z ≡ stops (get_or s to 0) → z ≡ true → r ≡ single_of lo n v to → SetIn true lo n s at r
-single_at s at lo n {a} {v} {to} i j h u q k d =
-    let m = short_numeral s at i j h (sym q ∙ k) in
-    set_step (value_ends m.run m.inside) refl (one_value lo n (part s at to) v to m.same u d)
+single_at s at lo n {v} {to} i h u q k d =
+    let m = short_numeral s at i h (sym q ∙ k) in
+    value_judged (ascending true lo n) set_of (value_ends m.run m.inside) (one_value lo n (part s at to) v to m.same u d)
 
 -- ---- the value at a text's start ends at e, and says the set m
 pub record Listed (lo n : ℕ) (u : List ℕ) (m e : ℕ) : Type 0 where
   pub ends : run u ≡ e
   pub within : e < length u
-  pub said : (q : ℕ) → SetSaid false lo n (take e u) q (IsSet m q)
+  pub said : (q : ℕ) → SetSaid false lo n (take e u) q (Ok (m, q))
 
 -- ---- what is read so far: nothing; or items, and a comma
 pub data Listing (lo n : ℕ) (u : List ℕ) : ℕ → ℕ → Type 0 where
@@ -123,14 +119,6 @@ module _ (lo n v : ℕ) {m b : ℕ} (q : b ≡ bit_of lo n v) (h : m < b) where
 
   bit_one : true ≡ true && not (eqb b 0)
   bit_one = rw (ne_eqb b 0 (λ z. omega arith))
-
-  pub list_fits : n ≤ 32 → Fits w32 (m + b)
-  list_fits u =
-      let k : v < n = ltb-true v n (and_right (leb lo v) (ltb v n) bit_in) in
-      let j : v + 1 ≤ 32 = omega arith in
-      let w : 2 ^ (v + 1) ≤ 2 ^ 32 = pow_mono j in
-      let t : 2 ^ (v + 1) ≡ 2 ^ v + 2 ^ v = rw (add-one v) (omega (arith, pow-suc 2 v)) in
-      record { fits = omega (arith, bit_power, w, t) }
 
 power_less : (x v m : ℕ) → 2 ^ x ≤ m → m < 2 ^ v → x < v
 power_less x v m h k = by_order x v (λ l. l) (λ l. absurd (let z : 2 ^ v ≤ 2 ^ x = pow_mono l in omega arith))
@@ -183,13 +171,13 @@ module _ {lo n : ℕ} {u : List ℕ} {from m : ℕ} (s : Listing lo n u from m) 
       record {
         ends = r;
         within = p.within;
-        said = λ e. rw (← w) (list_rising refl refl (no_none s p) (rising_end (rise s p q h k c e) l refl));
+        said = λ e. rw (← w) (list_rising (whole u) refl refl (no_none s p) (rising_end (rise s p q h k c e) l refl));
       }
 
   list_turn : get_or u to 0 ≡ 44 → Listing lo n u (to + 1) (m + b)
   unfolding up_to
   list_turn e =
-      let f : Running u 0 (to + 1) = run_turn g p.within (λ z. omega arith) (λ z. omega arith) in
+      let f : Running u 0 (to + 1) = run_turn g p.within (rw e) in
       let r : to < run u = omega (arith, f.same) in
       let l : to < length (whole u) = rw (whole_length u) r in
       let d : get_or (whole u) to 0 ≡ 44 = get_or-take (run u) u to 0 r ∙ e in
@@ -208,43 +196,43 @@ pub left_start : (lo n : ℕ) (u : List ℕ) → Left lo n u 0 0
 unfolding quick_of
 left_start lo n u = record { bound = length u; enough = omega arith; same = refl }
 
-module _ {lo n : ℕ} {u : List ℕ} {from m : ℕ} (s : Left lo n u from m) {a : Short} (i : a ≡ short_of u from) where
-  left_no : ((k : ℕ) → NotQuick ≡ quick_from k lo n u from m) → NotQuick ≡ quick_of lo n u
+module _ {lo n : ℕ} {u : List ℕ} {from m : ℕ} (s : Left lo n u from m) where
+  left_no : ((k : ℕ) → None ≡ quick_from k lo n u from m) → None ≡ quick_of lo n u
   left_no f = f s.bound ∙ s.same
 
-  pub left_none : a ≡ NotShort → NotQuick ≡ quick_of lo n u
+  pub left_none : None ≡ short_of u from → None ≡ quick_of lo n u
   unfolding quick_from
   left_none j = left_no go
     where
-      go : (k : ℕ) → NotQuick ≡ quick_from k lo n u from m
+      go : (k : ℕ) → None ≡ quick_from k lo n u from m
       go zero = refl
-      go (suc k) = rw (← i, j)
+      go (suc k) = rw (← j)
 
-  module _ {v to : ℕ} (j : a ≡ IsShort v to) {b : ℕ} (q : b ≡ bit_of lo n v) where
-    pub left_low : b ≤ m → NotQuick ≡ quick_of lo n u
+  module _ {v to : ℕ} (j : Some (v, to) ≡ short_of u from) {b : ℕ} (q : b ≡ bit_of lo n v) where
+    pub left_low : b ≤ m → None ≡ quick_of lo n u
     unfolding quick_from
     left_low h = left_no go
       where
-        go : (k : ℕ) → NotQuick ≡ quick_from k lo n u from m
+        go : (k : ℕ) → None ≡ quick_from k lo n u from m
         go zero = refl
-        go (suc k) = rw (← i, j, ← q, le-leb b m h)
+        go (suc k) = rw (← j, ← q, le-leb b m h)
 
     module _ (h : m < b) {z : Bool} (e : z ≡ stops (get_or u to 0)) where
       more : (k : ℕ) → quick_from (suc k) lo n u from m ≡ ended_by (get_or u to 0) (m + b) to (quick_from k lo n u (to + 1) (m + b))
       unfolding quick_from
-      more k = rw (← i, j, ← q, lt-leb b m h)
+      more k = rw (← j, ← q, lt-leb b m h)
 
-      pub left_end : from < length u → z ≡ true → IsQuick (m + b) to ≡ quick_of lo n u
+      pub left_end : from < length u → z ≡ true → Some (m + b, to) ≡ quick_of lo n u
       left_end l x = go s.bound s.enough s.same
         where
-          go : (k : ℕ) → length u ≤ from + k → quick_from k lo n u from m ≡ quick_of lo n u → IsQuick (m + b) to ≡ quick_of lo n u
+          go : (k : ℕ) → length u ≤ from + k → quick_from k lo n u from m ≡ quick_of lo n u → Some (m + b, to) ≡ quick_of lo n u
           go zero d f = absurd (omega arith)
           go (suc k) d f = rw (← e, x) at (sym (more k) ∙ f)
 
-      pub left_other : z ≡ false → (get_or u to 0 ≡ 44 → ⊥) → NotQuick ≡ quick_of lo n u
+      pub left_other : z ≡ false → (get_or u to 0 ≡ 44 → ⊥) → None ≡ quick_of lo n u
       left_other x y = left_no go
         where
-          go : (k : ℕ) → NotQuick ≡ quick_from k lo n u from m
+          go : (k : ℕ) → None ≡ quick_from k lo n u from m
           go zero = (unfold quick_from in refl)
           go (suc k) = sym (more k ∙ rw (← e, x, ne_eqb (get_or u to 0) 44 y))
 
@@ -253,45 +241,44 @@ module _ {lo n : ℕ} {u : List ℕ} {from m : ℕ} (s : Left lo n u from m) {a 
         where
           go : (k : ℕ) → length u ≤ from + k → quick_from k lo n u from m ≡ quick_of lo n u → Left lo n u (to + 1) (m + b)
           go zero d f = absurd (omega arith)
-          go (suc k) d f = record { bound = k; enough = omega (arith, (short_is u from i j).from); same = rw (← e, x, eq-eqb (get_or u to 0) 44 y) at (sym (more k) ∙ f) }
+          go (suc k) d f = record { bound = k; enough = omega (arith, (short_is u from j).from); same = rw (← e, x, eq-eqb (get_or u to 0) 44 y) at (sym (more k) ∙ f) }
 
-pub left_over : {lo n : ℕ} {u : List ℕ} {from m : ℕ} → Left lo n u from m → length u ≤ from → NotQuick ≡ quick_of lo n u
-left_over {lo} {n} {u} {from} s h = left_none s (short_few u from (omega arith)) refl
+pub left_over : {lo n : ℕ} {u : List ℕ} {from m : ℕ} → Left lo n u from m → length u ≤ from → None ≡ quick_of lo n u
+left_over {lo} {n} {u} {from} s h = left_none s (short_few u from (omega arith))
 
 -- ---- what is read
-no_list : {P : Type 0} {m e : ℕ} → NotQuick ≡ IsQuick m e → P
-no_list e = absurd (let z : ◌≡◌ {A = ℕ} 0 1 = cc in omega arith)
+no_list : {P : Type 0} {m e : ℕ} → ◌≡◌ {A = Option (ℕ × ℕ)} None (Some (m, e)) → P
+no_list e = cc
 
 module _ (lo n : ℕ) (u : List ℕ) (h : n ≤ 32) (x e : ℕ) where
-  listed_item : (k : ℕ) {from m : ℕ} → Listing lo n u from m → ((f w : ℕ) → Listing lo n u f w → quick_from k lo n u f w ≡ IsQuick x e → Listed lo n u x e)
-      → (o : Short) → o ≡ short_of u from
-      → on_short o (λ v to. pick (leb (bit_of lo n v) m) NotQuick (ended_by (get_or u to 0) (m + bit_of lo n v) to (quick_from k lo n u (to + 1) (m + bit_of lo n v)))) ≡ IsQuick x e
+  listed_item : (k : ℕ) {from m : ℕ} → Listing lo n u from m → ((f w : ℕ) → Listing lo n u f w → quick_from k lo n u f w ≡ Some (x, e) → Listed lo n u x e)
+      → (o : Option (ℕ × ℕ)) → o ≡ short_of u from
+      → on_short o (λ v to. pick (leb (bit_of lo n v) m) None (ended_by (get_or u to 0) (m + bit_of lo n v) to (quick_from k lo n u (to + 1) (m + bit_of lo n v)))) ≡ Some (x, e)
       → Listed lo n u x e
-  listed_item k s f NotShort i q = no_list q
-  listed_item k {from} {m} s f (IsShort v to) i q =
+  listed_item k s f None i q = no_list q
+  listed_item k {from} {m} s f (Some (v, to)) i q =
       let b = bit_of lo n v in
-      let p : Spelt u from to v = short_is u from i refl in
+      let p : Spelt u from to v = short_is u from i in
       cases (leb b m)
       (λ z. no_list (rw z at q))
       (λ z.
       let l : m < b = leb-false b m z in
       cases (stops (get_or u to 0))
       (λ y.
-      let r : IsQuick (m + b) to ≡ IsQuick x e = rw (z, y) at q in
-      let c : x ≡ m + b = cc in
-      let d : e ≡ to = cc in
-      rw (c, d) (list_end s p refl l h y))
+      let r : ◌≡◌ {A = Option (ℕ × ℕ)} (Some (m + b, to)) (Some (x, e)) = rw (z, y) at q in
+      let c = some_pair_parts (m + b) x to e r in
+      rw (← c.0, ← c.1) (list_end s p refl l h y))
       (λ y. cases (eqb (get_or u to 0) 44)
       (λ w. f (to + 1) (m + b) (list_turn s p refl l h (eqb-true (get_or u to 0) 44 w)) (rw (z, y, w) at q))
       (λ w. no_list (rw (z, y, w) at q))))
 
-  listed_from : (k : ℕ) {from m : ℕ} → Listing lo n u from m → quick_from k lo n u from m ≡ IsQuick x e → Listed lo n u x e
+  listed_from : (k : ℕ) {from m : ℕ} → Listing lo n u from m → quick_from k lo n u from m ≡ Some (x, e) → Listed lo n u x e
   unfolding quick_from
   listed_from zero s q = no_list q
   listed_from (suc k) {from} s q = listed_item k s (λ f w t z. listed_from k t z) (short_of u from) refl q
 
 -- ---- the list at a place
-module _ (lo n : ℕ) (s : List ℕ) (at : ℕ) {r : ShortList} (i : r ≡ quick_of lo n (take (length s - at) (drop at s))) (u : n ≤ 32) {m k : ℕ} (q : r ≡ IsQuick m k) where
+module _ (lo n : ℕ) (s : List ℕ) (at : ℕ) {r : Option (ℕ × ℕ)} (i : r ≡ quick_of lo n (take (length s - at) (drop at s))) (u : n ≤ 32) {m k : ℕ} (q : r ≡ Some (m, k)) where
   rest : take (length s - at) (drop at s) ≡ drop at s
   rest = take_all (length s - at) (drop at s) (simp length-drop (omega arith))
 
@@ -305,10 +292,10 @@ module _ (lo n : ℕ) (s : List ℕ) (at : ℕ) {r : ShortList} (i : r ≡ quick
   pub many_fits : at ≤ length s → length s < 18446744073709551616 → Fits w64 (at + k)
   many_fits h l = record { fits = omega (arith, many_within h) }
 
-  pub many_is : at ≤ length s → SetIn false lo n s at (IsSet m (at + k))
+  pub many_is : at ≤ length s → SetIn false lo n s at (Ok (m, at + k))
   many_is h =
       let d = listed in
       record {
-        same = λ l. (d.said (at + k)).judged.same l s ∙ rw (d.ends, lt-ltb k (length (drop at s)) d.within, drop-drop k at s);
+        same = λ l. (d.said (at + k)).same l s ∙ rw (d.ends, lt-ltb k (length (drop at s)) d.within, drop-drop k at s);
         within = many_within h;
       }

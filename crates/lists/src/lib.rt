@@ -2,49 +2,16 @@
 
 #![tactic(auto)]
 
-ghost use Rattle.std.specs.Prelude.{◌+◌, ◌≤◌, min, ◌≡◌, true, false, ◌&&◌, not, [], ◌∷◌, eqb, length};
-ghost use Rattle.table.specs.Mask.{pick};
+ghost use Rattle.std.specs.Prelude.{◌≤◌, ◌≡◌, true, false, [], ◌∷◌, length};
 ghost use Rattle.text.specs.Value.{numeral, said_variable, split, each};
 ghost use Rattle.text.specs.Format.{args_of};
 ghost use Rattle.lists.specs.Items.{CommaAt, bit_of, item_of};
 ghost use Rattle.lists.specs.Sets.{SetJudged, SetSaid, single_of, SetIn, SetAt};
 ghost use Rattle.lists.specs.Short.{quick_of};
-ghost use Rattle.lists.specs.Passing.{argument_of, argument_from, pushed_of, PassedJudged, PassedSaid, PassedAt};
+ghost use Rattle.lists.specs.Passing.{argument_of, argument_from, pushed_of, with_of, PassedJudged, PassedSaid, PassedAt};
 
-// One item of a list of numbers: where it ends, and its bit, 0 for one that is outside.
-#[derive(Clone, Copy)]
-enum Item {
-    Is(usize, u32),
-    Not,
-}
-
-// A set of numbers, bit x for the number x, and the place after its list, or the fault.
-#[derive(Clone, Copy)]
-pub enum Set {
-    Is(u32, usize),
-    Not(text::Fault),
-}
-
-// A set and where its list ends; or the list is read another way.
-#[derive(Clone, Copy)]
-enum ShortList {
-    Is(u32, usize),
-    Not,
-}
-
-// One of a call's variables: where it ends, the variable, and whether it is declared.
-#[derive(Clone, Copy)]
-enum Argument {
-    Is(usize, u8, bool),
-    Not,
-}
-
-// A call's variables and the place after their list, or the fault.
-#[derive(Clone, Copy)]
-pub enum Passed {
-    Is(table::Args, usize),
-    Not(text::Fault),
-}
+use table::Args;
+use text::Fault;
 
 // ---- items
 
@@ -53,14 +20,10 @@ pub fn comma(t: &[u8], from: usize) -> usize
     requires { from ≤ length t.now }
     ensures { CommaAt t.now from result }
 {
-    let mut i = from;
-    while i < t.len() {
-        if t[i] == 44 {
-            return i;
-        }
-        i += 1;
+    match t[from..].iter().position(|b| *b == b',') {
+        Some(n) => from + n,
+        None => t.len(),
     }
-    i
 }
 
 // The set of a number that is at least lo and below the next; else no set, 0.
@@ -68,197 +31,180 @@ fn bit(v: u64, lo: u64, below: u64) -> u32
     requires { below ≤ 32 }
     ensures { result ≡ bit_of lo below v }
 {
-    if v < lo {
-        return 0;
+    if (lo..below).contains(&v) {
+        1u32 << v
+    } else {
+        0
     }
-    if v < below {
-        return 1u32 << v;
-    }
-    0
 }
 
-fn item_at(t: &[u8], from: usize, lo: u64, below: u64) -> Item
+// One item of a list of numbers: its bit, 0 for one that is outside, and where it ends.
+fn item_at(t: &[u8], from: usize, lo: u64, below: u64) -> Option<(u32, usize)>
     requires { (from ≤ length t.now) × (below ≤ 32) }
     ensures { result ≡ item_of lo below t.now from }
 {
     let to = comma(t, from);
-    let digits::Num::Good(v) = digits::number(&t[from..to]) else {
-        return Item::Not;
-    };
-    Item::Is(to, bit(v, lo, below))
-}
-
-// Both within and inside: a bit that is not 0.
-fn kept(within: bool, m: u32) -> bool
-    ensures { result ≡ within && not (eqb m 0) }
-{
-    if m == 0 {
-        return false;
-    }
-    within
+    let v = digits::number(&t[from..to])?;
+    Some((bit(v, lo, below), to))
 }
 
 // ---- lists that ascend
 
 // Items with commas between, each above the one before: spelling and order come before any item's range.
-fn rising(t: &[u8], e: usize, lo: u64, below: u64) -> Set
+// The loop goes from comma to comma, by steps that are no count. `within` stands beside `mask`, a sum to which an item outside adds nothing.
+fn rising(t: &[u8], e: usize, lo: u64, below: u64) -> Result<(u32, usize), Fault>
     requires { below ≤ 32 }
     ensures { SetJudged false lo below (each numeral (split t.now)) e result }
 {
-    let first = item_at(t, 0, lo, below);
-    let Item::Is(end, b) = first else {
-        return Set::Not(text::Fault::Misspelt);
-    };
+    let (b, end) = item_at(t, 0, lo, below).ok_or(Fault::Misspelt)?;
     let mut from = 0;
     let mut to = end;
     let mut mask = b;
-    let mut within = kept(true, b);
+    let mut within = b != 0;
     while to < t.len() {
         let next = to + 1;
-        let item = item_at(t, next, lo, below);
-        let Item::Is(end, b) = item else {
-            return Set::Not(text::Fault::Misspelt);
-        };
+        let (b, end) = item_at(t, next, lo, below).ok_or(Fault::Misspelt)?;
         if !digits::less(&t[from..to], &t[next..end]) {
-            return Set::Not(text::Fault::Misspelt); // out of order
+            return Err(Fault::Misspelt); // out of order
         }
         mask += b;
-        within = kept(within, b);
+        within &= b != 0;
         from = next;
         to = end;
     }
     if within {
-        return Set::Is(mask, e);
+        Ok((mask, e))
+    } else {
+        Err(Fault::Reference)
     }
-    Set::Not(text::Fault::Reference)
 }
 
 // A list of one number v.
-fn one_of(v: u64, e: usize, lo: u64, below: u64) -> Set
+fn one_of(v: u64, e: usize, lo: u64, below: u64) -> Result<(u32, usize), Fault>
     requires { below ≤ 32 }
     ensures { result ≡ single_of lo below v e }
 {
     let b = bit(v, lo, below);
     if b == 0 {
-        return Set::Not(text::Fault::Reference);
+        Err(Fault::Reference)
+    } else {
+        Ok((b, e))
     }
-    Set::Is(b, e)
 }
 
 // A list of one number.
-fn single(t: &[u8], e: usize, lo: u64, below: u64) -> Set
+fn single(t: &[u8], e: usize, lo: u64, below: u64) -> Result<(u32, usize), Fault>
     requires { below ≤ 32 }
     ensures { SetSaid true lo below t.now e result }
 {
-    let digits::Num::Good(v) = digits::number(t) else {
-        return Set::Not(text::Fault::Misspelt);
-    };
+    let v = digits::number(t).ok_or(Fault::Misspelt)?;
     one_of(v, e, lo, below)
 }
 
-fn ascending_value(t: &[u8], e: usize, one: bool, lo: u64, below: u64) -> Set
+fn ascending_value(
+    t: &[u8],
+    e: usize,
+    one: bool,
+    lo: u64,
+    below: u64,
+) -> Result<(u32, usize), Fault>
     requires { below ≤ 32 }
     ensures { SetSaid one lo below t.now e result }
 {
     if one {
-        return single(t, e, lo, below);
+        single(t, e, lo, below)
+    } else if scan::is_word(t, b"none") {
+        Ok((0, e))
+    } else {
+        rising(t, e, lo, below)
     }
-    if scan::is_word(t, b"none") {
-        return Set::Is(0, e);
-    }
-    rising(t, e, lo, below)
 }
 
 // ---- short numbers that ascend, in one pass
 
-// The list at a text's start, if its numbers are short, inside and ascend.
-fn short_list(u: &[u8], lo: u64, below: u64) -> ShortList
+// The list at a text's start and where it ends, if its numbers are short, inside and ascend.
+// The loop goes from item to item, by steps that are no count.
+fn short_list(u: &[u8], lo: u64, below: u64) -> Option<(u32, usize)>
     requires { below ≤ 32 }
     ensures { result ≡ quick_of lo below u.now }
 {
     let mut from = 0;
     let mut mask = 0u32;
     while from < u.len() {
-        let item = numbers::short_number(u, from);
-        let numbers::Short::Is(v, to) = item else {
-            return ShortList::Not;
-        };
+        let (v, to) = numbers::short_number(u, from)?;
         let b = bit(v, lo, below);
         if b <= mask {
-            return ShortList::Not;
+            return None;
         }
         mask += b;
         let c = u[to];
         if scan::stops(c) {
-            return ShortList::Is(mask, to);
+            return Some((mask, to));
         }
-        if c != 44 {
-            return ShortList::Not;
+        if c != b',' {
+            return None;
         }
         from = to + 1;
     }
-    ShortList::Not
+    None
 }
 
 // ---- lists at a place
 
 // Any list.
-fn any_list(s: &[u8], at: usize, one: bool, lo: u64, below: u64) -> Set
+fn any_list(s: &[u8], at: usize, one: bool, lo: u64, below: u64) -> Result<(u32, usize), Fault>
     requires { (at ≤ length s.now) × (below ≤ 32) }
     ensures { SetIn one lo below s.now at result }
 {
-    let found = scan::value_at(s, at);
-    let scan::Token::At(b, e) = found else {
-        return Set::Not(scan::refusal(found));
-    };
+    let (b, e) = scan::value_at(s, at)?;
     ascending_value(&s[b..e], e, one, lo, below)
 }
 
-fn many(s: &[u8], at: usize, lo: u64, below: u64) -> Set
+fn many(s: &[u8], at: usize, lo: u64, below: u64) -> Result<(u32, usize), Fault>
     requires { (at ≤ length s.now) × (below ≤ 32) }
     ensures { SetIn false lo below s.now at result }
 {
-    let list = short_list(&s[at..], lo, below);
-    let ShortList::Is(m, n) = list else {
-        return any_list(s, at, false, lo, below);
-    };
-    Set::Is(m, at + n)
+    match short_list(&s[at..], lo, below) {
+        Some((m, n)) => Ok((m, at + n)),
+        None => any_list(s, at, false, lo, below),
+    }
 }
 
-fn single_at(s: &[u8], at: usize, lo: u64, below: u64) -> Set
+fn single_at(s: &[u8], at: usize, lo: u64, below: u64) -> Result<(u32, usize), Fault>
     requires { (at ≤ length s.now) × (below ≤ 32) }
     ensures { SetIn true lo below s.now at result }
 {
-    let item = numbers::short_number(s, at);
-    let numbers::Short::Is(v, to) = item else {
-        return any_list(s, at, true, lo, below);
-    };
-    if scan::stops(s[to]) {
-        return one_of(v, to, lo, below);
+    match numbers::short_number(s, at) {
+        Some((v, to)) if scan::stops(s[to]) => one_of(v, to, lo, below),
+        _ => any_list(s, at, true, lo, below),
     }
-    any_list(s, at, true, lo, below)
 }
 
-fn ascending_at(s: &[u8], at: usize, one: bool, lo: u64, below: u64) -> Set
+fn ascending_at(s: &[u8], at: usize, one: bool, lo: u64, below: u64) -> Result<(u32, usize), Fault>
     requires { (at ≤ length s.now) × (below ≤ 32) }
     ensures { SetIn one lo below s.now at result }
 {
     if one {
-        return single_at(s, at, lo, below);
+        single_at(s, at, lo, below)
+    } else {
+        many(s, at, lo, below)
     }
-    many(s, at, lo, below)
 }
 
 // A list that ascends strictly, of numbers at least lo and below the next; of one number or of any count.
-pub fn ascending_field(s: &[u8], at: usize, key: &[u8], one: bool, lo: u64, below: u64) -> Set
+pub fn ascending_field(
+    s: &[u8],
+    at: usize,
+    key: &[u8],
+    one: bool,
+    lo: u64,
+    below: u64,
+) -> Result<(u32, usize), Fault>
     requires { (at ≤ length s.now) × (below ≤ 32) }
     ensures { SetAt one lo below key.now s.now at result }
 {
-    match scan::after(s, at, key) {
-        scan::Found::At(b) => ascending_at(s, b, one, lo, below),
-        scan::Found::Differs => Set::Not(text::Fault::Form),
-        scan::Found::Broken => Set::Not(text::Fault::Ended),
-    }
+    let b = scan::after(s, at, key)?;
+    ascending_at(s, b, one, lo, below)
 }
 
 // As `ascending_field`, behind a key of four bytes and the rest.
@@ -273,82 +219,60 @@ pub fn ascending_word(
     one: bool,
     lo: u64,
     below: u64,
-) -> Set
+) -> Result<(u32, usize), Fault>
     requires { (at ≤ length s.now) × (below ≤ 32) }
     ensures { SetAt one lo below (a ∷ b ∷ c ∷ d ∷ rest.now) s.now at result }
 {
-    match scan::after_word(s, at, a, b, c, d, rest) {
-        scan::Found::At(e) => ascending_at(s, e, one, lo, below),
-        scan::Found::Differs => Set::Not(text::Fault::Form),
-        scan::Found::Broken => Set::Not(text::Fault::Ended),
-    }
+    let from = scan::after_word(s, at, a, b, c, d, rest)?;
+    ascending_at(s, from, one, lo, below)
 }
 
 // ---- a call's variables
 
-fn argument_value(w: &[u8], to: usize, closed: bool, vars: u64) -> Argument
+// One of a call's variables, none for one that is not declared; or it is misspelt.
+fn argument_value(w: &[u8], closed: bool, vars: u64) -> Option<Option<u8>>
     requires { vars ≤ 256 }
-    ensures { result ≡ argument_of closed vars w.now to }
+    ensures { result ≡ argument_of closed vars w.now }
 {
     if scan::is_word(w, b"-") {
-        if closed {
-            return Argument::Is(to, table::REMOVED, true);
-        }
-        return Argument::Not;
+        return closed.then_some(Some(table::REMOVED));
     }
-    let digits::Num::Good(v) = digits::number(w) else {
-        return Argument::Not;
-    };
+    let v = digits::number(w)?;
     if v < vars {
-        return Argument::Is(to, v as u8, true);
+        Some(Some(v as u8))
+    } else {
+        Some(None)
     }
-    Argument::Is(to, 0, false)
 }
 
-fn argument_at(t: &[u8], from: usize, closed: bool, vars: u64) -> Argument
+// The variable from a place to the next comma, and where it ends.
+fn argument_at(t: &[u8], from: usize, closed: bool, vars: u64) -> Option<(Option<u8>, usize)>
     requires { (from ≤ length t.now) × (vars ≤ 256) }
     ensures { result ≡ argument_from closed vars t.now from }
 {
     let to = comma(t, from);
-    argument_value(&t[from..to], to, closed, vars)
+    let v = argument_value(&t[from..to], closed, vars)?;
+    Some((v, to))
 }
 
-fn place(n: u8, i: u8, v: u8, old: u8) -> u8
-    ensures { result ≡ pick (eqb n i) v old }
-{
-    if n == i {
-        return v;
-    }
-    old
-}
-
-// One more, and 5 for any count above 4.
-fn more_of(n: u8) -> u8
-    ensures { result ≡ min (n + 1) 5 }
-{
-    if n < 5 {
-        return n + 1;
-    }
-    5
-}
-
-fn pushed(a: table::Args, v: u8) -> table::Args
+// One variable more; the count is 5 for any above 4.
+fn pushed(a: Args, v: u8) -> Args
     ensures { result ≡ pushed_of a v }
 {
-    let n = a.len;
-    table::Args {
-        len: more_of(n),
-        a0: place(n, 0, v, a.a0),
-        a1: place(n, 1, v, a.a1),
-        a2: place(n, 2, v, a.a2),
-        a3: place(n, 3, v, a.a3),
+    let len = a.len.min(4) + 1;
+    match a.len {
+        0 => Args { len, a0: v, ..a },
+        1 => Args { len, a1: v, ..a },
+        2 => Args { len, a2: v, ..a },
+        3 => Args { len, a3: v, ..a },
+        _ => Args { len, ..a },
     }
 }
 
-fn no_args() -> table::Args
+fn no_args() -> Args
     ensures { result ≡ args_of [] }
 {
-    table::Args {
+    Args {
         len: 0,
         a0: 0,
         a1: 0,
@@ -357,61 +281,51 @@ fn no_args() -> table::Args
     }
 }
 
-fn both(a: bool, b: bool) -> bool
-    ensures { result ≡ a && b }
+// The variables so far and one more; none if any of them is not declared.
+fn with(args: Option<Args>, v: Option<u8>) -> Option<Args>
+    ensures { result ≡ with_of args v }
 {
-    if a {
-        return b;
+    match (args, v) {
+        (Some(a), Some(v)) => Some(pushed(a, v)),
+        _ => None,
     }
-    false
 }
 
 // Variables with commas between: spelling comes before any item's reference.
-fn passing(t: &[u8], e: usize, closed: bool, vars: u64) -> Passed
+// The loop goes from comma to comma, by steps that are no count.
+fn passing(t: &[u8], e: usize, closed: bool, vars: u64) -> Result<(Args, usize), Fault>
     requires { vars ≤ 256 }
     ensures { PassedJudged closed vars (each said_variable (split t.now)) e result }
 {
-    let first = argument_at(t, 0, closed, vars);
-    let Argument::Is(end, v, ok) = first else {
-        return Passed::Not(text::Fault::Misspelt);
-    };
-    let mut to = end;
-    let mut args = pushed(no_args(), v);
-    let mut within = ok;
-    while to < t.len() {
-        let next = to + 1;
-        let item = argument_at(t, next, closed, vars);
-        let Argument::Is(end, v, ok) = item else {
-            return Passed::Not(text::Fault::Misspelt);
-        };
-        args = pushed(args, v);
-        within = both(within, ok);
-        to = end;
+    let mut args = Some(no_args());
+    let mut from = 0;
+    loop {
+        let (v, to) = argument_at(t, from, closed, vars).ok_or(Fault::Misspelt)?;
+        args = with(args, v);
+        if t.len() <= to {
+            let a = args.ok_or(Fault::Reference)?;
+            return Ok((a, e));
+        }
+        from = to + 1;
     }
-    if within {
-        return Passed::Is(args, e);
-    }
-    Passed::Not(text::Fault::Reference)
 }
 
-fn arguments_value(t: &[u8], e: usize, closed: bool, vars: u64) -> Passed
+fn arguments_value(t: &[u8], e: usize, closed: bool, vars: u64) -> Result<(Args, usize), Fault>
     requires { vars ≤ 256 }
     ensures { PassedSaid closed vars t.now e result }
 {
     if scan::is_word(t, b"none") {
-        return Passed::Is(no_args(), e);
+        Ok((no_args(), e))
+    } else {
+        passing(t, e, closed, vars)
     }
-    passing(t, e, closed, vars)
 }
 
 // A call's variables, with so many declared; in closed form each may be `-`.
-pub fn arguments_field(s: &[u8], at: usize, closed: bool, vars: u64) -> Passed
+pub fn arguments_field(s: &[u8], at: usize, closed: bool, vars: u64) -> Result<(Args, usize), Fault>
     requires { (at ≤ length s.now) × (vars ≤ 256) }
     ensures { PassedAt closed vars s.now at result }
 {
-    let found = scan::token_at(s, at, b" args=");
-    let scan::Token::At(b, e) = found else {
-        return Passed::Not(scan::refusal(found));
-    };
+    let (b, e) = scan::token_at(s, at, b" args=")?;
     arguments_value(&s[b..e], e, closed, vars)
 }

@@ -1,6 +1,7 @@
 -- Laws of the readers of operands and variables: each says what a step of the code shows.
-use Rattle.std.specs.Prelude.{ℕ, zero, suc, ◌+◌, ◌-◌, ◌≤◌, ◌<◌, ◌≡◌, List, [], ◌∷◌, Bool, true, false, ℤ, pos, negsuc, ◌-ℤ◌, ltb, leb, eqb, length, drop, get_or}
+use Rattle.std.specs.Prelude.{ℕ, zero, suc, ◌+◌, ◌-◌, ◌≤◌, ◌<◌, ◌≡◌, Some, None, Ok, Err, List, [], ◌∷◌, Bool, true, false, ℤ, pos, negsuc, ◌-ℤ◌, ltb, leb, eqb, length, drop, get_or}
 use Rattle.std.proofs.Math.Path.{refl}
+use Rattle.std.proofs.Math.Logic.{inl, inr}
 use Rattle.std.proofs.Common.{sym, ◌∙◌, ap, arith, zero-add, add-zero, add-one, drop_of_length-le, length-drop, drop-cons, drop-drop, to_z, of_z, SFits}
 use Rattle.std.proofs.Math.Option.{Option, none, some}
 use Rattle.std.proofs.Math.ListN.{take}
@@ -11,33 +12,19 @@ use Rattle.table.specs.Cases.{cases}
 use Rattle.table.specs.declared.Operand.{Operand}
 use Rattle.table.specs.declared.Operand.TheVariants.{Var, Const}
 use Rattle.text.specs.declared.Fault.{Fault}
-use Rattle.text.specs.declared.Fault.TheVariants.{Form, Misspelt, Ended, Range, Reference}
+use Rattle.text.specs.declared.Fault.TheVariants.{Misspelt, Ended, Range, Reference}
 use Rattle.text.specs.Number.{bytes, spelt, value}
 use Rattle.text.proofs.NumberLaws.{by_order}
-use Rattle.text.specs.Line.{run, stops, judged, value_of, field_of}
+use Rattle.text.specs.Line.{run, stops, judged, value_of}
 use Rattle.text.specs.Value.{operand, variable, numeral, as_var, as_const, as_negative, said_operand, same, said, unsaid, check}
 use Rattle.text.specs.Format.{variable_of}
-use Rattle.digits.specs.declared.Num.{Num}
-use Rattle.digits.specs.declared.Num.TheVariants.{Good, Bad}
 use Rattle.digits.specs.Read.{capped, number_of}
 use Rattle.digits.specs.NumeralLaws.{spelt_good, numeral_bad, numeral_good}
-use Rattle.scan.specs.declared.Found.{Found}
-use Rattle.scan.specs.declared.Found.TheVariants.{At, Differs, Broken}
-use Rattle.numbers.specs.declared.Numeral.{Numeral}
-use Rattle.numbers.specs.declared.Numeral.TheVariants.{Is as IsNumeral, Bad as BadNumeral, Over}
-use Rattle.numbers.specs.declared.Short.{Short}
-use Rattle.numbers.specs.declared.Short.TheVariants.{Is as IsShort}
-use Rattle.scan.specs.declared.Token.{Token}
-use Rattle.scan.specs.declared.Token.TheVariants.{At as Between, Not as Refused}
-use Rattle.numbers.specs.declared.Number.{Number}
-use Rattle.numbers.specs.declared.Number.TheVariants.{Is, Not}
-use Rattle.operands.specs.declared.Operand.{Operand as OperandAnswer}
-use Rattle.operands.specs.declared.Operand.TheVariants.{Is as IsOperand, Not as NotOperand}
-use Rattle.scan.specs.Place.{AfterKey, RunEnd, ValueAt, RefusalOf}
-use Rattle.numbers.specs.Numerals.{NumeralTo, NumeralAt, short_value_of}
+use Rattle.scan.specs.Place.{Answer, Within, AfterKey, RunEnd, ValueAt}
+use Rattle.numbers.specs.Numerals.{NumeralTo, NumeralFault, NumeralAt, short_value_of}
 use Rattle.numbers.specs.NumeralLaws.{short_whole}
-use Rattle.scan.specs.PlaceLaws.{count_more, value_ends, value_within}
-use Rattle.operands.specs.Answer.{OperandEnds, OperandWithin, operand_answer, OperandJudged, skip, operand_kind, Judged, value_as, OperandAs, OperandIn, OperandAt, VariableEnds, VariableWithin, VariableSaid, VariableIn, VariableAt}
+use Rattle.scan.specs.PlaceLaws.{count_more, value_ends, field_found, field_refused}
+use Rattle.operands.specs.Answer.{OperandEnds, OperandWithin, operand_answer, OperandJudged, skip, operand_kind, Judged, value_as, OperandAs, OperandIn, OperandAt, VariableEnds, VariableSaid, VariableIn, VariableAt}
 use Rattle.numbers.specs.Answer.{mapped}
 
 -- ---- signed numbers
@@ -56,40 +43,40 @@ negative_is x p h = to_z-of_z w32 _ (negative_fits x p h) ∙ rw (positive_is (x
 
 -- ---- the answer for the number x behind `v`, behind `-` or alone
 module _ {n x : ℕ} (e : ℕ) where
-  pub named_good : x < n → IsOperand (Var x) e ≡ operand_answer n (as_var (some x)) e
+  pub named_good : x < n → Ok (Var x, e) ≡ operand_answer n (as_var (some x)) e
   named_good l = rw (lt-ltb x n l)
 
-  pub named_high : n ≤ x → NotOperand Reference ≡ operand_answer n (as_var (some x)) e
+  pub named_high : n ≤ x → Err Reference ≡ operand_answer n (as_var (some x)) e
   named_high l = rw (le-ltb x n l)
 
 module _ (n : ℕ) {x : ℕ} (e : ℕ) where
-  pub constant_good : {z : ℤ} → x ≤ 2147483647 → z ≡ pos x → IsOperand (Const (to_z w32 (of_z w32 z))) e ≡ operand_answer n (as_const (some x)) e
+  pub constant_good : {z : ℤ} → x ≤ 2147483647 → z ≡ pos x → Ok (Const (to_z w32 (of_z w32 z)), e) ≡ operand_answer n (as_const (some x)) e
   constant_good l q = rw (q, positive_is x l, le-leb x 2147483647 l)
 
-  pub constant_high : 2147483647 < x → NotOperand Range ≡ operand_answer n (as_const (some x)) e
+  pub constant_high : 2147483647 < x → Err Range ≡ operand_answer n (as_const (some x)) e
   constant_high l = rw (lt-leb x 2147483647 l)
 
-  pub negative_zero : x ≡ 0 → NotOperand Misspelt ≡ operand_answer n (as_negative (some x)) e
+  pub negative_zero : x ≡ 0 → Err Misspelt ≡ operand_answer n (as_negative (some x)) e
   negative_zero h = rw h
 
   pub negative_good : {z : ℤ} → (x ≡ 0 → ⊥) → x ≤ 2147483648 → z ≡ negsuc (x - 1)
-      → IsOperand (Const (to_z w32 (of_z w32 z))) e ≡ operand_answer n (as_negative (some x)) e
+      → Ok (Const (to_z w32 (of_z w32 z)), e) ≡ operand_answer n (as_negative (some x)) e
   negative_good k l q =
       let y : x ≡ suc (x - 1) = omega arith in
       let f : SFits w32 (negsuc (x - 1)) = record { sfits = omega arith } in
       rw (q, to_z-of_z w32 (negsuc (x - 1)) f) (less (x - 1) y (omega arith))
     where
-      less : (k : ℕ) → x ≡ suc k → k ≤ 2147483647 → IsOperand (Const (negsuc k)) e ≡ operand_answer n (as_negative (some x)) e
+      less : (k : ℕ) → x ≡ suc k → k ≤ 2147483647 → Ok (Const (negsuc k), e) ≡ operand_answer n (as_negative (some x)) e
       less k y h = rw (y, le-leb k 2147483647 h)
 
-  pub negative_high : 2147483648 < x → NotOperand Range ≡ operand_answer n (as_negative (some x)) e
+  pub negative_high : 2147483648 < x → Err Range ≡ operand_answer n (as_negative (some x)) e
   negative_high l = more (x - 1) (omega arith) (omega arith)
     where
-      more : (k : ℕ) → x ≡ suc k → 2147483647 < k → NotOperand Range ≡ operand_answer n (as_negative (some x)) e
+      more : (k : ℕ) → x ≡ suc k → 2147483647 < k → Err Range ≡ operand_answer n (as_negative (some x)) e
       more k y h = rw (y, lt-leb k 2147483647 h)
 
 -- by the first byte
-module _ (b n x e : ℕ) {r : OperandAnswer} where
+module _ (b n x e : ℕ) {r : Answer Operand} where
   pub any_named : b ≡ 118 → r ≡ operand_answer n (as_var (some x)) e → r ≡ operand_answer n (operand_kind b (some x)) e
   any_named h a = rw h a
 
@@ -118,7 +105,7 @@ judged_answer n (some (Var v)) e = judged_var n v e
 judged_answer n (some (Const z)) e = judged_const n e z
 
 -- a number above 2^32 is answered as the 2^32 that is read for it
-module _ (t : List ℕ) (n e : ℕ) {x : ℕ} (d : Good x ≡ number_of t) where
+module _ (t : List ℕ) (n e : ℕ) {x : ℕ} (d : Some x ≡ number_of t) where
   read_as : capped (value t) ≡ x
   read_as = (spelt_good t d refl).1
 
@@ -137,12 +124,12 @@ module _ (t : List ℕ) (n e : ℕ) {x : ℕ} (d : Good x ≡ number_of t) where
       (λ l. sym (negative_high n {x = x} e (omega (arith, read_as))) ∙ negative_high n {x = value t} e l)
       (λ l. let y : value t ≡ x = omega (arith, read_as) in rw y))
 
-of_capped : {kind : Option ℕ → Option Operand} {n x e : ℕ} {r : OperandAnswer}
-    → ((t : List ℕ) → Good x ≡ number_of t → operand_answer n (kind (some x)) e ≡ operand_answer n (kind (numeral t)) e)
+of_capped : {kind : Option ℕ → Option Operand} {n x e : ℕ} {r : Answer Operand}
+    → ((t : List ℕ) → Some x ≡ number_of t → operand_answer n (kind (some x)) e ≡ operand_answer n (kind (numeral t)) e)
     → r ≡ operand_answer n (kind (some x)) e → Judged kind n x e r
 of_capped {kind} {n} {x} {e} k q = record { is = λ t d. rw (q, k t d) (judged_answer n (kind (numeral t)) e) }
 
-module _ {n x e : ℕ} {r : OperandAnswer} where
+module _ {n x e : ℕ} {r : Answer Operand} where
   pub judged_named : n ≤ 256 → r ≡ operand_answer n (as_var (some x)) e → Judged as_var n x e r
   judged_named u q = of_capped (λ t d. capped_var t n e d u) q
 
@@ -158,39 +145,38 @@ module _ {n x e : ℕ} {r : OperandAnswer} where
       (λ h. rw h (judged_named u (rw h at q)))
       (λ h. cases (eqb b 45) (λ k. rw (h, k) (judged_negative (rw (h, k) at q))) (λ k. rw (h, k) (judged_constant (rw (h, k) at q))))
 
-module _ {s : List ℕ} {at : ℕ} {r : Numeral} (m : NumeralAt s at r) where
-  -- the value of the digits at a place, where it ends
-  value_to : (kind : Option ℕ → Option Operand) (n : ℕ) {e : ℕ} → RunEnd s at e → e < length s → (l : ℕ)
-      → judged (operand n) (kind (numeral (take (e - at) (drop at s)))) l (drop e s) ≡ value_as kind n l (drop at s)
-  value_to kind n {e} u h l =
-      let z : run (drop at s) ≡ e - at = omega (arith, u.same) in
-      let k : e - at < length (drop at s) = simp length-drop (omega (arith, u.from)) in
-      let d : at + (e - at) ≡ e = omega (arith, u.from) in
-      rw (z, lt-ltb (e - at) (length (drop at s)) k, drop-drop (e - at) at s, d)
+-- the value of the digits at a place, where it ends
+value_to : {s : List ℕ} {at : ℕ} (kind : Option ℕ → Option Operand) (n : ℕ) {e : ℕ} → RunEnd s at e → e < length s → (l : ℕ)
+    → judged (operand n) (kind (numeral (take (e - at) (drop at s)))) l (drop e s) ≡ value_as kind n l (drop at s)
+value_to {s} {at} kind n {e} u h l =
+    let z : run (drop at s) ≡ e - at = omega (arith, u.same) in
+    let k : e - at < length (drop at s) = simp length-drop (omega (arith, u.from)) in
+    let d : at + (e - at) ≡ e = omega (arith, u.from) in
+    rw (z, lt-ltb (e - at) (length (drop at s)) k, drop-drop (e - at) at s, d)
 
-  as_is : {kind : Option ℕ → Option Operand} {n x e : ℕ} {v : OperandAnswer} → r ≡ IsNumeral x e → Judged kind n x e v → OperandAs kind n s at v
-  as_is {kind} {n} {x} {e} {v} q j =
-      let i : NumeralTo s at e (Good x) = rw q at m.is in
-      let d = j.is (take (e - at) (drop at s)) i.same in
-      record { same = λ l. d.same l s ∙ value_to kind n i.run i.inside l; within = reach v d.ends i.inside }
+module _ {s : List ℕ} {at x e : ℕ} (m : NumeralAt s at (Ok (x, e))) where
+  as_is : {kind : Option ℕ → Option Operand} {n : ℕ} {r : Answer Operand} → Judged kind n x e r → OperandAs kind n s at r
+  as_is {kind} {n} {r} j =
+      let d = j.is (take (e - at) (drop at s)) m.is.same in
+      record { same = λ l. d.same l s ∙ value_to kind n m.is.run m.is.inside l; within = reach r d.ends m.is.inside }
     where
-      reach : (v : OperandAnswer) → OperandEnds n e v → e < length s → OperandWithin n s v
-      reach (IsOperand v p) h g = (rw h.0 g, h.1)
-      reach (NotOperand f) h g = tt
+      reach : (r : Answer Operand) → OperandEnds n e r → e < length s → OperandWithin n s r
+      reach (Ok p) h g = (rw h.0 g, h.1)
+      reach (Err f) h g = tt
 
-  as_bad : (kind : Option ℕ → Option Operand) (n : ℕ) → kind none ≡ none → r ≡ BadNumeral → OperandAs kind n s at (NotOperand Misspelt)
+module _ {s : List ℕ} {at : ℕ} {f : Fault} (m : NumeralAt s at (Err f)) where
+  as_refused : (kind : Option ℕ → Option Operand) (n : ℕ) → kind none ≡ none → OperandAs kind n s at (Err f)
   unfolding unsaid
-  as_bad kind n z q =
-      let i : (e : ℕ) × NumeralTo s at e Bad = rw q at m.is in
-      let t = take (i.0 - at) (drop at s) in
-      let d : kind (numeral t) ≡ none = rw (numeral_bad t i.1.same refl) z in
-      record { same = λ l. rw d at (value_to kind n i.1.run i.1.inside l); within = tt }
-
-  as_over : (kind : Option ℕ → Option Operand) (n : ℕ) → r ≡ Over → OperandAs kind n s at (NotOperand Ended)
-  as_over kind n q =
-      let i : (e : ℕ) × RunEnd s at e × (length s ≤ e) = rw q at m.is in
-      let k : length (drop at s) ≤ run (drop at s) = simp length-drop (omega (arith, i.1.same, i.2)) in
-      record { same = λ l. rw (le-ltb (run (drop at s)) (length (drop at s)) k); within = tt }
+  as_refused kind n z = go m.is
+    where
+      go : NumeralFault s at f → OperandAs kind n s at (Err f)
+      go (inl i) =
+          let t = take (i.1.0 - at) (drop at s) in
+          let d : kind (numeral t) ≡ none = rw (numeral_bad t i.1.1.same refl) z in
+          rw i.0 (record { same = λ l. rw d at (value_to kind n i.1.1.run i.1.1.inside l); within = tt })
+      go (inr i) =
+          let k : length (drop at s) ≤ run (drop at s) = simp length-drop (omega (arith, i.1.1.same, i.1.2)) in
+          rw i.0 (record { same = λ l. rw (le-ltb (run (drop at s)) (length (drop at s)) k); within = tt })
 
 -- ---- an operand, by its first byte
 suc_ltb : (a b : ℕ) → ltb (suc a) (suc b) ≡ ltb a b
@@ -206,11 +192,11 @@ module _ (s : List ℕ) (at : ℕ) (h : at < length s) where
   rest : drop at s ≡ get_or s at 0 ∷ drop (at + 1) s
   rest = rw (add-one at) (drop-cons s at 0 h)
 
-  pub operand_named : {n : ℕ} {r : OperandAnswer} → get_or s at 0 ≡ 118 → OperandAs as_var n s (at + 1) r → OperandIn n s at r
+  pub operand_named : {n : ℕ} {r : Answer Operand} → get_or s at 0 ≡ 118 → OperandAs as_var n s (at + 1) r → OperandIn n s at r
   unfolding said_operand
   operand_named {n} q a = record { same = λ l. a.same l ∙ rw (rest, q) (behind 118 (drop (at + 1) s) as_var n l refl (λ t. refl)); within = a.within }
 
-  operand_minus : {n : ℕ} {r : OperandAnswer} → get_or s at 0 ≡ 45 → OperandAs as_negative n s (at + 1) r → OperandIn n s at r
+  operand_minus : {n : ℕ} {r : Answer Operand} → get_or s at 0 ≡ 45 → OperandAs as_negative n s (at + 1) r → OperandIn n s at r
   unfolding said_operand
   operand_minus {n} q a = record { same = λ l. a.same l ∙ rw (rest, q) (behind 45 (drop (at + 1) s) as_negative n l refl (λ t. refl)); within = a.within }
 
@@ -219,7 +205,7 @@ unfolding said_operand spelt
 plain_said b s zero h g = refl
 plain_said b s (suc k) h g = rw (ne_eqb b 118 h, ne_eqb b 45 g)
 
-operand_plain : {n : ℕ} {s : List ℕ} {at : ℕ} {r : OperandAnswer} → at < length s → (get_or s at 0 ≡ 118 → ⊥) → (get_or s at 0 ≡ 45 → ⊥)
+operand_plain : {n : ℕ} {s : List ℕ} {at : ℕ} {r : Answer Operand} → at < length s → (get_or s at 0 ≡ 118 → ⊥) → (get_or s at 0 ≡ 45 → ⊥)
     → OperandAs as_const n s at r → OperandIn n s at r
 unfolding said
 operand_plain {n} {s} {at} h p g a =
@@ -228,7 +214,7 @@ operand_plain {n} {s} {at} h p g a =
     record { same = λ l. rw d at (a.same l); within = a.within }
 
 -- by the first byte
-operand_by : {n : ℕ} (s : List ℕ) (at b : ℕ) {r : OperandAnswer} → at < length s → b ≡ get_or s at 0 → OperandAs (operand_kind b) n s (at + skip b) r → OperandIn n s at r
+operand_by : {n : ℕ} (s : List ℕ) (at b : ℕ) {r : Answer Operand} → at < length s → b ≡ get_or s at 0 → OperandAs (operand_kind b) n s (at + skip b) r → OperandIn n s at r
 operand_by {n} s at b {r} h q a =
     cases (eqb b 118)
     (λ e. operand_named s at h (sym q ∙ eqb-true b 118 e) (rw e at a))
@@ -239,26 +225,25 @@ operand_by {n} s at b {r} h q a =
 operand_kind_none : (b : ℕ) → operand_kind b none ≡ none
 operand_kind_none b = cases (eqb b 118) (λ e. rw e) (λ e. cases (eqb b 45) (λ f. rw (e, f)) (λ f. rw (e, f)))
 
-module _ {s : List ℕ} {at b from : ℕ} {r : Numeral} (m : NumeralAt s from r) (h : at < length s) (q : b ≡ get_or s at 0) (k : from ≡ at + skip b) where
-  pub by_is : {n x e : ℕ} {v : OperandAnswer} → r ≡ IsNumeral x e → n ≤ 256 → v ≡ operand_answer n (operand_kind b (some x)) e → OperandIn n s at v
-  by_is z u j = operand_by s at b h q (rw k at (as_is m z (judged_any b u j)))
+module _ {s : List ℕ} {from x e : ℕ} (m : NumeralAt s from (Ok (x, e))) where
+  pub by_is : {at b n : ℕ} {r : Answer Operand} → at < length s → b ≡ get_or s at 0 → from ≡ at + skip b → n ≤ 256
+      → r ≡ operand_answer n (operand_kind b (some x)) e → OperandIn n s at r
+  by_is {at} {b} h q k u j = operand_by s at b h q (rw k at (as_is m (judged_any b u j)))
 
-  pub by_bad : (n : ℕ) → r ≡ BadNumeral → OperandIn n s at (NotOperand Misspelt)
-  by_bad n z = operand_by s at b h q (rw k at (as_bad m (operand_kind b) n (operand_kind_none b) z))
-
-  pub by_over : (n : ℕ) → r ≡ Over → OperandIn n s at (NotOperand Ended)
-  by_over n z = operand_by s at b h q (rw k at (as_over m (operand_kind b) n z))
+module _ {s : List ℕ} {from : ℕ} {f : Fault} (m : NumeralAt s from (Err f)) where
+  pub by_refused : (at n : ℕ) → at < length s → from ≡ at + skip (get_or s at 0) → OperandIn n s at (Err f)
+  by_refused at n h k =
+      let b = get_or s at 0 in
+      operand_by s at b h refl (rw k at (as_refused m (operand_kind b) n (operand_kind_none b)))
 
 -- the number behind `v`
-module _ {s : List ℕ} {at : ℕ} {r : Numeral} (m : NumeralAt s at r) where
-  pub named_is : {n x e : ℕ} {v : OperandAnswer} → r ≡ IsNumeral x e → n ≤ 256 → v ≡ operand_answer n (as_var (some x)) e → OperandAs as_var n s at v
-  named_is q u j = as_is m q (judged_named u j)
+module _ {s : List ℕ} {at x e : ℕ} (m : NumeralAt s at (Ok (x, e))) where
+  pub named_is : {n : ℕ} {r : Answer Operand} → n ≤ 256 → r ≡ operand_answer n (as_var (some x)) e → OperandAs as_var n s at r
+  named_is u j = as_is m (judged_named u j)
 
-  pub named_bad : (n : ℕ) → r ≡ BadNumeral → OperandAs as_var n s at (NotOperand Misspelt)
-  named_bad n = as_bad m as_var n refl
-
-  pub named_over : (n : ℕ) → r ≡ Over → OperandAs as_var n s at (NotOperand Ended)
-  named_over n = as_over m as_var n
+module _ {s : List ℕ} {at : ℕ} {f : Fault} (m : NumeralAt s at (Err f)) where
+  pub named_refused : (n : ℕ) → OperandAs as_var n s at (Err f)
+  named_refused n = as_refused m as_var n refl
 
 -- where the digits begin
 pub from_within : (s : List ℕ) {at : ℕ} (b : ℕ) {from : ℕ} → at < length s → from ≡ at + skip b → from ≤ length s
@@ -274,95 +259,85 @@ skip_minus b at h = rw h
 pub skip_none : (b at : ℕ) → (b ≡ 118 → ⊥) → (b ≡ 45 → ⊥) → at ≡ at + skip b
 skip_none b at h k = rw (ne_eqb b 118 h, ne_eqb b 45 k, add-zero at)
 
-pub operand_none : (n : ℕ) {s : List ℕ} {at : ℕ} → length s ≤ at → OperandIn n s at (NotOperand Ended)
+pub operand_none : (n : ℕ) {s : List ℕ} {at : ℕ} → length s ≤ at → OperandIn n s at (Err Ended)
 unfolding run
 operand_none n {s} h = record { same = λ l. rw (drop_of_length-le s h); within = tt }
 
-module _ {key s : List ℕ} {at : ℕ} {r : Found} (m : AfterKey key s at r) where
-  pub operand_found : {n b : ℕ} {v : OperandAnswer} → r ≡ At b → OperandIn n s b v → OperandAt n key s at v
-  unfolding field_of
-  operand_found q u = record { same = λ l. u.same l ∙ rw (← m.same, q); within = u.within }
+module _ {key s : List ℕ} {at b : ℕ} (m : AfterKey key s at (Ok b)) where
+  pub operand_found : {n : ℕ} {r : Answer Operand} → OperandIn n s b r → OperandAt n key s at r
+  operand_found {n} u = record { same = λ l. u.same l ∙ field_found m (operand n) l; within = u.within }
 
-  pub operand_differs : (n : ℕ) → r ≡ Differs → OperandAt n key s at (NotOperand Form)
-  unfolding field_of
-  operand_differs n e = record { same = λ l. rw (← m.same, e); within = tt }
-
-  pub operand_broken : (n : ℕ) → r ≡ Broken → OperandAt n key s at (NotOperand Ended)
-  unfolding field_of
-  operand_broken n e = record { same = λ l. rw (← m.same, e); within = tt }
+module _ {key s : List ℕ} {at : ℕ} {f : Fault} (m : AfterKey key s at (Err f)) where
+  pub operand_unfound : (n : ℕ) → OperandAt n key s at (Err f)
+  operand_unfound n = record { same = field_refused m (operand n); within = tt }
 
 -- ---- a variable that may be `-`
 module _ (c : Bool) (n : ℕ) (t : List ℕ) (e : ℕ) {x : Bool} (p : x ≡ same (bytes "-") t) where
-  pub removed_is : x ≡ true → c ≡ true → VariableSaid c n t e (Is 255 e)
+  pub removed_is : x ≡ true → c ≡ true → VariableSaid c n t e (Ok (255, e))
   unfolding said check
   removed_is h k = record { same = λ l s. rw (← p, h, k); ends = refl }
 
-  pub removed_not : x ≡ true → c ≡ false → VariableSaid c n t e (Not Misspelt)
+  pub removed_not : x ≡ true → c ≡ false → VariableSaid c n t e (Err Misspelt)
   unfolding said check
   removed_not h k = record { same = λ l s. rw (← p, h, k); ends = tt }
 
-  module _ (h : x ≡ false) {w : Num} (d : w ≡ number_of t) where
-    pub variable_bad : w ≡ Bad → VariableSaid c n t e (Not Misspelt)
-    unfolding said unsaid
-    variable_bad k = record { same = λ l s. rw (← p, h, numeral_bad t d k); ends = tt }
+-- and one that is not
+pub variable_bad : {t : List ℕ} → None ≡ number_of t → {c x : Bool} {n e : ℕ} → x ≡ same (bytes "-") t → x ≡ false → VariableSaid c n t e (Err Misspelt)
+unfolding said unsaid
+variable_bad {t} d p h = record { same = λ l s. rw (← p, h, numeral_bad t d refl); ends = tt }
 
-    pub variable_good : {v : ℕ} → w ≡ Good v → n ≤ 256 → v < n → VariableSaid c n t e (Is v e)
-    unfolding said check
-    variable_good {v} k u g =
-        let z : value t ≡ v = omega (arith, (spelt_good t d k).1) in
-        record { same = λ l s. rw (← p, h, numeral_good t d k, z, lt-ltb v n g); ends = refl }
+module _ {t : List ℕ} {v : ℕ} (d : Some v ≡ number_of t) {c x : Bool} {n e : ℕ} (p : x ≡ same (bytes "-") t) (h : x ≡ false) (u : n ≤ 256) where
+  pub variable_good : v < n → VariableSaid c n t e (Ok (v, e))
+  unfolding said check
+  variable_good g =
+      let z : value t ≡ v = omega (arith, (spelt_good t d refl).1) in
+      record { same = λ l s. rw (← p, h, numeral_good t d refl, z, lt-ltb v n g); ends = refl }
 
-    pub variable_high : {v : ℕ} → w ≡ Good v → n ≤ 256 → n ≤ v → VariableSaid c n t e (Not Reference)
-    unfolding said check
-    variable_high {v} k u g = record { same = λ l s. rw (← p, h, numeral_good t d k, le-ltb (value t) n (omega (arith, (spelt_good t d k).1))); ends = tt }
+  pub variable_high : n ≤ v → VariableSaid c n t e (Err Reference)
+  unfolding said check
+  variable_high g = record { same = λ l s. rw (← p, h, numeral_good t d refl, le-ltb (value t) n (omega (arith, (spelt_good t d refl).1))); ends = tt }
 
-module _ {s : List ℕ} {at : ℕ} {r : Token} (m : ValueAt s at r) where
-  pub variable_stop : (c : Bool) (n : ℕ) {x y : Fault} → r ≡ Refused y → x ≡ RefusalOf r → VariableIn c n s at (Not x)
-  variable_stop c n q z = record { same = λ l. rw (z, q) (ap (mapped variable_of) (rw q at (m.same (variable c n) l))); within = tt }
+module _ {s : List ℕ} {at : ℕ} {f : Fault} (m : ValueAt s at (Err f)) where
+  pub variable_refused : (c : Bool) (n : ℕ) → VariableIn c n s at (Err f)
+  variable_refused c n = record { same = λ l. ap (mapped variable_of) (m.same (variable c n) l); within = tt }
 
-  pub variable_step : {c : Bool} {n b e : ℕ} {v : Number} → r ≡ Between b e → VariableSaid c n (take (e - b) (drop b s)) e v → VariableIn c n s at v
-  variable_step {c} {n} {b} {e} {v} q d =
-      record { same = λ l. d.same l s ∙ ap (mapped variable_of) (rw q at (m.same (variable c n) l)); within = reach v d.ends }
+module _ {s : List ℕ} {at b e : ℕ} (m : ValueAt s at (Ok (b, e))) where
+  pub variable_step : {c : Bool} {n : ℕ} {r : Answer ℕ} → VariableSaid c n (take (e - b) (drop b s)) e r → VariableIn c n s at r
+  variable_step {c} {n} {r} d =
+      record { same = λ l. d.same l s ∙ ap (mapped variable_of) (m.same (variable c n) l); within = reach r d.ends }
     where
-      reach : (v : Number) → VariableEnds e v → VariableWithin s v
-      reach (Is v p) h = rw h (value_within m q).1
-      reach (Not f) h = tt
+      reach : (r : Answer ℕ) → VariableEnds e r → Within s r
+      reach (Ok p) h = rw h m.within.1
+      reach (Err f) h = tt
 
 -- a number is no `-`
-not_minus : (t : List ℕ) {v : ℕ} → Good v ≡ number_of t → same (bytes "-") t ≡ false
+not_minus : (t : List ℕ) {v : ℕ} → Some v ≡ number_of t → same (bytes "-") t ≡ false
 unfolding same number_of spelt
 not_minus [] q = refl
 not_minus (y ∷ []) {v} q =
     cases (eqb 45 y)
-    (λ h. let e : 45 ≡ y = eqb-true 45 y h in absurd (let g : Good v ≡ number_of (45 ∷ []) = rw (← e) at q in let z : ◌≡◌ {A = ℕ} 0 1 = cc in omega arith))
+    (λ h. let e : 45 ≡ y = eqb-true 45 y h in absurd (let g : Some v ≡ number_of (45 ∷ []) = rw (← e) at q in let z : ◌≡◌ {A = ℕ} 0 1 = cc in omega arith))
     (λ h. rw h)
 not_minus (y ∷ z ∷ t) q = cases (eqb 45 y) (λ h. rw h) (λ h. rw h)
 
-module _ (s : List ℕ) (at : ℕ) {r : Short} (m : r ≡ short_value_of s at) (h : at ≤ length s) (c : Bool) {n v e : ℕ} (u : n ≤ 256) (q : r ≡ IsShort v e) where
-  whole : NumeralTo s at e (Good v)
-  whole = short_whole s at m q h
+module _ {s : List ℕ} {at v e : ℕ} (m : Some (v, e) ≡ short_value_of s at) (h : at ≤ length s) where
+  whole : NumeralTo s at e (Some v)
+  whole = short_whole s at m h
 
-  abbrev part : List ℕ
-  part = take (e - at) (drop at s)
-
-  between : ValueAt s at (Between at e)
+  between : ValueAt s at (Ok (at, e))
   between = value_ends whole.run whole.inside
 
-  pub short_variable : v < n → VariableIn c n s at (Is v e)
-  short_variable g = variable_step between refl (variable_good c n part e refl (not_minus part whole.same) whole.same refl u g)
+  module _ {c : Bool} {n : ℕ} (u : n ≤ 256) where
+    pub short_variable : v < n → VariableIn c n s at (Ok (v, e))
+    short_variable g = variable_step between (variable_good whole.same refl (not_minus _ whole.same) u g)
 
-  pub short_undeclared : n ≤ v → VariableIn c n s at (Not Reference)
-  short_undeclared g = variable_step between refl (variable_high c n part e refl (not_minus part whole.same) whole.same refl u g)
+    pub short_undeclared : n ≤ v → VariableIn c n s at (Err Reference)
+    short_undeclared g = variable_step between (variable_high whole.same refl (not_minus _ whole.same) u g)
 
-module _ {s : List ℕ} {at : ℕ} {r : Found} (m : AfterKey (bytes " var=") s at r) where
-  pub variable_found : {c : Bool} {n b : ℕ} {v : Number} → r ≡ At b → VariableIn c n s b v → VariableAt c n s at v
-  unfolding field_of
-  variable_found q u = record { same = λ l. u.same l ∙ rw (← m.same, q); within = u.within }
+module _ {s : List ℕ} {at b : ℕ} (m : AfterKey (bytes " var=") s at (Ok b)) where
+  pub variable_found : {c : Bool} {n : ℕ} {r : Answer ℕ} → VariableIn c n s b r → VariableAt c n s at r
+  variable_found {c} {n} u = record { same = λ l. u.same l ∙ ap (mapped variable_of) (field_found m (variable c n) l); within = u.within }
 
-  pub variable_differs : (c : Bool) (n : ℕ) → r ≡ Differs → VariableAt c n s at (Not Form)
-  unfolding field_of
-  variable_differs c n e = record { same = λ l. rw (← m.same, e); within = tt }
-
-  pub variable_broken : (c : Bool) (n : ℕ) → r ≡ Broken → VariableAt c n s at (Not Ended)
-  unfolding field_of
-  variable_broken c n e = record { same = λ l. rw (← m.same, e); within = tt }
+module _ {s : List ℕ} {at : ℕ} {f : Fault} (m : AfterKey (bytes " var=") s at (Err f)) where
+  pub variable_unfound : (c : Bool) (n : ℕ) → VariableAt c n s at (Err f)
+  variable_unfound c n = record { same = λ l. ap (mapped variable_of) (field_refused m (variable c n) l); within = tt }

@@ -8,15 +8,8 @@ ghost use Rattle.text.specs.Value.{as_var, as_const, as_negative};
 ghost use Rattle.scan.specs.Place.{AfterKey};
 ghost use Rattle.operands.specs.Answer.{operand_answer, skip, operand_kind, OperandAs, OperandIn, OperandAt, VariableSaid, VariableIn, VariableAt};
 
-use numbers::{Number, Numeral, Short};
-use scan::{Found, Token};
-
-// An operand and the place after it, or the fault.
-#[derive(Clone, Copy)]
-pub enum Operand {
-    Is(table::Operand, usize),
-    Not(text::Fault),
-}
+use table::Operand;
+use text::Fault;
 
 fn negative(x: u64) -> i32
     requires { (0 < x) × (x ≤ 2147483648) }
@@ -32,37 +25,40 @@ fn positive(x: u64) -> i32
     x as i32
 }
 
-// A variable: the number x behind `v`.
-pub fn named_operand(x: u64, e: usize, vars: u64) -> Operand
+// An operand that ends at e. A variable: the number x behind `v`.
+pub fn named_operand(x: u64, e: usize, vars: u64) -> Result<(Operand, usize), Fault>
     requires { vars ≤ 256 }
     ensures { result ≡ operand_answer vars (as_var (some x)) e }
 {
     if x < vars {
-        return Operand::Is(table::Operand::Var(x as u8), e);
+        Ok((Operand::Var(x as u8), e))
+    } else {
+        Err(Fault::Reference)
     }
-    Operand::Not(text::Fault::Reference)
 }
 
-pub fn constant_operand(x: u64, e: usize, vars: u64) -> Operand
+pub fn constant_operand(x: u64, e: usize, vars: u64) -> Result<(Operand, usize), Fault>
     ensures { result ≡ operand_answer vars (as_const (some x)) e }
 {
     if x <= 2147483647 {
-        return Operand::Is(table::Operand::Const(positive(x)), e);
+        Ok((Operand::Const(positive(x)), e))
+    } else {
+        Err(Fault::Range)
     }
-    Operand::Not(text::Fault::Range)
 }
 
 // The number x behind `-`.
-pub fn negative_operand(x: u64, e: usize, vars: u64) -> Operand
+pub fn negative_operand(x: u64, e: usize, vars: u64) -> Result<(Operand, usize), Fault>
     ensures { result ≡ operand_answer vars (as_negative (some x)) e }
 {
     if x == 0 {
-        return Operand::Not(text::Fault::Misspelt);
+        return Err(Fault::Misspelt);
     }
     if x <= 2147483648 {
-        return Operand::Is(table::Operand::Const(negative(x)), e);
+        Ok((Operand::Const(negative(x)), e))
+    } else {
+        Err(Fault::Range)
     }
-    Operand::Not(text::Fault::Range)
 }
 
 // An operand that begins with the byte b: where its digits begin, and what they say.
@@ -70,150 +66,122 @@ fn digits_from(b: u8, at: usize) -> usize
     requires { at < 18446744073709551615 }
     ensures { result ≡ at + skip b }
 {
-    if b == 118 {
-        return at + 1;
+    match b {
+        b'v' | b'-' => at + 1,
+        _ => at,
     }
-    if b == 45 {
-        return at + 1;
-    }
-    at
 }
 
-fn any_operand(b: u8, x: u64, e: usize, vars: u64) -> Operand
+fn any_operand(b: u8, x: u64, e: usize, vars: u64) -> Result<(Operand, usize), Fault>
     requires { vars ≤ 256 }
     ensures { result ≡ operand_answer vars (operand_kind b (some x)) e }
 {
-    if b == 118 {
-        return named_operand(x, e, vars);
+    match b {
+        b'v' => named_operand(x, e, vars),
+        b'-' => negative_operand(x, e, vars),
+        _ => constant_operand(x, e, vars),
     }
-    if b == 45 {
-        return negative_operand(x, e, vars);
-    }
-    constant_operand(x, e, vars)
 }
 
 // The number behind `v`, short ones first.
-fn variable_operand(s: &[u8], at: usize, vars: u64) -> Operand
+fn variable_operand(s: &[u8], at: usize, vars: u64) -> Result<(Operand, usize), Fault>
     requires { (at ≤ length s.now) × (vars ≤ 256) }
     ensures { OperandAs as_var vars s.now at result }
 {
-    match numbers::value_number(s, at) {
-        Numeral::Is(x, e) => named_operand(x, e, vars),
-        Numeral::Bad => Operand::Not(text::Fault::Misspelt),
-        Numeral::Over => Operand::Not(text::Fault::Ended),
-    }
+    let (x, e) = numbers::value_number(s, at)?;
+    named_operand(x, e, vars)
 }
 
-fn operand_at(s: &[u8], at: usize, vars: u64) -> Operand
+fn operand_at(s: &[u8], at: usize, vars: u64) -> Result<(Operand, usize), Fault>
     requires { (at ≤ length s.now) × (vars ≤ 256) }
     ensures { OperandIn vars s.now at result }
 {
     if s.len() <= at {
-        return Operand::Not(text::Fault::Ended);
+        return Err(Fault::Ended);
     }
     let b = s[at];
-    if b == 118 {
+    if b == b'v' {
         return variable_operand(s, at + 1, vars);
     }
-    let from = digits_from(b, at);
-    match numbers::numeral_at(s, from) {
-        Numeral::Is(x, e) => any_operand(b, x, e, vars),
-        Numeral::Bad => Operand::Not(text::Fault::Misspelt),
-        Numeral::Over => Operand::Not(text::Fault::Ended),
-    }
+    let (x, e) = numbers::numeral_at(s, digits_from(b, at))?;
+    any_operand(b, x, e, vars)
 }
 
-// The key of an operand with a name of one letter.
-fn after_name(s: &[u8], at: usize, name: u8) -> Found
+// The place after an operand's key, whose name is one letter.
+fn after_name(s: &[u8], at: usize, name: u8) -> Result<usize, Fault>
     requires { at ≤ length s.now }
     ensures { AfterKey (32 ∷ name ∷ 61 ∷ []) s.now at result }
 {
     if s.len() - at < 3 {
-        let key = [32, name, 61];
-        return scan::after(s, at, &key);
+        return scan::after(s, at, &[b' ', name, b'=']);
     }
-    if s[at] != 32 {
-        return Found::Differs;
+    if s[at] == b' ' && s[at + 1] == name && s[at + 2] == b'=' {
+        Ok(at + 3)
+    } else {
+        Err(Fault::Form)
     }
-    let i = at + 1;
-    if s[i] != name {
-        return Found::Differs;
-    }
-    let j = at + 2;
-    if s[j] != 61 {
-        return Found::Differs;
-    }
-    Found::At(at + 3)
 }
 
-// A variable or a constant, with so many variables declared.
-pub fn operand_field(s: &[u8], at: usize, name: u8, vars: u64) -> Operand
+// A variable or a constant, with so many variables declared, and the place after it.
+pub fn operand_field(s: &[u8], at: usize, name: u8, vars: u64) -> Result<(Operand, usize), Fault>
     requires { (at ≤ length s.now) × (vars ≤ 256) }
     ensures { OperandAt vars (32 ∷ name ∷ 61 ∷ []) s.now at result }
 {
-    match after_name(s, at, name) {
-        Found::At(b) => operand_at(s, b, vars),
-        Found::Differs => Operand::Not(text::Fault::Form),
-        Found::Broken => Operand::Not(text::Fault::Ended),
-    }
+    let b = after_name(s, at, name)?;
+    operand_at(s, b, vars)
 }
 
 // ---- variables
 
-fn variable_value(t: &[u8], e: usize, closed: bool, vars: u64) -> Number
+fn variable_value(t: &[u8], e: usize, closed: bool, vars: u64) -> Result<(u8, usize), Fault>
     requires { vars ≤ 256 }
     ensures { VariableSaid closed vars t.now e result }
 {
     if scan::is_word(t, b"-") {
         if closed {
-            return Number::Is(table::REMOVED, e);
+            return Ok((table::REMOVED, e));
         }
-        return Number::Not(text::Fault::Misspelt);
+        return Err(Fault::Misspelt);
     }
-    let digits::Num::Good(v) = digits::number(t) else {
-        return Number::Not(text::Fault::Misspelt);
+    let Some(v) = digits::number(t) else {
+        return Err(Fault::Misspelt);
     };
     if v < vars {
-        return Number::Is(v as u8, e);
+        Ok((v as u8, e))
+    } else {
+        Err(Fault::Reference)
     }
-    Number::Not(text::Fault::Reference)
 }
 
 // Any value.
-fn any_variable(s: &[u8], at: usize, closed: bool, vars: u64) -> Number
+fn any_variable(s: &[u8], at: usize, closed: bool, vars: u64) -> Result<(u8, usize), Fault>
     requires { (at ≤ length s.now) × (vars ≤ 256) }
     ensures { VariableIn closed vars s.now at result }
 {
-    let found = scan::value_at(s, at);
-    let Token::At(b, e) = found else {
-        return Number::Not(scan::refusal(found));
-    };
+    let (b, e) = scan::value_at(s, at)?;
     variable_value(&s[b..e], e, closed, vars)
 }
 
 // Short numbers first.
-fn variable_at(s: &[u8], at: usize, closed: bool, vars: u64) -> Number
+fn variable_at(s: &[u8], at: usize, closed: bool, vars: u64) -> Result<(u8, usize), Fault>
     requires { (at ≤ length s.now) × (vars ≤ 256) }
     ensures { VariableIn closed vars s.now at result }
 {
-    let item = numbers::short_value(s, at);
-    let Short::Is(v, e) = item else {
+    let Some((v, e)) = numbers::short_value(s, at) else {
         return any_variable(s, at, closed, vars);
     };
     if v < vars {
-        return Number::Is(v as u8, e);
+        Ok((v as u8, e))
+    } else {
+        Err(Fault::Reference)
     }
-    Number::Not(text::Fault::Reference)
 }
 
-// A variable, with so many declared; in closed form it may be `-`.
-pub fn variable_field(s: &[u8], at: usize, closed: bool, vars: u64) -> Number
+// A variable, with so many declared, and the place after it; in closed form it may be `-`.
+pub fn variable_field(s: &[u8], at: usize, closed: bool, vars: u64) -> Result<(u8, usize), Fault>
     requires { (at ≤ length s.now) × (vars ≤ 256) }
     ensures { VariableAt closed vars s.now at result }
 {
-    match scan::after_word(s, at, 32, 118, 97, 114, b"=") {
-        Found::At(b) => variable_at(s, b, closed, vars),
-        Found::Differs => Number::Not(text::Fault::Form),
-        Found::Broken => Number::Not(text::Fault::Ended),
-    }
+    let b = scan::after_word(s, at, b' ', b'v', b'a', b'r', b"=")?;
+    variable_at(s, b, closed, vars)
 }

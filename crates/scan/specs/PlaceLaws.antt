@@ -1,23 +1,32 @@
 -- Laws of keys and places: each says what a step of the code shows.
-use Rattle.std.specs.Prelude.{ℕ, zero, suc, ◌+◌, ◌-◌, ◌*◌, ◌≤◌, ◌<◌, ◌≡◌, refl, List, [], ◌∷◌, ◌++◌, true, false, eqb, take, drop, get_or}
+use Rattle.std.specs.Prelude.{ℕ, zero, suc, ◌+◌, ◌-◌, ◌*◌, ◌≤◌, ◌<◌, ◌≡◌, ◌⊎◌, refl, List, [], ◌∷◌, ◌++◌, Result, Ok, Err, true, false, eqb, take, drop, get_or, ltb}
 use Rattle.std.proofs.Common.{sym, ◌∙◌, ap, add-zero, zero-add, drop_of_length-le}
+use Rattle.std.proofs.Math.Logic.{inl, inr}
 use native.Mathlib.Omega.{arith}
 use Rattle.std.proofs.Math.Numerals.{add-one}
 use Rattle.std.proofs.Math.ListN.{length, length-drop}
 use Rattle.std.proofs.Math.Seq.{drop-cons, drop-drop}
-use borrow.Author.Tests.{lt-ltb, le-ltb, eq-eqb, ne_eqb, eqb-true, eqb-false}
+use borrow.Author.Tests.{lt-ltb, le-ltb, eq-eqb, ne_eqb, eqb-true, eqb-false, ltb-false}
 use Rattle.table.specs.Cases.{cases}
 use Rattle.table.specs.Mask.{pick}
+use Rattle.text.specs.declared.Fault.{Fault}
 use Rattle.text.specs.declared.Fault.TheVariants.{Form, Ended}
 use Rattle.text.specs.Number.{all_digits}
 use Rattle.text.proofs.NumberLaws.{by_order, all_head, all_tail}
-use Rattle.text.specs.Line.{at as stands, differs, broken, after, run as count, stops, field_of}
-use Rattle.scan.specs.declared.Found.{Found}
-use Rattle.scan.specs.declared.Found.TheVariants.{At, Differs, Broken}
-use Rattle.scan.specs.declared.Token.{Token}
-use Rattle.scan.specs.declared.Token.TheVariants.{At as Between, Not}
-use Rattle.scan.specs.declared.Ended.TheVariants.{Is as Fed, Not as Unfed}
-use Rattle.scan.specs.Place.{AfterKey, quad_number, Bytes, QuadAt, RunEnd, value_token, key_token, ValueAt, TokenAt, FeedAt}
+use Rattle.text.specs.Value.{ValueKind}
+use Rattle.text.specs.Line.{Parser, took, refused, After, at as stands, differs, broken, after, after_key, run as count, stops, value_of, field_of}
+use Rattle.scan.specs.Place.{keyed, AfterKey, quad_number, Bytes, QuadAt, RunEnd, value_token, token_after, key_token, ValueAt, TokenAt, FeedAt}
+
+-- ---- what stands behind a key, by what its reader answers
+keyed_ok : (a : After) {t : List ℕ} → Ok t ≡ keyed a → stands t ≡ a
+keyed_ok (stands u) e = cc
+keyed_ok differs e = absurd (cc)
+keyed_ok broken e = absurd (cc)
+
+keyed_err : (P : After → Fault → Type 0) → P differs Form → P broken Ended → (a : After) {f : Fault} → Err f ≡ keyed a → P a f
+keyed_err P p q (stands u) e = absurd (cc)
+keyed_err P p q differs {f} e = let z : f ≡ Form = cc in rw z p
+keyed_err P p q broken {f} e = let z : f ≡ Ended = cc in rw z q
 
 -- ---- a key, byte by byte
 pub record Matching (key s : List ℕ) (at j : ℕ) : Type 0 where
@@ -29,9 +38,9 @@ pub matching_start : (key s : List ℕ) (at : ℕ) → at ≤ length s → Match
 matching_start key s at h = record { key_within = omega arith; within = omega arith; same = rw (add-zero at) }
 
 module _ {key s : List ℕ} {at j : ℕ} (m : Matching key s at j) where
-  pub matching_short : j < length key → length s ≤ at + j → AfterKey key s at Broken
+  pub matching_short : j < length key → length s ≤ at + j → AfterKey key s at (Err Ended)
   unfolding after
-  matching_short k h = record { same = rw (drop_of_length-le s h, drop-cons key j 0 k) at m.same; within = tt }
+  matching_short k h = record { same = ap keyed (rw (drop_of_length-le s h, drop-cons key j 0 k) at m.same); within = tt }
 
   turn : j < length key → at + j < length s
       → pick (eqb (get_or key j 0) (get_or s (at + j) 0)) (after (drop (j + 1) key) (drop (at + (j + 1)) s)) differs ≡ after key (drop at s)
@@ -40,22 +49,21 @@ module _ {key s : List ℕ} {at j : ℕ} (m : Matching key s at j) where
       let e : at + (j + 1) ≡ at + j + 1 = omega arith in
       rw (e, add-one (at + j), add-one j) (rw (drop-cons s (at + j) 0 h, drop-cons key j 0 k) at m.same)
 
-  pub matching_differs : j < length key → at + j < length s → (get_or key j 0 ≡ get_or s (at + j) 0 → ⊥) → AfterKey key s at Differs
-  matching_differs k h d = record { same = rw (ne_eqb (get_or key j 0) (get_or s (at + j) 0) d) at (turn k h); within = tt }
+  pub matching_differs : j < length key → at + j < length s → (get_or key j 0 ≡ get_or s (at + j) 0 → ⊥) → AfterKey key s at (Err Form)
+  matching_differs k h d = record { same = ap keyed (rw (ne_eqb (get_or key j 0) (get_or s (at + j) 0) d) at (turn k h)); within = tt }
 
   pub matching_turn : j < length key → at + j < length s → get_or key j 0 ≡ get_or s (at + j) 0 → Matching key s at (j + 1)
   matching_turn k h e =
       record { key_within = omega arith; within = omega arith; same = rw (eq-eqb (get_or key j 0) (get_or s (at + j) 0) e) at (turn k h) }
 
-  pub matching_end : length key ≤ j → AfterKey key s at (At (at + j))
+  stand : length key ≤ j → AfterKey key s at (Ok (at + j))
   unfolding after
-  matching_end k = record { same = rw (drop_of_length-le key k) at m.same; within = m.within }
+  stand k = record { same = ap keyed (rw (drop_of_length-le key k) at m.same); within = m.within }
+
+  pub matching_end : length key ≤ j → AfterKey key s at (Ok (at + length key))
+  matching_end k = let e : j ≡ length key = omega (arith, m.key_within) in rw e at (stand k)
 
 -- ---- four bytes of a key as one number
-pub quad_at : (s : List ℕ) (at : ℕ) {r : ℕ} → r ≡ quad_number (get_or s at 0) (get_or s (at + 1) 0) (get_or s (at + 2) 0) (get_or s (at + 3) 0)
-    → Bytes (get_or s at 0) (get_or s (at + 1) 0) (get_or s (at + 2) 0) (get_or s (at + 3) 0) → QuadAt s at r
-quad_at s at e b = record { same = e; bytes = b }
-
 lowest : (a x b y : ℕ) → a < 256 → x < 256 → a + b * 256 ≡ x + y * 256 → (a ≡ x) × (b ≡ y)
 lowest a x b y h k e =
     let z : b ≡ y = by_order b y (λ l. absurd (omega arith)) (λ l. by_order y b (λ g. absurd (omega arith)) (λ g. omega arith)) in
@@ -90,12 +98,12 @@ module _ {s : List ℕ} {at r : ℕ} (m : QuadAt s at r) {a b c d : ℕ} (w : By
     three : a ≡ get_or s at 0 → b ≡ get_or s (at + 1) 0 → c ≡ get_or s (at + 2) 0 → Matching key s at 3
     three e f g = matching_turn (two e f) (omega arith) (omega arith) g
 
-    pub quad_same : {x : ℕ} → x ≡ quad_number a b c d → r ≡ x → AfterKey key s at (At (at + 4))
+    pub quad_same : {x : ℕ} → x ≡ quad_number a b c d → r ≡ x → AfterKey key s at (Ok (at + 4))
     quad_same g e =
         let z = quad_bytes (e ∙ g) in
-        matching_end (matching_turn (three z.0 z.1 z.2) (omega arith) (omega arith) z.3) (omega arith)
+        stand (matching_turn (three z.0 z.1 z.2) (omega arith) (omega arith) z.3) (omega arith)
 
-    pub quad_differs : {x : ℕ} → x ≡ quad_number a b c d → (r ≡ x → ⊥) → AfterKey key s at Differs
+    pub quad_differs : {x : ℕ} → x ≡ quad_number a b c d → (r ≡ x → ⊥) → AfterKey key s at (Err Form)
     quad_differs {x} g n =
         cases (eqb a (get_or s at 0))
         (λ e0. let z0 = eqb-true a (get_or s at 0) e0 in cases (eqb b (get_or s (at + 1) 0))
@@ -132,15 +140,22 @@ after_broken (x ∷ k) l (y ∷ s) e =
     (λ h. rw h (after_broken k l s (rw h at e)))
     (λ h. absurd (let g : broken ≡ differs = rw h at e in let z : ◌≡◌ {A = ℕ} 0 1 = cc in omega arith))
 
-module _ {a b c d : ℕ} {s : List ℕ} {at : ℕ} {r : Found} (m : AfterKey (a ∷ b ∷ c ∷ d ∷ []) s at r) where
-  pub word_found : {l : List ℕ} {e : ℕ} {x : Found} → r ≡ At e → AfterKey l s e x → AfterKey (a ∷ b ∷ c ∷ d ∷ l) s at x
-  word_found {l} q u = record { same = u.same ∙ sym (after_at (a ∷ b ∷ c ∷ d ∷ []) l (drop at s) (rw q at m.same)); within = u.within }
+after_err : (k l s : List ℕ) {f : Fault} → Err f ≡ keyed (after k s) → Err f ≡ keyed (after (k ++ l) s)
+after_err k l s e =
+    keyed_err (λ a f. a ≡ after k s → Err f ≡ keyed (after (k ++ l) s))
+    (λ q. ap keyed (after_differs k l s q)) (λ q. ap keyed (after_broken k l s q)) (after k s) e refl
 
-  pub word_differs : (l : List ℕ) → r ≡ Differs → AfterKey (a ∷ b ∷ c ∷ d ∷ l) s at Differs
-  word_differs l q = record { same = after_differs (a ∷ b ∷ c ∷ d ∷ []) l (drop at s) (rw q at m.same); within = tt }
+module _ {a b c d : ℕ} {s : List ℕ} {at : ℕ} where
+  pub word_found : {l : List ℕ} {e : ℕ} {r : Result ℕ Fault} → AfterKey (a ∷ b ∷ c ∷ d ∷ []) s at (Ok e) → AfterKey l s e r
+      → AfterKey (a ∷ b ∷ c ∷ d ∷ l) s at r
+  word_found {l} m u =
+      record {
+        same = u.same ∙ ap keyed (sym (after_at (a ∷ b ∷ c ∷ d ∷ []) l (drop at s) (keyed_ok (after (a ∷ b ∷ c ∷ d ∷ []) (drop at s)) m.same)));
+        within = u.within;
+      }
 
-  pub word_broken : (l : List ℕ) → r ≡ Broken → AfterKey (a ∷ b ∷ c ∷ d ∷ l) s at Broken
-  word_broken l q = record { same = after_broken (a ∷ b ∷ c ∷ d ∷ []) l (drop at s) (rw q at m.same); within = tt }
+  pub word_refused : (l : List ℕ) {f : Fault} → AfterKey (a ∷ b ∷ c ∷ d ∷ []) s at (Err f) → AfterKey (a ∷ b ∷ c ∷ d ∷ l) s at (Err f)
+  word_refused l m = record { same = after_err (a ∷ b ∷ c ∷ d ∷ []) l (drop at s) m.same; within = tt }
 
 -- ---- a key of three bytes
 module _ (s : List ℕ) (at : ℕ) (h : 3 ≤ length s - at) (x : ℕ) where
@@ -153,17 +168,14 @@ module _ (s : List ℕ) (at : ℕ) (h : 3 ≤ length s - at) (x : ℕ) where
   name_two : get_or s at 0 ≡ 32 → get_or s (at + 1) 0 ≡ x → Matching (32 ∷ x ∷ 61 ∷ []) s at 2
   name_two e f = matching_turn (name_one e) (omega arith) (omega arith) (sym f)
 
-  pub name_first : (get_or s at 0 ≡ 32 → ⊥) → AfterKey (32 ∷ x ∷ 61 ∷ []) s at Differs
-  name_first n = matching_differs name_start (omega arith) (omega arith) (rw (add-zero at) (λ e. n (sym e)))
+  pub name_differs : ((get_or s at 0 ≡ 32) × (get_or s (at + 1) 0 ≡ x) × (get_or s (at + 2) 0 ≡ 61 → ⊥)) ⊎ ((get_or s at 0 ≡ 32) × (get_or s (at + 1) 0 ≡ x → ⊥)) ⊎ (get_or s at 0 ≡ 32 → ⊥)
+      → AfterKey (32 ∷ x ∷ 61 ∷ []) s at (Err Form)
+  name_differs (inl k) = matching_differs (name_two k.0 k.1) (omega arith) (omega arith) (λ g. k.2 (sym g))
+  name_differs (inr (inl k)) = matching_differs (name_one k.0) (omega arith) (omega arith) (λ f. k.1 (sym f))
+  name_differs (inr (inr n)) = matching_differs name_start (omega arith) (omega arith) (rw (add-zero at) (λ e. n (sym e)))
 
-  pub name_second : get_or s at 0 ≡ 32 → (get_or s (at + 1) 0 ≡ x → ⊥) → AfterKey (32 ∷ x ∷ 61 ∷ []) s at Differs
-  name_second e n = matching_differs (name_one e) (omega arith) (omega arith) (λ f. n (sym f))
-
-  pub name_third : get_or s at 0 ≡ 32 → get_or s (at + 1) 0 ≡ x → (get_or s (at + 2) 0 ≡ 61 → ⊥) → AfterKey (32 ∷ x ∷ 61 ∷ []) s at Differs
-  name_third e f n = matching_differs (name_two e f) (omega arith) (omega arith) (λ g. n (sym g))
-
-  pub name_found : get_or s at 0 ≡ 32 → get_or s (at + 1) 0 ≡ x → get_or s (at + 2) 0 ≡ 61 → AfterKey (32 ∷ x ∷ 61 ∷ []) s at (At (at + 3))
-  name_found e f g = matching_end (matching_turn (name_two e f) (omega arith) (omega arith) (sym g)) (omega arith)
+  pub name_found : get_or s at 0 ≡ 32 → get_or s (at + 1) 0 ≡ x → get_or s (at + 2) 0 ≡ 61 → AfterKey (32 ∷ x ∷ 61 ∷ []) s at (Ok (at + 3))
+  name_found e f g = stand (matching_turn (name_two e f) (omega arith) (omega arith) (sym g)) (omega arith)
 
 -- ---- a value's bytes
 pub record Running (s : List ℕ) (at i : ℕ) : Type 0 where
@@ -203,24 +215,15 @@ module _ {s : List ℕ} {at i : ℕ} (m : Running s at i) where
   run_none : count (drop i s) ≡ 0 → RunEnd s at i
   run_none e = record { same = omega (arith, m.same); from = m.from; within = m.within }
 
-  pub run_space : i < length s → get_or s i 0 ≡ 32 → RunEnd s at i
-  unfolding count
-  run_space h e = run_none (rw (drop-cons s i 0 h, e))
-
-  pub run_feed : i < length s → get_or s i 0 ≡ 10 → RunEnd s at i
-  unfolding count
-  run_feed h e = run_none (rw (drop-cons s i 0 h, e))
-
   pub run_stops : i < length s → stops (get_or s i 0) ≡ true → RunEnd s at i
   run_stops h e = run_none (rw (drop-cons s i 0 h) (count_none (get_or s i 0) (drop (suc i) s) e))
 
-  pub run_over : length s ≤ i → RunEnd s at i
+  pub run_over : length s ≤ i → RunEnd s at (length s)
   unfolding count
-  run_over h = run_none (rw (drop_of_length-le s h))
+  run_over h = let e : i ≡ length s = omega (arith, m.within) in rw e at (run_none (rw (drop_of_length-le s h)))
 
-  pub run_turn : i < length s → (get_or s i 0 ≡ 32 → ⊥) → (get_or s i 0 ≡ 10 → ⊥) → Running s at (i + 1)
-  run_turn h a b =
-      let g : stops (get_or s i 0) ≡ false = rw (ne_eqb (get_or s i 0) 32 a, ne_eqb (get_or s i 0) 10 b) in
+  pub run_turn : i < length s → stops (get_or s i 0) ≡ false → Running s at (i + 1)
+  run_turn h g =
       let e : count (drop i s) ≡ count (drop (i + 1) s) + 1 = rw (add-one (count (drop (i + 1) s)), add-one i, drop-cons s i 0 h) (count_more (get_or s i 0) (drop (suc i) s) g) in
       record { from = omega arith; within = omega arith; same = omega (arith, m.same) }
 
@@ -229,7 +232,7 @@ module _ {s : List ℕ} {b e : ℕ} (u : RunEnd s b e) where
   size : count (drop b s) ≡ e - b
   size = omega (arith, u.same)
 
-  pub value_ends : e < length s → ValueAt s b (Between b e)
+  pub value_ends : e < length s → ValueAt s b (Ok (b, e))
   unfolding value_token
   value_ends h =
       let l : e - b < length (drop b s) = simp length-drop (omega (arith, u.from)) in
@@ -240,7 +243,7 @@ module _ {s : List ℕ} {b e : ℕ} (u : RunEnd s b e) where
         within = (u.from, h);
       }
 
-  pub value_over : length s ≤ e → ValueAt s b (Not Ended)
+  pub value_over : length s ≤ e → ValueAt s b (Err Ended)
   unfolding value_token
   value_over h =
       let l : length (drop b s) ≤ e - b = simp length-drop (omega arith) in
@@ -256,62 +259,87 @@ after_length (x ∷ k) (y ∷ s) {t} e =
     (λ h. omega (arith, after_length k s (rw h at e)))
     (λ h. absurd (let g : stands t ≡ differs = rw h at e in let z : ◌≡◌ {A = ℕ} 0 1 = cc in omega arith))
 
-module _ {key s : List ℕ} {at : ℕ} {r : Found} (m : AfterKey key s at r) where
-  pub found_within : {b : ℕ} → r ≡ At b → b ≤ length s
-  found_within e = rw e at m.within
+module _ {key s : List ℕ} {at b : ℕ} (m : AfterKey key s at (Ok b)) where
+  standing : stands (drop b s) ≡ after key (drop at s)
+  standing = keyed_ok (after key (drop at s)) m.same
 
-  found_place : {b : ℕ} → r ≡ At b → at ≤ length s → b ≡ at + length key
-  found_place {b} q h =
-      let k : b ≤ length s = found_within q in
-      omega (arith, after_length key (drop at s) (rw q at m.same), length-drop at s, length-drop b s)
+  found_place : at ≤ length s → b ≡ at + length key
+  found_place h = omega (arith, after_length key (drop at s) standing, length-drop at s, length-drop b s, m.within)
 
-  pub token_found : {b : ℕ} {t : Token} → r ≡ At b → at ≤ length s → ValueAt s b t → TokenAt key s at t
-  unfolding field_of key_token
-  token_found q h u =
-      record { is = u.is ∙ rw (← m.same, q, ← found_place q h); same = λ k l. u.same k l ∙ rw (← m.same, q); within = u.within }
+  pub found_within : b ≤ length s
+  found_within = m.within
 
-  pub token_differs : r ≡ Differs → TokenAt key s at (Not Form)
-  unfolding field_of key_token
-  token_differs e = record { is = rw (← m.same, e); same = λ k l. rw (← m.same, e); within = tt }
+  -- the field is the value there
+  pub field_found : (k : ValueKind) (l : ℕ) → value_of k l (drop b s) ≡ field_of key k l (drop at s)
+  unfolding field_of
+  field_found k l = rw (← standing)
 
-  pub token_broken : r ≡ Broken → TokenAt key s at (Not Ended)
-  unfolding field_of key_token
-  token_broken e = record { is = rw (← m.same, e); same = λ k l. rw (← m.same, e); within = tt }
+  pub token_found : {t : Result (ℕ × ℕ) Fault} → at ≤ length s → ValueAt s b t → TokenAt key s at t
+  unfolding key_token
+  token_found h u = record { is = u.is ∙ rw (← standing, ← found_place h); same = λ k l. u.same k l ∙ field_found k l; within = u.within }
 
-module _ {s : List ℕ} {at : ℕ} {r : Token} (m : ValueAt s at r) where
-  pub value_within : {b e : ℕ} → r ≡ Between b e → (b ≤ e) × (e < length s)
-  value_within q = rw q at m.within
+module _ {key s : List ℕ} {at : ℕ} {f : Fault} (m : AfterKey key s at (Err f)) where
+  -- whatever was to follow is refused
+  pub key_refused : {A : Type 0} (p : Parser A) (l : ℕ) → refused f l ≡ after_key (after key (drop at s)) p l
+  key_refused {A} p l = keyed_err (λ a f. refused f l ≡ after_key a p l) refl refl (after key (drop at s)) m.same
 
-  pub value_to : {b e : ℕ} → r ≡ Between b e → e ≤ length s
-  value_to q = omega (arith, (value_within q).1)
+  pub field_refused : (k : ValueKind) (l : ℕ) → refused f l ≡ field_of key k l (drop at s)
+  unfolding field_of
+  field_refused k l = key_refused (value_of k) l
 
-  pub value_from : {b e : ℕ} → r ≡ Between b e → b ≤ e
-  value_from q = (value_within q).0
+  pub token_refused : TokenAt key s at (Err f)
+  unfolding key_token
+  token_refused =
+      record {
+        is = keyed_err (λ a f. Err f ≡ token_after s (at + length key) a) refl refl (after key (drop at s)) m.same;
+        same = field_refused;
+        within = tt;
+      }
 
-module _ {key s : List ℕ} {at : ℕ} {r : Token} (m : TokenAt key s at r) where
-  pub token_within : {b e : ℕ} → r ≡ Between b e → (b ≤ e) × (e < length s)
-  token_within q = rw q at m.within
+ok_pair : {x y u v : ℕ} → ◌≡◌ {A = Result (ℕ × ℕ) Fault} (Ok (x, y)) (Ok (u, v)) → (x ≡ u) × (y ≡ v)
+ok_pair e = let p : ◌≡◌ {A = ℕ × ℕ} _ _ = cc in (ap (λ (p : ℕ × ℕ). p.0) p, ap (λ (p : ℕ × ℕ). p.1) p)
 
-  pub token_to : {b e : ℕ} → r ≡ Between b e → e ≤ length s
-  token_to q = omega (arith, (token_within q).1)
+module _ {s : List ℕ} {at b e : ℕ} (m : ValueAt s at (Ok (b, e))) where
+  pub value_within : (b ≤ e) × (e < length s)
+  value_within = m.within
 
-  pub token_from : {b e : ℕ} → r ≡ Between b e → b ≤ e
-  token_from q = (token_within q).0
+  -- the value is what runs from the place
+  pub value_run : (b ≡ at) × RunEnd s at e
+  unfolding value_token
+  value_run =
+      cases (ltb (at + count (drop at s)) (length s))
+      (λ h.
+      let p = ok_pair (rw h at m.is) in
+      let l : (b ≤ e) × (e < length s) = value_within in
+      (p.0, record { same = p.1; from = omega arith; within = omega arith }))
+      (λ h. absurd (let z : ◌≡◌ {A = Result (ℕ × ℕ) Fault} (Ok (b, e)) (Err Ended) = rw h at m.is in cc))
 
--- ---- the end of a value
-pub stops_space : (b : ℕ) → b ≡ 32 → true ≡ stops b
-stops_space b h = rw h
+count_short : (t : List ℕ) → count t ≤ length t
+unfolding count
+count_short [] = omega arith
+count_short (b ∷ t) = cases (stops b) (λ h. rw (count_none b t h) (omega arith)) (λ h. rw (count_more b t h) (omega (arith, count_short t)))
 
-pub stops_feed : (b : ℕ) → (b ≡ 32 → ⊥) → eqb b 10 ≡ stops b
-stops_feed b h = rw (ne_eqb b 32 h)
+-- or it runs to the text's end
+pub value_broken : {s : List ℕ} {at : ℕ} {f : Fault} → at ≤ length s → ValueAt s at (Err f) → (f ≡ Ended) × RunEnd s at (length s)
+unfolding value_token
+value_broken {s} {at} {f} h m =
+    cases (ltb (at + count (drop at s)) (length s))
+    (λ k. absurd (let z : ◌≡◌ {A = Result (ℕ × ℕ) Fault} (Err f) (Ok (at, at + count (drop at s))) = rw k at m.is in cc))
+    (λ k.
+    let z : ◌≡◌ {A = Result (ℕ × ℕ) Fault} (Err f) (Err Ended) = rw k at m.is in
+    let l = ltb-false (at + count (drop at s)) (length s) k in
+    let n = count_short (drop at s) in
+    (cc, record { same = omega (arith, l, n, length-drop at s); from = h; within = omega arith }))
+
+module _ {key s : List ℕ} {at b e : ℕ} (m : TokenAt key s at (Ok (b, e))) where
+  pub token_within : (b ≤ e) × (e < length s)
+  token_within = m.within
 
 -- ---- the end of a line
-module _ {s : List ℕ} {at : ℕ} {r : Found} (m : AfterKey (10 ∷ []) s at r) where
-  pub feed_differs : r ≡ Differs → FeedAt s at (Unfed Form)
-  feed_differs q = record { same = λ l. rw (← m.same, q); within = tt }
+module _ {s : List ℕ} {at : ℕ} where
+  feed_same : (r : Result ℕ Fault) → AfterKey (10 ∷ []) s at r → FeedAt s at r
+  feed_same (Ok e) m = record { same = λ l. rw (← standing m); within = m.within }
+  feed_same (Err f) m = record { same = λ l. key_refused m (λ k r. took tt (suc k) r) l; within = tt }
 
-  pub feed_broken : r ≡ Broken → FeedAt s at (Unfed Ended)
-  feed_broken q = record { same = λ l. rw (← m.same, q); within = tt }
-
-  pub feed_is : {e : ℕ} → r ≡ At e → FeedAt s at (Fed e)
-  feed_is q = record { same = λ l. rw (← m.same, q); within = rw q at m.within }
+  pub feed_is : {r : Result ℕ Fault} → AfterKey (10 ∷ []) s at r → FeedAt s at r
+  feed_is {r} m = feed_same r m

@@ -5,46 +5,25 @@
 ghost use Rattle.std.specs.Prelude.{◌+◌, ◌-◌, ◌≤◌, ◌<◌, ◌≡◌, length, [], ◌∷◌};
 ghost use Rattle.text.specs.Value.{same};
 ghost use Rattle.text.specs.Line.{stops as stopsAt};
-ghost use Rattle.scan.specs.Place.{quad_number, Bytes, QuadAt, AfterKey, RunEnd, ValueAt, TokenAt, RefusalOf, FeedAt};
+ghost use Rattle.scan.specs.Place.{quad_number, Bytes, QuadAt, AfterKey, RunEnd, ValueAt, TokenAt, FeedAt};
 
-// Where the text goes on after a key; or something else stands there, or the text ends first.
-#[derive(Clone, Copy)]
-pub enum Found {
-    At(usize),
-    Differs,
-    Broken,
-}
+use text::Fault;
 
-// Where a value begins and ends, or the fault.
-#[derive(Clone, Copy)]
-pub enum Token {
-    At(usize, usize),
-    Not(text::Fault),
-}
-
-// The place after LF, or the fault.
-#[derive(Clone, Copy)]
-pub enum Ended {
-    Is(usize),
-    Not(text::Fault),
-}
-
-pub fn after(s: &[u8], at: usize, key: &[u8]) -> Found
+// The place after a key. Where something else stands there, the form is wrong; the text may also end first.
+pub fn after(s: &[u8], at: usize, key: &[u8]) -> Result<usize, Fault>
     requires { at ≤ length s.now }
     ensures { AfterKey key.now s.now at result }
 {
-    let mut j = 0;
-    while j < key.len() {
+    for (j, b) in key.iter().enumerate() {
         let i = at + j;
         if s.len() <= i {
-            return Found::Broken;
+            return Err(Fault::Ended);
         }
-        if key[j] != s[i] {
-            return Found::Differs;
+        if *b != s[i] {
+            return Err(Fault::Form);
         }
-        j += 1;
     }
-    Found::At(at + j)
+    Ok(at + key.len())
 }
 
 // Four bytes as one number, the first lowest.
@@ -52,7 +31,7 @@ pub fn quad_of(a: u8, b: u8, c: u8, d: u8) -> u32
     ensures is { result ≡ quad_number a b c d }
     ensures bytes { Bytes a b c d }
 {
-    (a as u32) + (b as u32) * 256 + (c as u32) * 65536 + (d as u32) * 16777216
+    u32::from_le_bytes([a, b, c, d])
 }
 
 // The four bytes at a place as one number.
@@ -60,37 +39,39 @@ pub fn quad(s: &[u8], at: usize) -> u32
     requires { 4 ≤ length s.now - at }
     ensures { QuadAt s.now at result }
 {
-    let i = at + 1;
-    let j = at + 2;
-    let k = at + 3;
-    quad_of(s[at], s[i], s[j], s[k])
+    quad_of(s[at], s[at + 1], s[at + 2], s[at + 3])
 }
 
 // A key of four bytes, compared as one number.
-fn after_quad(s: &[u8], at: usize, a: u8, b: u8, c: u8, d: u8) -> Found
+fn after_quad(s: &[u8], at: usize, a: u8, b: u8, c: u8, d: u8) -> Result<usize, Fault>
     requires { at ≤ length s.now }
     ensures { AfterKey (a ∷ b ∷ c ∷ d ∷ []) s.now at result }
 {
     if s.len() - at < 4 {
-        let key = [a, b, c, d];
-        return after(s, at, &key);
+        return after(s, at, &[a, b, c, d]);
     }
     if quad(s, at) == quad_of(a, b, c, d) {
-        return Found::At(at + 4);
+        Ok(at + 4)
+    } else {
+        Err(Fault::Form)
     }
-    Found::Differs
 }
 
 // A key of four bytes and the rest.
-pub fn after_word(s: &[u8], at: usize, a: u8, b: u8, c: u8, d: u8, rest: &[u8]) -> Found
+pub fn after_word(
+    s: &[u8],
+    at: usize,
+    a: u8,
+    b: u8,
+    c: u8,
+    d: u8,
+    rest: &[u8],
+) -> Result<usize, Fault>
     requires { at ≤ length s.now }
     ensures { AfterKey (a ∷ b ∷ c ∷ d ∷ rest.now) s.now at result }
 {
-    match after_quad(s, at, a, b, c, d) {
-        Found::At(e) => after(s, e, rest),
-        Found::Differs => Found::Differs,
-        Found::Broken => Found::Broken,
-    }
+    let e = after_quad(s, at, a, b, c, d)?;
+    after(s, e, rest)
 }
 
 // "A value runs to the next space or LF": its end.
@@ -98,87 +79,53 @@ pub fn run(s: &[u8], at: usize) -> usize
     requires { at ≤ length s.now }
     ensures { RunEnd s.now at result }
 {
-    let mut i = at;
-    while i < s.len() {
-        let b = s[i];
-        if b == 32 {
+    for i in at..s.len() {
+        if stops(s[i]) {
             return i;
         }
-        if b == 10 {
-            return i;
-        }
-        i += 1;
     }
-    i
+    s.len()
 }
 
 // The value at a place: where it begins and ends. One that the text's end breaks off is an early end.
-pub fn value_at(s: &[u8], at: usize) -> Token
+pub fn value_at(s: &[u8], at: usize) -> Result<(usize, usize), Fault>
     requires { at ≤ length s.now }
     ensures { ValueAt s.now at result }
 {
     let e = run(s, at);
     if e < s.len() {
-        return Token::At(at, e);
+        Ok((at, e))
+    } else {
+        Err(Fault::Ended)
     }
-    Token::Not(text::Fault::Ended)
 }
 
 // The value behind a key.
-pub fn token_at(s: &[u8], at: usize, key: &[u8]) -> Token
+pub fn token_at(s: &[u8], at: usize, key: &[u8]) -> Result<(usize, usize), Fault>
     requires { at ≤ length s.now }
     ensures { TokenAt key.now s.now at result }
 {
-    match after(s, at, key) {
-        Found::At(b) => value_at(s, b),
-        Found::Differs => Token::Not(text::Fault::Form),
-        Found::Broken => Token::Not(text::Fault::Ended),
-    }
+    let b = after(s, at, key)?;
+    value_at(s, b)
 }
 
-pub fn refusal(token: Token) -> text::Fault
-    ensures { result ≡ RefusalOf token }
-{
-    match token {
-        Token::At(_, _) => text::Fault::Form,
-        Token::Not(f) => f,
-    }
-}
-
-// The end of a line.
-pub fn feed(s: &[u8], at: usize) -> Ended
+// The place after the end of a line.
+pub fn feed(s: &[u8], at: usize) -> Result<usize, Fault>
     requires { at ≤ length s.now }
     ensures { FeedAt s.now at result }
 {
-    match after(s, at, b"\n") {
-        Found::At(e) => Ended::Is(e),
-        Found::Differs => Ended::Not(text::Fault::Form),
-        Found::Broken => Ended::Not(text::Fault::Ended),
-    }
+    after(s, at, b"\n")
 }
 
 // The end of a value.
 pub fn stops(b: u8) -> bool
     ensures { result ≡ stopsAt b }
 {
-    if b == 32 {
-        return true;
-    }
-    b == 10
+    b == b' ' || b == b'\n'
 }
 
 pub fn is_word(t: &[u8], word: &[u8]) -> bool
     ensures { result ≡ same word.now t.now }
 {
-    if t.len() != word.len() {
-        return false;
-    }
-    let mut i = 0;
-    while i < word.len() {
-        if word[i] != t[i] {
-            return false;
-        }
-        i += 1;
-    }
-    true
+    word == t
 }

@@ -1,38 +1,21 @@
 -- Laws of the readers of words: each says what a step of the code shows.
-use Rattle.std.specs.Prelude.{ℕ, zero, suc, ◌+◌, ◌-◌, ◌≤◌, ◌<◌, ◌≡◌, Bool, true, false, not, length, take, drop, get_or, ltb}
+use Rattle.std.specs.Prelude.{ℕ, zero, suc, ◌+◌, ◌-◌, ◌≤◌, ◌<◌, ◌≡◌, Bool, true, false, length, take, drop, get_or, Option as Maybe, Some, None, Ok, Err, ok_or}
 use Rattle.std.proofs.Math.Path.{refl}
-use Rattle.std.proofs.Common.{sym, ◌∙◌, ap, arith, add-one, take-append-drop, drop-cons, drop-drop}
-use mathlib.Core.List.{List, [], ◌∷◌, ◌++◌}
-use Rattle.std.proofs.Math.Option.{some}
-use Rattle.std.proofs.lemmas.Bool.{false≢true}
-use borrow.Author.Tests.{lt-ltb, le-ltb, ne_eqb, not-true}
-use Rattle.table.specs.Cases.{cases}
+use Rattle.std.proofs.Common.{◌∙◌, ap, arith, add-one, drop-cons}
+use mathlib.Core.List.{List, [], ◌∷◌}
+use Rattle.std.proofs.Math.Option.{Option, none, some}
 use Rattle.table.specs.declared.Op.{Op}
 use Rattle.table.specs.declared.Op.TheVariants.{Add, Sub, And, Or, Xor, Shr, Lt, Eq}
 use Rattle.text.specs.declared.Fault.{Fault}
-use Rattle.text.specs.declared.Fault.TheVariants.{Form, Ended, Index}
-use Rattle.text.specs.Number.{bytes}
+use Rattle.text.specs.declared.Fault.TheVariants.{Form, Index}
 use Rattle.text.specs.declared.NodeKind.{NodeKind}
-use Rattle.text.specs.declared.NodeKind.TheVariants.{Start as start, Set as set_kind, Test as test, Read as read, Out as out}
-use Rattle.text.specs.Value.{choice, kind, operation, kind_word, op_word, same, named, said, unsaid, unless, is_kind, due_at, kind_fault, op_fault, check, kinds, ops}
-use Rattle.text.proofs.NumberLaws.{by_order, and_left, and_right}
-use Rattle.text.proofs.ValueLaws.{same_eq, kind_said}
-use Rattle.text.specs.Line.{run as count, stops, field_of}
-use Rattle.scan.specs.declared.Found.{Found}
-use Rattle.scan.specs.declared.Found.TheVariants.{At, Differs, Broken}
-use Rattle.scan.specs.declared.Token.{Token}
-use Rattle.scan.specs.declared.Token.TheVariants.{At as Between, Not as Refused}
-use Rattle.words.specs.declared.Choice.{Choice}
-use Rattle.words.specs.declared.Choice.TheVariants.{Is as IsChoice, Not as NotChoice}
-use Rattle.words.specs.declared.Quick.{Quick}
-use Rattle.words.specs.declared.Quick.TheVariants.{Is as IsQuick, Not as NotQuick}
-use Rattle.words.specs.declared.Kind.{Kind as KindAnswer}
-use Rattle.words.specs.declared.Kind.TheVariants.{Is as IsKind, Not as NotKind}
-use Rattle.words.specs.declared.Operation.{Operation}
-use Rattle.words.specs.declared.Operation.TheVariants.{Is as IsOp, Not as NotOp}
-use Rattle.scan.specs.Place.{AfterKey, quad_number, Bytes, QuadAt, ValueAt, TokenAt, RefusalOf}
-use Rattle.scan.specs.PlaceLaws.{quad_bytes, count_more, count_none, value_ends, value_within, token_within}
-use Rattle.words.specs.Answer.{WordTo, ChoiceEnds, ChoiceWithin, ChoiceSaid, ChoiceAt, KindEnds, KindWithin, plain, KindJudged, Later, KindSaid, KindIn, stands_at, quick_kind, KindAt, OpEnds, OpWithin, calculates, OpJudged, OpSaid, OpIn, OpAt}
+use Rattle.text.specs.declared.NodeKind.TheVariants.{Start as start, Set as set_kind, Test as test, Read as read, Call as call, Wait as wait, Signal as signal, Send as send, Recv as recv, Assert as assert, Out as out, Return as return}
+use Rattle.text.specs.Value.{ValueKind, Of, choice, kind, operation, kind_word, op_word, same, chosen, named, said, unsaid, unless, due_at, kind_fault, check, kinds, ops}
+use Rattle.text.proofs.ValueLaws.{kind_said}
+use Rattle.text.specs.Line.{run as count, stops}
+use Rattle.scan.specs.Place.{AfterKey, quad_number, Bytes, QuadAt, ValueAt, TokenAt}
+use Rattle.scan.specs.PlaceLaws.{quad_bytes, count_more, count_none, value_ends, value_within, token_within, field_found, field_refused}
+use Rattle.words.specs.Answer.{told, verdict_of, FieldAt, ValueIn, KindIn, OpIn, WordTo, Stands}
 
 -- ---- a word that four bytes show
 step : (s : List ℕ) (i k : ℕ) → i < length s → k ≡ i + 1 → drop i s ≡ get_or s i 0 ∷ drop k s
@@ -77,333 +60,168 @@ module _ {s : List ℕ} {at r : ℕ} (m : QuadAt s at r) (h : 4 ≤ length s - a
   parts : r ≡ x → drop at s ≡ a ∷ b ∷ c ∷ d ∷ drop (at + 4) s
   parts e = let z = quad_bytes m w (e ∙ g) in rw (z.0, z.1, z.2, z.3) (four_part s at h)
 
-  -- another four bytes
-  other_parts : (r ≡ x → ⊥) → {t : List ℕ} → (drop at s ≡ a ∷ b ∷ c ∷ d ∷ t → ⊥)
-  other_parts n p =
-      let q : get_or s at 0 ∷ get_or s (at + 1) 0 ∷ get_or s (at + 2) 0 ∷ get_or s (at + 3) 0 ∷ drop (at + 4) s ≡ a ∷ b ∷ c ∷ d ∷ _ = sym (four_part s at h) ∙ p in
-      let q0 : get_or s at 0 ≡ a = cc in
-      let q1 : get_or s (at + 1) 0 ≡ b = cc in
-      let q2 : get_or s (at + 2) 0 ≡ c = cc in
-      let q3 : get_or s (at + 3) 0 ≡ d = cc in
-      n (omega (arith, g, m.same, q0, q1, q2, q3))
+module _ {s : List ℕ} {at r : ℕ} (m : QuadAt s at r) (h : 4 ≤ length s - at) {a b c d x : ℕ} (w : Bytes a b c d) (g : x ≡ quad_number a b c d) (e : r ≡ x) where
+  pub two_told : c ≡ 32 → stops a ≡ false → stops b ≡ false → WordTo s at (at + 2) (a ∷ b ∷ [])
+  two_told = two_letters h (parts m h w g e)
 
--- ---- one of two words
-module _ (a b t : List ℕ) (e : ℕ) {x : Bool} (p : x ≡ same a t) where
-  pub choice_first : x ≡ true → ChoiceSaid a b t e (IsChoice false e)
-  unfolding said named check
-  choice_first h = record { same = λ l s. rw (← p, h); ends = refl }
+  pub three_told : d ≡ 32 → stops a ≡ false → stops b ≡ false → stops c ≡ false → WordTo s at (at + 3) (a ∷ b ∷ c ∷ [])
+  three_told = three_letters h (parts m h w g e)
 
-  module _ {y : Bool} (h : x ≡ false) (q : y ≡ same b t) where
-    pub choice_second : y ≡ true → ChoiceSaid a b t e (IsChoice true e)
-    unfolding said named check
-    choice_second k = record { same = λ l s. rw (← p, h, ← q, k); ends = refl }
+  pub four_told : 5 ≤ length s - at → get_or s (at + 4) 0 ≡ 32 → stops a ≡ false → stops b ≡ false → stops c ≡ false → stops d ≡ false
+      → WordTo s at (at + 4) (a ∷ b ∷ c ∷ d ∷ [])
+  four_told = four_letters h (parts m h w g e)
 
-    pub choice_none : y ≡ false → ChoiceSaid a b t e (NotChoice Form)
-    unfolding said named unsaid
-    choice_none k = record { same = λ l s. rw (← p, h, ← q, k); ends = tt }
-
-module _ {key s : List ℕ} {at : ℕ} {r : Token} (m : TokenAt key s at r) where
-  pub choice_stop : (a b : List ℕ) {x y : Fault} → r ≡ Refused y → x ≡ RefusalOf r → ChoiceAt a b key s at (NotChoice x)
-  choice_stop a b q z = record { same = λ l. rw (z, q) (rw q at (m.same (choice a b) l)); within = tt }
-
-  pub choice_step : {a b : List ℕ} {from e : ℕ} {v : Choice} → r ≡ Between from e → ChoiceSaid a b (take (e - from) (drop from s)) e v → ChoiceAt a b key s at v
-  choice_step {a} {b} {from} {e} {v} q d = record { same = λ l. d.same l s ∙ rw q at (m.same (choice a b) l); within = reach v d.ends }
-    where
-      reach : (v : Choice) → ChoiceEnds e v → ChoiceWithin s v
-      reach (IsChoice v p) h = rw h (token_within m q).1
-      reach (NotChoice f) h = tt
-
--- ---- the kinds of nodes
-plain_fault : (k : NodeKind) → plain k ≡ true → (c : Bool) (j : ℕ) → kind_fault c j k ≡ unless (due_at j false) Index
-plain_fault k h c j =
-    let s = is_kind start k in
-    let r = is_kind read k in
-    rw (not-true s (and_left (not s) (not r) h), not-true r (and_right (not s) (not r) h))
-
-pub later_zero : (k : NodeKind) {j : ℕ} (e : ℕ) → plain k ≡ true → j ≡ 0 → Later k j e (NotKind Index)
-unfolding check
-later_zero k {j} e h z = record { judged = λ c. record { same = λ l s. rw (plain_fault k h c j, z); ends = tt } }
-
-pub later_is : (k : NodeKind) (j e : ℕ) → plain k ≡ true → (j ≡ 0 → ⊥) → Later k j e (IsKind k e)
-unfolding check
-later_is k zero e h z = absurd (z refl)
-later_is k (suc j) e h z = record { judged = λ c. record { same = λ l s. rw (plain_fault k h c (suc j)); ends = refl } }
-
-pub start_is : {j : ℕ} (e : ℕ) → j ≡ 0 → Later start j e (IsKind start e)
-unfolding check same
-start_is e z = record { judged = λ c. record { same = λ l s. rw z; ends = refl } }
-
-pub start_late : (j e : ℕ) → (j ≡ 0 → ⊥) → Later start j e (NotKind Index)
-unfolding check same
-start_late zero e z = absurd (z refl)
-start_late (suc j) e z = record { judged = λ c. record { same = λ l s. refl; ends = tt } }
-
-pub read_closed : {c : Bool} (j e : ℕ) → c ≡ true → KindJudged c j read e (NotKind Form)
-unfolding check same
-read_closed j e h = record { same = λ l s. rw h; ends = tt }
-
-pub read_first : {c : Bool} {j : ℕ} (e : ℕ) → c ≡ false → j ≡ 0 → KindJudged c j read e (NotKind Index)
-unfolding check same
-read_first e h z = record { same = λ l s. rw (h, z); ends = tt }
-
-pub read_is : {c : Bool} (j e : ℕ) → c ≡ false → (j ≡ 0 → ⊥) → KindJudged c j read e (IsKind read e)
-unfolding check same
-read_is zero e h z = absurd (z refl)
-read_is (suc j) e h z = record { same = λ l s. rw h; ends = refl }
-
-module _ {c : Bool} {j : ℕ} {t : List ℕ} {e : ℕ} {r : KindAnswer} where
-  pub kind_hit : {k : NodeKind} {ks : List NodeKind} {x : Bool} → x ≡ same (kind_word k) t → x ≡ true → KindJudged c j k e r → KindSaid c j (k ∷ ks) t e r
+-- ---- the first whose word bytes are
+module _ {A : Type 0} (word : A → List ℕ) (a : A) (as' : List A) (t : List ℕ) {x : Bool} (p : x ≡ same (word a) t) where
+  pub named_hit : x ≡ true → Some a ≡ told (named word (a ∷ as') t)
   unfolding named
-  kind_hit p h d = record { same = λ l s. rw (← p, h) (d.same l s); ends = d.ends }
+  named_hit h = rw (← p, h)
 
-  pub kind_later : {k : NodeKind} {ks : List NodeKind} {x : Bool} → x ≡ same (kind_word k) t → x ≡ true → Later k j e r → KindSaid c j (k ∷ ks) t e r
-  kind_later p h d = kind_hit p h (d.judged c)
-
-  pub kind_miss : {k : NodeKind} {ks : List NodeKind} {x : Bool} → x ≡ same (kind_word k) t → x ≡ false → KindSaid c j ks t e r → KindSaid c j (k ∷ ks) t e r
+  pub named_miss : {r : Maybe A} → x ≡ false → r ≡ told (named word as' t) → r ≡ told (named word (a ∷ as') t)
   unfolding named
-  kind_miss p h d = record { same = λ l s. rw (← p, h) (d.same l s); ends = d.ends }
+  named_miss h d = rw (← p, h) d
 
-pub kind_none : (c : Bool) (j : ℕ) (t : List ℕ) (e : ℕ) → KindSaid c j [] t e (NotKind Form)
-unfolding named unsaid
-kind_none c j t e = record { same = λ l s. refl; ends = tt }
+pub named_none : {A : Type 0} (word : A → List ℕ) (t : List ℕ) → None ≡ told (named word [] t)
+unfolding named
+named_none word t = refl
 
-module _ {s : List ℕ} {at : ℕ} {r : Token} (m : ValueAt s at r) where
-  pub kind_stop : (c : Bool) (j : ℕ) {x y : Fault} → r ≡ Refused y → x ≡ RefusalOf r → KindIn c j s at (NotKind x)
-  kind_stop c j q z = record { same = λ l. rw (z, q) (rw q at (m.same (kind c j) l)); within = tt }
+pub ruleset named_laws = (named_hit, named_miss, named_none)
 
-  pub kind_step : {c : Bool} {j from e : ℕ} {v : KindAnswer} → r ≡ Between from e → KindSaid c j kinds (take (e - from) (drop from s)) e v → KindIn c j s at v
-  unfolding said
-  kind_step {c} {j} {from} {e} {v} q d = record { same = λ l. d.same l s ∙ rw q at (m.same (kind c j) l); within = reach v d.ends }
-    where
-      reach : (v : KindAnswer) → KindEnds e v → KindWithin s v
-      reach (IsKind v p) h = rw h (value_within m q).1
-      reach (NotKind f) h = tt
+-- ---- from what bytes say to their place
+told_some : {A : Type 0} (o : Option A) (f : Fault) {v : A} → Ok v ≡ ok_or (told o) f → o ≡ some v
+told_some none f q = cc
+told_some (some v) f q = cc
 
-module _ {s : List ℕ} {at : ℕ} {r : Found} (m : AfterKey (bytes " kind=") s at r) where
-  pub kind_found : {c : Bool} {j b : ℕ} {v : KindAnswer} → r ≡ At b → KindIn c j s b v → KindAt c j s at v
-  unfolding field_of
-  kind_found q u = record { same = λ l. u.same l ∙ rw (← m.same, q); within = u.within }
+told_none : {A : Type 0} (o : Option A) (f : Fault) {g : Fault} → Err g ≡ ok_or (told o) f → (o ≡ none) × (g ≡ f)
+told_none none f q = (refl, cc)
+told_none (some v) f q = cc
 
-  pub kind_differs : (c : Bool) (j : ℕ) → r ≡ Differs → KindAt c j s at (NotKind Form)
-  unfolding field_of
-  kind_differs c j e = record { same = λ l. rw (← m.same, e); within = tt }
+module _ (k : ValueKind) {s : List ℕ} {at b e : ℕ} (m : ValueAt s at (Ok (b, e))) {o : Maybe (Of k)} (p : o ≡ told (said k (take (e - b) (drop b s)))) where
+  pub value_told : {v : Of k} → Ok v ≡ ok_or o (unsaid k) → ValueIn k s at (Ok (v, e))
+  value_told q = record { same = λ l. rw (told_some (said k (take (e - b) (drop b s))) (unsaid k) (rw p at q)) at (m.same k l); within = (value_within m).1 }
 
-  pub kind_broken : (c : Bool) (j : ℕ) → r ≡ Broken → KindAt c j s at (NotKind Ended)
-  unfolding field_of
-  kind_broken c j e = record { same = λ l. rw (← m.same, e); within = tt }
+  pub value_untold : {f : Fault} → Err f ≡ ok_or o (unsaid k) → ValueIn k s at (Err f)
+  value_untold q = let z = told_none (said k (take (e - b) (drop b s))) (unsaid k) (rw p at q) in record { same = λ l. rw (z.1) (rw (z.0) at (m.same k l)); within = tt }
 
--- the bytes that stand at a place
-stands_parts : (w s : List ℕ) (at : ℕ) → stands_at w s at ≡ true → drop at s ≡ w ++ drop (length w) (drop at s)
-stands_parts w s at h = sym (take-append-drop (length w) (drop at s)) ∙ ap (λ (t : List ℕ). t ++ drop (length w) (drop at s)) (sym (same_eq w _ h))
+-- ---- kinds and operations at a place
+module _ {s : List ℕ} {at b e : ℕ} (m : ValueAt s at (Ok (b, e))) where
+  module _ {o : Maybe NodeKind} (p : o ≡ told (named kind_word kinds (take (e - b) (drop b s)))) where
+    pub kind_told : {k : NodeKind} → Ok k ≡ ok_or o Form → KindIn s at (Ok (k, e))
+    unfolding said unsaid
+    kind_told q = record { read = λ c j. value_told (kind c j) m p q }
 
--- a kind whose word stands at a place
-abbrev KindStands : List ℕ → ℕ → Quick → Type 0
-KindStands s at (IsQuick k e) = WordTo s at e (kind_word k) × (plain k ≡ true)
-KindStands s at NotQuick = Unit {0}
+    pub kind_untold : {f : Fault} → Err f ≡ ok_or o Form → KindIn s at (Err f)
+    unfolding said unsaid
+    kind_untold q = record { read = λ c j. value_untold (kind c j) m p q }
 
-module _ (s : List ℕ) (at : ℕ) (h : 5 ≤ length s - at) where
-  four_stand : (a b c d : ℕ) → stands_at (a ∷ b ∷ c ∷ d ∷ []) s at ≡ true → drop at s ≡ a ∷ b ∷ c ∷ d ∷ drop (at + 4) s
-  four_stand a b c d p = rw (drop-drop 4 at s) at (stands_parts (a ∷ b ∷ c ∷ d ∷ []) s at p)
+  module _ {o : Maybe Op} (p : o ≡ told (named op_word ops (take (e - b) (drop b s)))) where
+    pub op_told : {v : Op} → Ok v ≡ ok_or o Form → OpIn s at (Ok (v, e))
+    unfolding said unsaid
+    op_told q = record { read = λ x. value_told (operation x) m p q }
 
-  five_stand : (a b c d e : ℕ) → stands_at (a ∷ b ∷ c ∷ d ∷ e ∷ []) s at ≡ true → (drop at s ≡ a ∷ b ∷ c ∷ d ∷ drop (at + 4) s) × (get_or s (at + 4) 0 ≡ e)
-  five_stand a b c d e p =
-      let q : drop at s ≡ a ∷ b ∷ c ∷ d ∷ e ∷ drop 5 (drop at s) = stands_parts (a ∷ b ∷ c ∷ d ∷ e ∷ []) s at p in
-      let f = four_part s at (omega arith) in
-      let g = step s (at + 4) (at + 5) (omega arith) (omega arith) in
-      (cc, cc)
-
-  quick_long : KindStands s at (quick_kind s at)
-  unfolding quick_kind same
-  quick_long =
-      rw (le-ltb (length s - at) 5 h)
-      (cases (stands_at (bytes "set ") s at)
-      (λ p. rw p (three_letters (omega arith) (four_stand 115 101 116 32 p) refl refl refl refl, refl))
-      (λ p. cases (stands_at (bytes "out ") s at)
-      (λ q. rw (p, q) (three_letters (omega arith) (four_stand 111 117 116 32 q) refl refl refl refl, refl))
-      (λ q. cases (stands_at (bytes "test ") s at)
-      (λ u. rw (p, q, u) (let f = five_stand 116 101 115 116 32 u in (four_letters (omega arith) f.0 h f.1 refl refl refl refl, refl)))
-      (λ u. rw (p, q, u) tt))))
-
-quick_stands : (s : List ℕ) (at : ℕ) → KindStands s at (quick_kind s at)
-unfolding quick_kind
-quick_stands s at = by_order (length s - at) 5 (λ h. rw (lt-ltb (length s - at) 5 h) tt) (λ h. quick_long s at h)
-
-module _ (s : List ℕ) (at : ℕ) {r : Quick} (m : r ≡ quick_kind s at) {k : NodeKind} {e : ℕ} (q : r ≡ IsQuick k e) where
-  quick_word : WordTo s at e (kind_word k) × (plain k ≡ true)
-  quick_word = rw (← m, q) at (quick_stands s at)
-
-  pub quick_plain : plain k ≡ true
-  quick_plain = quick_word.1
-
-  pub quick_kind_lem : {c : Bool} {j : ℕ} {v : KindAnswer} → Later k j e v → KindIn c j s at v
-  unfolding said
-  quick_kind_lem {c} {j} {v} d =
-      let w = quick_word.0 in
-      let z : named kind_word kinds (take (e - at) (drop at s)) ≡ some k = rw w.same (kind_said k) in
-      record { same = λ l. (d.judged c).same l s ∙ (rw z at ((value_ends w.run w.inside).same (kind c j) l)); within = reach v (d.judged c).ends }
-    where
-      reach : (v : KindAnswer) → KindEnds e v → KindWithin s v
-      reach (IsKind v p) h = rw h quick_word.0.inside
-      reach (NotKind f) h = tt
-
-pub quick_short : (s : List ℕ) (at : ℕ) → length s - at < 5 → NotQuick ≡ quick_kind s at
-unfolding quick_kind
-quick_short s at h = rw (lt-ltb (length s - at) 5 h)
-
-module _ {s : List ℕ} {at r : ℕ} (m : QuadAt s at r) (h : 5 ≤ length s - at) where
-  long : ltb (length s - at) 5 ≡ false
-  long = le-ltb (length s - at) 5 h
-
-  module _ {x : ℕ} where
-    pub quick_set : Bytes 115 101 116 32 → x ≡ quad_number 115 101 116 32 → r ≡ x → IsQuick set_kind (at + 3) ≡ quick_kind s at
-    unfolding quick_kind same
-    quick_set b g e = rw (long, parts m (omega arith) b g e)
-
-    pub quick_out : Bytes 111 117 116 32 → x ≡ quad_number 111 117 116 32 → r ≡ x → IsQuick out (at + 3) ≡ quick_kind s at
-    unfolding quick_kind same
-    quick_out b g e = rw (long, parts m (omega arith) b g e)
-
-    module _ (b : Bytes 116 101 115 116) (g : x ≡ quad_number 116 101 115 116) (e : r ≡ x) where
-      five : drop at s ≡ 116 ∷ 101 ∷ 115 ∷ 116 ∷ get_or s (at + 4) 0 ∷ drop (at + 5) s
-      five = rw (← step s (at + 4) (at + 5) (omega arith) (omega arith)) (parts m (omega arith) b g e)
-
-      pub quick_test : get_or s (at + 4) 0 ≡ 32 → IsQuick test (at + 4) ≡ quick_kind s at
-      unfolding quick_kind same
-      quick_test d = rw (long, five, d)
-
-      pub quick_longer : (get_or s (at + 4) 0 ≡ 32 → ⊥) → NotQuick ≡ quick_kind s at
-      unfolding quick_kind same
-      quick_longer d = rw (long, five, ne_eqb 32 (get_or s (at + 4) 0) (λ z. d (sym z)))
-
-  other : {a b c d x : ℕ} → Bytes a b c d → x ≡ quad_number a b c d → (r ≡ x → ⊥) → (t : List ℕ) → stands_at (a ∷ b ∷ c ∷ d ∷ t) s at ≡ false
-  other {a} {b} {c} {d} w g n t = cases (stands_at (a ∷ b ∷ c ∷ d ∷ t) s at)
-      (λ y. absurd (other_parts m (omega arith) w g n (stands_parts (a ∷ b ∷ c ∷ d ∷ t) s at y)))
-      (λ y. y)
-
-  pub quick_other : {x y z : ℕ} → Bytes 115 101 116 32 → x ≡ quad_number 115 101 116 32 → (r ≡ x → ⊥)
-      → Bytes 111 117 116 32 → y ≡ quad_number 111 117 116 32 → (r ≡ y → ⊥)
-      → Bytes 116 101 115 116 → z ≡ quad_number 116 101 115 116 → (r ≡ z → ⊥) → NotQuick ≡ quick_kind s at
-  unfolding quick_kind
-  quick_other b g n b' g' n' b'' g'' n'' = rw (long, other b g n [], other b' g' n' [], other b'' g'' n'' (32 ∷ []))
-
--- ---- operations
-calculates_fault : (o : Op) → calculates o ≡ true → op_fault true o ≡ some Form
-calculates_fault Add h = refl
-calculates_fault Sub h = refl
-calculates_fault And h = refl
-calculates_fault Or h = refl
-calculates_fault Xor h = refl
-calculates_fault Shr h = refl
-calculates_fault Lt h = absurd (false≢true h)
-calculates_fault Eq h = absurd (false≢true h)
-
-pub calculation_test : {x : Bool} {o : Op} (e : ℕ) → calculates o ≡ true → x ≡ true → OpJudged x o e (NotOp Form)
-unfolding check
-calculation_test {x} {o} e h z = record { same = λ l s. rw (z, calculates_fault o h); ends = tt }
-
-pub calculation_is : {x : Bool} {o : Op} (e : ℕ) → x ≡ false → OpJudged x o e (IsOp o e)
-unfolding check
-calculation_is e z = record { same = λ l s. rw z; ends = refl }
-
-module _ {x : Bool} {t : List ℕ} {e : ℕ} where
-  pub op_hit : {o : Op} {os : List Op} {w : Bool} {r : Operation} → w ≡ same (op_word o) t → w ≡ true → OpJudged x o e r → OpSaid x (o ∷ os) t e r
-  unfolding named
-  op_hit p h d = record { same = λ l s. rw (← p, h) (d.same l s); ends = d.ends }
-
-  pub op_miss : {o : Op} {os : List Op} {w : Bool} {r : Operation} → w ≡ same (op_word o) t → w ≡ false → OpSaid x os t e r → OpSaid x (o ∷ os) t e r
-  unfolding named
-  op_miss p h d = record { same = λ l s. rw (← p, h) (d.same l s); ends = d.ends }
-
-pub op_less : (x : Bool) (e : ℕ) → OpJudged x Lt e (IsOp Lt e)
-unfolding check
-op_less true e = record { same = λ l s. refl; ends = refl }
-op_less false e = record { same = λ l s. refl; ends = refl }
-
-pub op_equal : (x : Bool) (e : ℕ) → OpJudged x Eq e (IsOp Eq e)
-unfolding check
-op_equal true e = record { same = λ l s. refl; ends = refl }
-op_equal false e = record { same = λ l s. refl; ends = refl }
-
-pub op_none : (x : Bool) (t : List ℕ) (e : ℕ) → OpSaid x [] t e (NotOp Form)
-unfolding named unsaid
-op_none x t e = record { same = λ l s. refl; ends = tt }
-
-module _ {s : List ℕ} {at : ℕ} {r : Token} (m : ValueAt s at r) where
-  pub op_stop : (x : Bool) {f y : Fault} → r ≡ Refused y → f ≡ RefusalOf r → OpIn x s at (NotOp f)
-  op_stop x q z = record { same = λ l. rw (z, q) (rw q at (m.same (operation x) l)); within = tt }
-
-  pub op_step : {x : Bool} {from e : ℕ} {v : Operation} → r ≡ Between from e → OpSaid x ops (take (e - from) (drop from s)) e v → OpIn x s at v
-  unfolding said
-  op_step {x} {from} {e} {v} q d = record { same = λ l. d.same l s ∙ rw q at (m.same (operation x) l); within = reach v d.ends }
-    where
-      reach : (v : Operation) → OpEnds e v → OpWithin s v
-      reach (IsOp v p) h = rw h (value_within m q).1
-      reach (NotOp f) h = tt
-
-module _ {s : List ℕ} {at : ℕ} {r : Found} (m : AfterKey (bytes " op=") s at r) where
-  pub op_found : {x : Bool} {b : ℕ} {v : Operation} → r ≡ At b → OpIn x s b v → OpAt x s at v
-  unfolding field_of
-  op_found q u = record { same = λ l. u.same l ∙ rw (← m.same, q); within = u.within }
-
-  pub op_differs : (x : Bool) → r ≡ Differs → OpAt x s at (NotOp Form)
-  unfolding field_of
-  op_differs x e = record { same = λ l. rw (← m.same, e); within = tt }
-
-  pub op_broken : (x : Bool) → r ≡ Broken → OpAt x s at (NotOp Ended)
-  unfolding field_of
-  op_broken x e = record { same = λ l. rw (← m.same, e); within = tt }
+    pub op_untold : {f : Fault} → Err f ≡ ok_or o Form → OpIn s at (Err f)
+    unfolding said unsaid
+    op_untold q = record { read = λ x. value_untold (operation x) m p q }
 
 -- an operation is the first whose word its word is
-named_op : (o : Op) → named op_word ops (op_word o) ≡ some o
+op_said : (o : Op) → named op_word ops (op_word o) ≡ some o
 unfolding named same
-named_op Add = refl
-named_op Sub = refl
-named_op And = refl
-named_op Or = refl
-named_op Xor = refl
-named_op Shr = refl
-named_op Lt = refl
-named_op Eq = refl
+op_said Add = refl
+op_said Sub = refl
+op_said And = refl
+op_said Or = refl
+op_said Xor = refl
+op_said Shr = refl
+op_said Lt = refl
+op_said Eq = refl
 
--- an operation whose word stands at a place
-op_stands : {s : List ℕ} {at e : ℕ} {o : Op} → WordTo s at e (op_word o) → {x : Bool} {v : Operation} → OpJudged x o e v → OpIn x s at v
+-- one whose word stands at a place
+stands_value : (k : ValueKind) {s w : List ℕ} {at e : ℕ} {v : Of k} → WordTo s at e w → said k w ≡ some v → ValueIn k s at (Ok (v, e))
+stands_value k {s} {w} {at} {e} {v} m q =
+    let z : said k (take (e - at) (drop at s)) ≡ some v = rw m.same q in
+    record { same = λ l. rw z at ((value_ends m.run m.inside).same k l); within = m.inside }
+
+pub kind_stands : {s : List ℕ} {at : ℕ} {f : NodeKind × ℕ} → Stands kind_word s at (Some f) → KindIn s at (Ok f)
 unfolding said
-op_stands {s} {at} {e} {o} w {x} {v} d =
-    let z : named op_word ops (take (e - at) (drop at s)) ≡ some o = rw w.same (named_op o) in
-    record { same = λ l. d.same l s ∙ (rw z at ((value_ends w.run w.inside).same (operation x) l)); within = reach v d.ends }
-  where
-    reach : (v : Operation) → OpEnds e v → OpWithin s v
-    reach (IsOp v p) h = rw h w.inside
-    reach (NotOp f) h = tt
+kind_stands {f = f} w = record { read = λ c j. stands_value (kind c j) w (kind_said f.0) }
 
-module _ {s : List ℕ} {at r x : ℕ} (m : QuadAt s at r) (h : 4 ≤ length s - at) where
-  pub quick_add : Bytes 97 100 100 32 → x ≡ quad_number 97 100 100 32 → r ≡ x → OpIn false s at (IsOp Add (at + 3))
-  quick_add b g e = op_stands (three_letters h (parts m h b g e) refl refl refl refl) (calculation_is (at + 3) refl)
+pub op_stands : {s : List ℕ} {at : ℕ} {f : Op × ℕ} → Stands op_word s at (Some f) → OpIn s at (Ok f)
+unfolding said
+op_stands {f = f} w = record { read = λ x. stands_value (operation x) w (op_said f.0) }
 
-  pub quick_sub : Bytes 115 117 98 32 → x ≡ quad_number 115 117 98 32 → r ≡ x → OpIn false s at (IsOp Sub (at + 3))
-  quick_sub b g e = op_stands (three_letters h (parts m h b g e) refl refl refl refl) (calculation_is (at + 3) refl)
+-- ---- what is checked
+pub check_start : (c : Bool) {j : ℕ} → j ≡ 0 → Ok tt ≡ verdict_of (kind_fault c j start)
+unfolding same
+check_start c h = rw h
 
-  pub quick_and : Bytes 97 110 100 32 → x ≡ quad_number 97 110 100 32 → r ≡ x → OpIn false s at (IsOp And (at + 3))
-  quick_and b g e = op_stands (three_letters h (parts m h b g e) refl refl refl refl) (calculation_is (at + 3) refl)
+pub check_start_late : (c : Bool) (j : ℕ) → (j ≡ 0 → ⊥) → Err Index ≡ verdict_of (kind_fault c j start)
+unfolding same
+check_start_late c zero h = absurd (h refl)
+check_start_late c (suc j) h = refl
 
-  pub quick_xor : Bytes 120 111 114 32 → x ≡ quad_number 120 111 114 32 → r ≡ x → OpIn false s at (IsOp Xor (at + 3))
-  quick_xor b g e = op_stands (three_letters h (parts m h b g e) refl refl refl refl) (calculation_is (at + 3) refl)
+pub check_read : {c : Bool} (j : ℕ) → c ≡ true → Err Form ≡ verdict_of (kind_fault c j read)
+unfolding same
+check_read j h = rw h
 
-  pub quick_shr : Bytes 115 104 114 32 → x ≡ quad_number 115 104 114 32 → r ≡ x → OpIn false s at (IsOp Shr (at + 3))
-  quick_shr b g e = op_stands (three_letters h (parts m h b g e) refl refl refl refl) (calculation_is (at + 3) refl)
+-- any other kind, and a `read` in open form
+module _ {k : NodeKind} {c : Bool} (n : k ≡ start → ⊥) (h : k ≡ read → c ≡ false) where
+  check_other : (j : ℕ) → verdict_of (unless (due_at j false) Index) ≡ verdict_of (kind_fault c j k)
+  unfolding same
+  check_other j = go k n h
+    where
+      go : (k : NodeKind) → (k ≡ start → ⊥) → (k ≡ read → c ≡ false) → verdict_of (unless (due_at j false) Index) ≡ verdict_of (kind_fault c j k)
+      go start n h = absurd (n refl)
+      go set_kind n h = refl
+      go test n h = refl
+      go read n h = rw (h refl)
+      go call n h = refl
+      go wait n h = refl
+      go signal n h = refl
+      go send n h = refl
+      go recv n h = refl
+      go assert n h = refl
+      go out n h = refl
+      go return n h = refl
 
-  pub quick_less : Bytes 108 116 32 97 → x ≡ quad_number 108 116 32 97 → r ≡ x → OpIn true s at (IsOp Lt (at + 2))
-  quick_less b g e = op_stands (two_letters h (parts m h b g e) refl refl refl) (op_less true (at + 2))
+  pub check_first : {j : ℕ} → j ≡ 0 → Err Index ≡ verdict_of (kind_fault c j k)
+  check_first {j} z = rw (← check_other j, z)
 
-  pub quick_equal : Bytes 101 113 32 97 → x ≡ quad_number 101 113 32 97 → r ≡ x → OpIn true s at (IsOp Eq (at + 2))
-  quick_equal b g e = op_stands (two_letters h (parts m h b g e) refl refl refl) (op_equal true (at + 2))
+  pub check_later : (j : ℕ) → (j ≡ 0 → ⊥) → Ok tt ≡ verdict_of (kind_fault c j k)
+  check_later zero z = absurd (z refl)
+  check_later (suc j) z = check_other (suc j)
 
-pub in_set : {x : Bool} {s : List ℕ} {at : ℕ} {v : Operation} → x ≡ false → OpIn false s at v → OpIn x s at v
-in_set h m = rw h m
+-- ---- a field
+module _ {key s : List ℕ} {at b : ℕ} (a : AfterKey key s at (Ok b)) (k : ValueKind) where
+  pub field_stops : {f : Fault} → ValueIn k s b (Err f) → FieldAt k key s at (Err f)
+  field_stops m = record { same = λ l. m.same l ∙ field_found a k l; within = tt }
 
-pub in_test : {x : Bool} {s : List ℕ} {at : ℕ} {v : Operation} → x ≡ true → OpIn true s at v → OpIn x s at v
-in_test h m = rw h m
+  module _ {v : Of k} {e : ℕ} (m : ValueIn k s b (Ok (v, e))) where
+    checks : (o : Option Fault) → check k v ≡ o → {u : Unit {0}} → Ok u ≡ verdict_of o → FieldAt k key s at (Ok (v, e))
+    checks none h q = record { same = λ l. rw h at (m.same l ∙ field_found a k l); within = m.within }
+    checks (some f) h q = cc
 
-pub ruleset kind_laws = (kind_hit, kind_later, kind_miss, kind_none)
+    pub field_is : {u : Unit {0}} → Ok u ≡ verdict_of (check k v) → FieldAt k key s at (Ok (v, e))
+    field_is q = checks (check k v) refl q
 
-pub ruleset op_laws = (op_hit, op_miss, op_less, op_equal, op_none)
+    fails : (o : Option Fault) → check k v ≡ o → {f : Fault} → Err f ≡ verdict_of o → FieldAt k key s at (Err f)
+    fails none h q = cc
+    fails (some g) h {f} q =
+        let z : f ≡ g = cc in
+        record { same = λ l. rw z (rw h at (m.same l ∙ field_found a k l)); within = tt }
+
+    pub field_fails : {f : Fault} → Err f ≡ verdict_of (check k v) → FieldAt k key s at (Err f)
+    field_fails q = fails (check k v) refl q
+
+pub field_missing : (k : ValueKind) {key s : List ℕ} {at : ℕ} {f : Fault} → AfterKey key s at (Err f) → FieldAt k key s at (Err f)
+field_missing k a = record { same = field_refused a k; within = tt }
+
+-- ---- one of two words
+module _ (a b : List ℕ) {key s : List ℕ} {at from e : ℕ} (m : TokenAt key s at (Ok (from, e))) {o : Maybe Bool}
+    (p : o ≡ told (named (chosen a b) (false ∷ true ∷ []) (take (e - from) (drop from s)))) where
+  pub choice_told : {v : Bool} → Ok v ≡ ok_or o Form → FieldAt (choice a b) key s at (Ok (v, e))
+  unfolding said check
+  choice_told q = record { same = λ l. rw (told_some _ Form (rw p at q)) at (m.same (choice a b) l); within = (token_within m).1 }
+
+  pub choice_untold : {f : Fault} → Err f ≡ ok_or o Form → FieldAt (choice a b) key s at (Err f)
+  unfolding said unsaid
+  choice_untold q = let z = told_none _ Form (rw p at q) in record { same = λ l. rw (z.1) (rw (z.0) at (m.same (choice a b) l)); within = tt }

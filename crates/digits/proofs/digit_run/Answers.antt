@@ -1,18 +1,15 @@
 use Rattle.std.proofs.Common.{rules}
-use Rattle.digits.specs.ReadLaws.{starts, leaves_low, leaves_high, turns, ends}
+use Rattle.digits.specs.ReadLaws.{starts, leaves, turns, ends}
 use Rattle.digits.proofs.digit_run.Goals as goal
 
-pub loop-i-init : goal.loop-i-init
-loop-i-init c = starts _
+pub loop-b-init : goal.loop-b-init
+loop-b-init c = starts _
 
-pub returns-then-b-lt48 : goal.returns-then-b-lt48
-returns-then-b-lt48 c = search (rules, leaves_low)
+pub returns-then-not-is_ascii_digit : goal.returns-then-not-is_ascii_digit
+returns-then-not-is_ascii_digit c = search (rules, leaves)
 
-pub returns-then-b-gt57 : goal.returns-then-b-gt57
-returns-then-b-gt57 c = search (rules, leaves_high)
-
-pub loop-i-preserved : goal.loop-i-preserved
-loop-i-preserved c = search (rules, turns)
+pub loop-b-preserved : goal.loop-b-preserved
+loop-b-preserved c = search (rules, turns)
 
 pub returns : goal.returns
 returns c = search (rules, ends)

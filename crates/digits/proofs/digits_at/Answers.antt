@@ -1,5 +1,5 @@
 use Rattle.std.proofs.Common.{rules}
-use Rattle.digits.specs.LeadLaws.{first_leading, lead_over, lead_stop, lead_step}
+use Rattle.digits.specs.LeadLaws.{first_leading, lead_stop, lead_step, lead_over}
 use Rattle.digits.proofs.digits_at.Goals as goal
 
 pub loop-i-init : goal.loop-i-init

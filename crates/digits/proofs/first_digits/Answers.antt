@@ -1,5 +1,5 @@
 use Rattle.std.proofs.Common.{rules}
-use Rattle.digits.specs.LeadLaws.{first_small, first_within, first_once, first_twice}
+use Rattle.digits.specs.LeadLaws.{first_once, first_small, first_within, first_twice}
 use Rattle.digits.proofs.first_digits.Goals as goal
 
 pub returns-then-four-at : goal.returns-then-four-at

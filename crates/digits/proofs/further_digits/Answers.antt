@@ -1,9 +1,9 @@
 use Rattle.std.proofs.Common.{rules}
-use Rattle.digits.specs.LeadLaws.{digit_low, digit_high, lead_over, lead_stop, lead_turn}
+use Rattle.digits.specs.LeadLaws.{lead_stop, digit_low, digit_high, lead_turn, lead_over}
 use Rattle.digits.proofs.further_digits.Goals as goal
 
-pub returns-then-d-gt9 : goal.returns-then-d-gt9
-returns-then-d-gt9 c = search (rules, lead_stop)
+pub returns-then-digit-gt9 : goal.returns-then-digit-gt9
+returns-then-digit-gt9 c = search (rules, lead_stop)
 
 pub push-v-requires : goal.push-v-requires
 push-v-requires c = search (rules, digit_low, digit_high)

@@ -1,12 +1,11 @@
 use Rattle.std.proofs.Common.{rules}
-use Rattle.lists.specs.ListLaws.{set_found, set_differs, set_broken}
+use Rattle.text.specs.Value.{ascending}
+use Rattle.text.specs.Format.{set_of}
+use Rattle.lists.specs.ListLaws.{field_missing, field_value}
 use Rattle.lists.proofs.ascending_field.Goals as goal
 
-pub returns-in-At : goal.returns-in-At
-returns-in-At c = search (rules, set_found)
+pub returns-in_err-b : goal.returns-in_err-b
+returns-in_err-b c = search (rules, field_missing (ascending c.args.one c.args.lo c.args.below) set_of c.in_err-b.ensures)
 
-pub returns-in-Differs : goal.returns-in-Differs
-returns-in-Differs c = search (rules, set_differs)
-
-pub returns-in-Broken : goal.returns-in-Broken
-returns-in-Broken c = search (rules, set_broken)
+pub returns : goal.returns
+returns c = field_value (ascending c.args.one c.args.lo c.args.below) set_of c.in_ok-b.ensures c.ascending_at.ensures

@@ -5,5 +5,5 @@ use Rattle.lists.proofs.ascending_value.Goals as goal
 pub returns-then-is_word : goal.returns-then-is_word
 returns-then-is_word c = search (rules, list_none)
 
-pub returns : goal.returns
-returns c = search (rules, list_rising)
+pub returns-else-is_word : goal.returns-else-is_word
+returns-else-is_word c = search (rules, list_rising)

@@ -5,5 +5,5 @@ use Rattle.lists.proofs.many.Goals as goal
 pub overflow_add-result : goal.overflow_add-result
 overflow_add-result c = search (rules, many_fits)
 
-pub returns : goal.returns
-returns c = search (rules, many_is)
+pub returns-in-Some : goal.returns-in-Some
+returns-in-Some c = search (rules, many_is)

@@ -1,24 +1,21 @@
 use Rattle.std.proofs.Common.{rules}
-use Rattle.lists.specs.PassingLaws.{argument_read, argument_next, argument_less, going_bad, going_start, going_end, going_outside, going_stops, going_turn}
+use Rattle.lists.specs.PassingLaws.{going_start, going_stops, going_end, going_outside, going_turn, going_less}
 use Rattle.lists.proofs.passing.Goals as goal
 
-pub returns-in_default : goal.returns-in_default
-returns-in_default c = search (rules, going_bad, argument_read)
+pub loop-v-init : goal.loop-v-init
+loop-v-init c = search (rules, going_start)
 
-pub loop-to-init : goal.loop-to-init
-loop-to-init c = search (rules, going_start, argument_read)
+pub returns-in_err-v : goal.returns-in_err-v
+returns-in_err-v c = search (rules, going_stops c.loop-v.invariant c.argument_at.ensures c.in_err-v.ensures.value)
 
-pub returns-in_default-item : goal.returns-in_default-item
-returns-in_default-item c = search (rules, going_stops, argument_next)
+pub returns-in_err-a : goal.returns-in_err-a
+returns-in_err-a c = search (rules, going_outside c.loop-v.invariant c.argument_at.ensures c.in_ok-v.ensures.value c.with-args.ensures c.if-t-to.true c.in_err-a.ensures.value)
 
-pub loop-to-smaller : goal.loop-to-smaller
-loop-to-smaller c = search (rules, argument_less)
+pub returns-then-t-to : goal.returns-then-t-to
+returns-then-t-to c = going_end c.loop-v.invariant c.argument_at.ensures c.in_ok-v.ensures.value c.with-args.ensures c.if-t-to.true c.in_ok-a.ensures.value
 
-pub loop-to-preserved : goal.loop-to-preserved
-loop-to-preserved c = search (rules, going_turn, argument_next)
+pub loop-v-smaller : goal.loop-v-smaller
+loop-v-smaller c = going_less c.loop-v.invariant c.argument_at.ensures c.in_ok-v.ensures.value c.with-args.ensures c.if-t-to.false
 
-pub returns-then-within : goal.returns-then-within
-returns-then-within c = search (rules, going_end)
-
-pub returns : goal.returns
-returns c = search (rules, going_outside)
+pub loop-v-preserved : goal.loop-v-preserved
+loop-v-preserved c = going_turn c.loop-v.invariant c.argument_at.ensures c.in_ok-v.ensures.value c.with-args.ensures c.if-t-to.false

@@ -6,26 +6,26 @@ use Rattle.lists.proofs.short_list.Goals as goal
 pub loop-from-init : goal.loop-from-init
 loop-from-init c = search (rules, left_start)
 
-pub returns-in_default : goal.returns-in_default
-returns-in_default c = search (rules, left_none)
+pub returns-in_err-v : goal.returns-in_err-v
+returns-in_err-v c = rw c.from_residual.ensures (left_none c.loop-from.invariant c.in_err-v.ensures)
 
 pub returns-then-b-mask : goal.returns-then-b-mask
-returns-then-b-mask c = search (rules, left_low)
+returns-then-b-mask c = left_low c.loop-from.invariant c.in_ok-v.ensures c.bit-b.ensures c.if-b-mask.true
 
 pub bounds-u-to : goal.bounds-u-to
-bounds-u-to c = search (rules, short_within)
+bounds-u-to c = short_within _ _ c.in_ok-v.ensures
 
 pub returns-then-stops : goal.returns-then-stops
-returns-then-stops c = search (rules, left_end)
+returns-then-stops c = left_end c.loop-from.invariant c.in_ok-v.ensures c.bit-b.ensures c.if-b-mask.false c.stops.ensures c.loop-from-test.true c.if-stops.true
 
 pub returns-then-c-ne44 : goal.returns-then-c-ne44
-returns-then-c-ne44 c = search (rules, left_other)
+returns-then-c-ne44 c = left_other c.loop-from.invariant c.in_ok-v.ensures c.bit-b.ensures c.if-b-mask.false c.stops.ensures c.if-stops.false c.if-c-ne44.true
 
 pub loop-from-smaller : goal.loop-from-smaller
-loop-from-smaller c = search (rules, short_less)
+loop-from-smaller c = short_less _ _ c.in_ok-v.ensures c.loop-from-test.true
 
 pub loop-from-preserved : goal.loop-from-preserved
-loop-from-preserved c = search (rules, left_turn)
+loop-from-preserved c = left_turn c.loop-from.invariant c.in_ok-v.ensures c.bit-b.ensures c.if-b-mask.false c.stops.ensures c.loop-from-test.true c.if-stops.false c.if-c-ne44.false
 
 pub returns : goal.returns
 returns c = search (rules, left_over)

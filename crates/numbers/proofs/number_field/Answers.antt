@@ -1,12 +1,9 @@
 use Rattle.std.proofs.Common.{rules}
-use Rattle.numbers.specs.ValueLaws.{number_found, number_differs, number_broken}
+use Rattle.numbers.specs.ValueLaws.{number_unfound, number_found}
 use Rattle.numbers.proofs.number_field.Goals as goal
 
-pub returns-in-At : goal.returns-in-At
-returns-in-At c = search (rules, number_found)
+pub returns-in_err-b : goal.returns-in_err-b
+returns-in_err-b c = search (rules, number_unfound c.in_err-b.ensures c.args.lo c.args.below c.args.fault)
 
-pub returns-in-Differs : goal.returns-in-Differs
-returns-in-Differs c = search (rules, number_differs)
-
-pub returns-in-Broken : goal.returns-in-Broken
-returns-in-Broken c = search (rules, number_broken)
+pub returns : goal.returns
+returns c = search (rules, number_found c.in_ok-b.ensures)

@@ -1,15 +1,12 @@
 use Rattle.std.proofs.Common.{rules}
-use Rattle.numbers.specs.NumeralLaws.{spelt_none, spelt_one, spelt_zero, spelt_more}
+use Rattle.numbers.specs.NumeralLaws.{spelt_none, spelt_zero, spelt_is}
 use Rattle.numbers.proofs.spelt.Goals as goal
 
-pub returns-then-n-eq0 : goal.returns-then-n-eq0
-returns-then-n-eq0 c = search (rules, spelt_none)
+pub returns-then-e-at : goal.returns-then-e-at
+returns-then-e-at c = search (rules, spelt_none)
 
-pub returns-then-n-eq1 : goal.returns-then-n-eq1
-returns-then-n-eq1 c = search (rules, spelt_one)
-
-pub returns-then-b-eq48 : goal.returns-then-b-eq48
-returns-then-b-eq48 c = search (rules, spelt_zero)
+pub returns-then-at-e : goal.returns-then-at-e
+returns-then-at-e c = search (rules, spelt_zero)
 
 pub returns : goal.returns
-returns c = search (rules, spelt_more)
+returns c = search (rules, spelt_is)

@@ -1,9 +1,9 @@
 use Rattle.std.proofs.Common.{rules}
-use Rattle.operands.specs.OperandLaws.{named_is, named_bad}
+use Rattle.operands.specs.OperandLaws.{named_refused, named_is}
 use Rattle.operands.proofs.variable_operand.Goals as goal
 
-pub returns-in-Is : goal.returns-in-Is
-returns-in-Is c = search (rules, named_is)
+pub returns-in_err-x : goal.returns-in_err-x
+returns-in_err-x c = search (rules, named_refused c.in_err-x.ensures c.args.vars)
 
-pub returns-in-Bad : goal.returns-in-Bad
-returns-in-Bad c = search (rules, named_bad)
+pub returns : goal.returns
+returns c = search (rules, named_is c.in_ok-x.ensures)

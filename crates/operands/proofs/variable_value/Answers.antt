@@ -9,10 +9,10 @@ pub returns-then-is_word : goal.returns-then-is_word
 returns-then-is_word c = search (rules, removed_not)
 
 pub returns-in_default : goal.returns-in_default
-returns-in_default c = search (rules, variable_bad)
+returns-in_default c = search (rules, variable_bad c.in_default.ensures)
 
 pub returns-then-v-vars : goal.returns-then-v-vars
-returns-then-v-vars c = search (rules, variable_good)
+returns-then-v-vars c = search (rules, variable_good c.in-Some.ensures)
 
-pub returns : goal.returns
-returns c = search (rules, variable_high)
+pub returns-else-v-vars : goal.returns-else-v-vars
+returns-else-v-vars c = search (rules, variable_high c.in-Some.ensures)

@@ -5,8 +5,8 @@ use Rattle.scan.proofs.after.Goals as goal
 pub returns-then-s-i : goal.returns-then-s-i
 returns-then-s-i c = search (rules, matching_short)
 
-pub returns-then-key-j : goal.returns-then-key-j
-returns-then-key-j c = search (rules, matching_differs)
+pub returns-then-b-s : goal.returns-then-b-s
+returns-then-b-s c = search (rules, matching_differs)
 
 pub loop-j-preserved : goal.loop-j-preserved
 loop-j-preserved c = search (rules, matching_turn)

@@ -5,5 +5,5 @@ use Rattle.scan.proofs.after_quad.Goals as goal
 pub returns-then-quad-quad_of : goal.returns-then-quad-quad_of
 returns-then-quad-quad_of c = search (rules, quad_same)
 
-pub returns : goal.returns
-returns c = search (rules, quad_differs)
+pub returns-else-quad-quad_of : goal.returns-else-quad-quad_of
+returns-else-quad-quad_of c = search (rules, quad_differs)

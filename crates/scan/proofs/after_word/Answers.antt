@@ -1,12 +1,9 @@
 use Rattle.std.proofs.Common.{rules}
-use Rattle.scan.specs.PlaceLaws.{word_found, word_differs, word_broken}
+use Rattle.scan.specs.PlaceLaws.{word_refused, word_found}
 use Rattle.scan.proofs.after_word.Goals as goal
 
-pub returns-in-At : goal.returns-in-At
-returns-in-At c = search (rules, word_found)
+pub returns-in_err-e : goal.returns-in_err-e
+returns-in_err-e c = search (rules, word_refused)
 
-pub returns-in-Differs : goal.returns-in-Differs
-returns-in-Differs c = search (rules, word_differs)
-
-pub returns-in-Broken : goal.returns-in-Broken
-returns-in-Broken c = search (rules, word_broken)
+pub returns : goal.returns
+returns c = search (rules, word_found)

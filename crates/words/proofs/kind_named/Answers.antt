@@ -1,0 +1,42 @@
+use Rattle.std.proofs.Common.{rules}
+use Rattle.words.specs.WordLaws.{named_laws}
+use Rattle.words.proofs.kind_named.Goals as goal
+
+pub returns-then-is_word : goal.returns-then-is_word
+returns-then-is_word c = search (rules, named_laws) depth 30
+
+pub returns-then-is_word-2 : goal.returns-then-is_word-2
+returns-then-is_word-2 c = search (rules, named_laws) depth 30
+
+pub returns-then-is_word-3 : goal.returns-then-is_word-3
+returns-then-is_word-3 c = search (rules, named_laws) depth 30
+
+pub returns-then-is_word-4 : goal.returns-then-is_word-4
+returns-then-is_word-4 c = search (rules, named_laws) depth 30
+
+pub returns-then-is_word-5 : goal.returns-then-is_word-5
+returns-then-is_word-5 c = search (rules, named_laws) depth 30
+
+pub returns-then-is_word-6 : goal.returns-then-is_word-6
+returns-then-is_word-6 c = search (rules, named_laws) depth 30
+
+pub returns-then-is_word-7 : goal.returns-then-is_word-7
+returns-then-is_word-7 c = search (rules, named_laws) depth 30
+
+pub returns-then-is_word-8 : goal.returns-then-is_word-8
+returns-then-is_word-8 c = search (rules, named_laws) depth 30
+
+pub returns-then-is_word-9 : goal.returns-then-is_word-9
+returns-then-is_word-9 c = search (rules, named_laws) depth 30
+
+pub returns-then-is_word-10 : goal.returns-then-is_word-10
+returns-then-is_word-10 c = search (rules, named_laws) depth 30
+
+pub returns-then-is_word-11 : goal.returns-then-is_word-11
+returns-then-is_word-11 c = search (rules, named_laws) depth 30
+
+pub returns-then-is_word-12 : goal.returns-then-is_word-12
+returns-then-is_word-12 c = search (rules, named_laws) depth 30
+
+pub returns-else-is_word-12 : goal.returns-else-is_word-12
+returns-else-is_word-12 c = search (rules, named_laws) depth 30
