@@ -9,9 +9,9 @@ use Rattle.table.specs.declared.Operand.TheVariants.{Var, Const}
 use Rattle.text.specs.declared.Fault.{Fault}
 use Rattle.text.specs.Value.{operand, numeral, said_operand, operand_fault, check}
 use Rattle.text.specs.Line.{took, refused, verdict, judged}
-use Rattle.operands.specs.declared.Operand.{Operand as Answer}
-use Rattle.operands.specs.declared.Operand.TheVariants.{Is as IsOperand, Not as NotOperand}
 use Rattle.operands.specs.Answer.{OperandJudged}
+use Rattle.scan.specs.Place.{Answer as Answered}
+use Rattle.std.specs.Prelude.{Ok, Err}
 use Rattle.machine.specs.Words.{filtered, said_up_to}
 use Rattle.machine.specs.Program.{fitting, as_value, said_value}
 use Rattle.arguments.specs.Answers.{answer_of}
@@ -62,14 +62,14 @@ takes (some (Const z)) {y} {l} {r} s e = go (operand_fault 0 (Const z)) e
     go none q = cc
     go (some g) q = absurd (let z : ◌≡◌ {A = ℕ} 0 1 = cc in omega arith)
 
-module _ (t : List ℕ) {e : ℕ} {r : Answer} (d : OperandJudged 0 (said_operand t) e r) where
-  pub signed_not : {f : Fault} → r ≡ NotOperand f → None ≡ answer_of (said_value t)
+module _ (t : List ℕ) {e : ℕ} {r : Answered Operand} (d : OperandJudged 0 (said_operand t) e r) where
+  pub signed_not : {f : Fault} → r ≡ Err f → None ≡ answer_of (said_value t)
   unfolding said_value
   signed_not q = refuses (said_operand t) (drop e []) (rw q at (d.same 0 []))
 
-  pub signed_variable : {o : Operand} {v p : ℕ} → r ≡ IsOperand o p → o ≡ Var v → None ≡ answer_of (said_value t)
+  pub signed_variable : {o : Operand} {v p : ℕ} → r ≡ Ok (o, p) → o ≡ Var v → None ≡ answer_of (said_value t)
   signed_variable q g = absurd (let u = rw (q, g) at d.ends in omega arith)
 
-  pub signed_is : {o : Operand} {z : ℤ} {p : ℕ} → r ≡ IsOperand o p → o ≡ Const z → Some z ≡ answer_of (said_value t)
+  pub signed_is : {o : Operand} {z : ℤ} {p : ℕ} → r ≡ Ok (o, p) → o ≡ Const z → Some z ≡ answer_of (said_value t)
   unfolding said_value
   signed_is q g = takes (said_operand t) (drop e []) (rw (q, g) at (d.same 0 []))

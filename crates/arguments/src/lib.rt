@@ -13,6 +13,9 @@ ghost use Rattle.machine.specs.Words.{said_up_to, file_word};
 ghost use Rattle.machine.specs.Program.{said_value, said_items, most_nodes, most_bytes};
 ghost use Rattle.arguments.specs.Answers.{answer_of, digits_up_to, count_of, leading, length_of};
 
+use table::Operand;
+use text::Fault;
+
 // The length of a text that a program prints, or of what it says in its place on the standard error stream. It is no `Result`, since what is said
 // is an answer as well.
 #[derive(Clone, Copy)]
@@ -61,39 +64,33 @@ pub fn up_to(t: &[u8], m: usize) -> Option<usize>
 }
 
 // What the digits behind `v`, behind `-` or alone say.
-fn named(t: &[u8]) -> operands::Operand
+fn named(t: &[u8]) -> Result<(Operand, usize), Fault>
     ensures { OperandJudged 0 (as_var (numeral t.now)) 0 result }
 {
-    let digits::Num::Good(x) = digits::number(t) else {
-        return operands::Operand::Not(text::Fault::Misspelt);
-    };
+    let x = digits::number(t).ok_or(Fault::Misspelt)?;
     operands::named_operand(x, 0, 0)
 }
 
-fn negative(t: &[u8]) -> operands::Operand
+fn negative(t: &[u8]) -> Result<(Operand, usize), Fault>
     ensures { OperandJudged 0 (as_negative (numeral t.now)) 0 result }
 {
-    let digits::Num::Good(x) = digits::number(t) else {
-        return operands::Operand::Not(text::Fault::Misspelt);
-    };
+    let x = digits::number(t).ok_or(Fault::Misspelt)?;
     operands::negative_operand(x, 0, 0)
 }
 
-fn constant(t: &[u8]) -> operands::Operand
+fn constant(t: &[u8]) -> Result<(Operand, usize), Fault>
     ensures { OperandJudged 0 (as_const (numeral t.now)) 0 result }
 {
-    let digits::Num::Good(x) = digits::number(t) else {
-        return operands::Operand::Not(text::Fault::Misspelt);
-    };
+    let x = digits::number(t).ok_or(Fault::Misspelt)?;
     operands::constant_operand(x, 0, 0)
 }
 
 // A constant; no variable is declared.
-fn operand_value(t: &[u8]) -> operands::Operand
+fn operand_value(t: &[u8]) -> Result<(Operand, usize), Fault>
     ensures { OperandJudged 0 (said_operand t.now) 0 result }
 {
     match t {
-        [] => operands::Operand::Not(text::Fault::Misspelt),
+        [] => Err(Fault::Misspelt),
         [b'v', name @ ..] => named(name),
         [b'-', size @ ..] => negative(size),
         _ => constant(t),
@@ -105,7 +102,7 @@ fn signed(t: &[u8]) -> Option<i32>
     ensures { result ≡ answer_of (said_value t.now) }
 {
     match operand_value(t) {
-        operands::Operand::Is(table::Operand::Const(z), _) => Some(z),
+        Ok((Operand::Const(z), _)) => Some(z),
         _ => None,
     }
 }

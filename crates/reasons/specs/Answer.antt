@@ -1,33 +1,25 @@
 -- What is read of a text's first line.
-use Rattle.std.specs.Prelude.{ℕ, suc, ◌+◌, ◌≤◌, ◌≡◌, List, drop}
+use Rattle.std.specs.Prelude.{ℕ, suc, ◌+◌, ◌≤◌, ◌≡◌, List, drop, Option, Some, None, Ok, Err}
 use Rattle.text.specs.declared.Fault.{Fault}
 use Rattle.text.specs.declared.Fault.TheVariants.{Range}
 use Rattle.text.specs.Line.{Line, Vals, took, refused, line}
 use Rattle.closing.specs.Reasons.{refusal_line, stopped_line}
-use Rattle.numbers.specs.declared.Number.{Number}
-use Rattle.numbers.specs.declared.Number.TheVariants.{Is as IsNumber, Not as NotNumber}
-use Rattle.numbers.specs.Answer.{within_of as NumberWithin, NumberIn, NumberAt}
-use Rattle.reasons.specs.declared.Count.{Count}
-use Rattle.reasons.specs.declared.Count.TheVariants.{Is as IsCount, Not as NotCount}
-use Rattle.reasons.specs.declared.Wrong.{Wrong}
-use Rattle.reasons.specs.declared.Wrong.TheVariants.{Is as IsWrong, Nothing}
+use Rattle.scan.specs.Place.{Answer}
+use Rattle.numbers.specs.Answer.{NumberIn, NumberAt}
 
 -- the fault of a number does not count here
-abbrev pub count_of : Number → Count
-count_of (IsNumber v e) = IsCount v e
-count_of (NotNumber f) = NotCount
-
-abbrev pub within_of : ℕ → ℕ → ℕ → ℕ → Count
-within_of lo hi v e = count_of (NumberWithin lo (hi + 1) Range v e)
+abbrev pub count_of : Answer ℕ → Option (ℕ × ℕ)
+count_of (Ok p) = Some p
+count_of (Err f) = None
 
 -- the number from lo to hi at a place, and behind a key
-pub record CountIn (lo hi : ℕ) (s : List ℕ) (at : ℕ) (r : Count) : Type 0 where
-  pub number : Number
+pub record CountIn (lo hi : ℕ) (s : List ℕ) (at : ℕ) (r : Option (ℕ × ℕ)) : Type 0 where
+  pub number : Answer ℕ
   pub is : r ≡ count_of number
   pub there : NumberIn lo (hi + 1) Range s at number
 
-pub record CountAt (lo hi : ℕ) (key s : List ℕ) (at : ℕ) (r : Count) : Type 0 where
-  pub number : Number
+pub record CountAt (lo hi : ℕ) (key s : List ℕ) (at : ℕ) (r : Option (ℕ × ℕ)) : Type 0 where
+  pub number : Answer ℕ
   pub is : r ≡ count_of number
   pub there : NumberAt lo (hi + 1) Range key s at number
 
@@ -50,10 +42,10 @@ pub record StopIs (s : List ℕ) (n k : ℕ) : Type 0 where
   pub low : 1 ≤ n
   pub high : n ≤ 20
 
-abbrev pub RefusalOf : List ℕ → Wrong → Type 0
-RefusalOf s (IsWrong n l) = RefusalIs s n l
-RefusalOf s Nothing = Fails refusal_line s 0
+abbrev pub RefusalOf : List ℕ → Option (ℕ × ℕ) → Type 0
+RefusalOf s (Some p) = RefusalIs s p.0 p.1
+RefusalOf s None = Fails refusal_line s 0
 
-abbrev pub StopOf : List ℕ → Wrong → Type 0
-StopOf s (IsWrong n k) = StopIs s n k
-StopOf s Nothing = Fails stopped_line s 0
+abbrev pub StopOf : List ℕ → Option (ℕ × ℕ) → Type 0
+StopOf s (Some p) = StopIs s p.0 p.1
+StopOf s None = Fails stopped_line s 0

@@ -1,5 +1,5 @@
 -- Laws of reading the first line of a text and of writing its reason: each says what a step of the code shows.
-use Rattle.std.specs.Prelude.{ℕ, zero, suc, ◌+◌, ◌≤◌, ◌<◌, ◌≡◌, refl, List, [], ◌∷◌, ◌++◌, length, get_or, drop}
+use Rattle.std.specs.Prelude.{ℕ, zero, suc, ◌+◌, ◌≤◌, ◌<◌, ◌≡◌, refl, List, [], ◌∷◌, ◌++◌, length, get_or, drop, Option, Some, None, Ok, Err}
 use Rattle.std.proofs.Common.{arith}
 use Rattle.text.specs.declared.Fault.{Fault}
 use Rattle.text.specs.declared.Fault.TheVariants.{Form, Misspelt, Ended, Range}
@@ -8,106 +8,82 @@ use Rattle.text.specs.Value.{from}
 use Rattle.text.proofs.ValueLaws.{no}
 use Rattle.text.specs.Line.{Line, end, field, Vals, line}
 use Rattle.closing.specs.Reasons.{reasons, reason, place, reason_line, stop_line, refusal_line, stopped_line, of_stop, explained}
-use Rattle.scan.specs.declared.Found.{Found}
-use Rattle.scan.specs.declared.Found.TheVariants.{At, Differs, Broken}
-use Rattle.scan.specs.declared.Ended.{Ended as LineEnd}
-use Rattle.scan.specs.declared.Ended.TheVariants.{Is as Fed, Not as Unfed}
-use Rattle.scan.specs.Place.{AfterKey, FeedAt}
-use Rattle.numbers.specs.declared.Number.{Number}
-use Rattle.numbers.specs.declared.Number.TheVariants.{Is as IsNumber, Not as NotNumber}
-use Rattle.numbers.specs.declared.Numeral.{Numeral}
-use Rattle.numbers.specs.declared.Numeral.TheVariants.{Is as IsNumeral, Bad, Over}
+use Rattle.scan.specs.Place.{Answer, AfterKey, FeedAt}
 use Rattle.numbers.specs.Numerals.{NumeralAt}
-use Rattle.numbers.specs.Answer.{within_of as NumberWithin}
-use Rattle.numbers.specs.ValueLaws.{is_low, is_high, is_good, number_wide, number_none, number_over, number_found, number_differs, number_broken}
+use Rattle.numbers.specs.ValueLaws.{is_low, is_high, is_good, number_wide, number_refused, number_found, number_unfound}
 use Rattle.put.specs.Put.{Put, PutField}
 use Rattle.put.specs.PutLaws.{put_after, put_more, field_then}
-use Rattle.reasons.specs.declared.Count.{Count}
-use Rattle.reasons.specs.declared.Count.TheVariants.{Is as IsCount, Not as NotCount}
-use Rattle.reasons.specs.declared.Wrong.{Wrong}
-use Rattle.reasons.specs.declared.Wrong.TheVariants.{Is as IsWrong, Nothing}
-use Rattle.reasons.specs.Answer.{count_of, within_of, CountIn, CountAt, Stands, Fails, RefusalIs, StopIs, RefusalOf, StopOf}
+use Rattle.reasons.specs.Answer.{count_of, CountIn, CountAt, Stands, Fails, RefusalIs, StopIs, RefusalOf, StopOf}
 
 -- ---- a number at a place, and behind a key
 
-module _ (lo hi v e : ℕ) where
-  pub count_low : v < lo → NotCount ≡ within_of lo hi v e
-  count_low h = rw (← is_low lo (hi + 1) Range v e h)
+module _ {s : List ℕ} {at v e : ℕ} (m : NumeralAt s at (Ok (v, e))) where
+  pub count_low : {lo hi : ℕ} → hi < 4294967296 → v < lo → CountIn lo hi s at None
+  count_low {lo} {hi} h l = record { number = Err Range; is = refl; there = number_wide m (omega arith) (is_low lo (hi + 1) Range v e l) }
 
-  pub count_high : hi < v → NotCount ≡ within_of lo hi v e
-  count_high h = rw (← is_high lo (hi + 1) Range v e (omega arith))
+  pub count_high : {lo hi : ℕ} → hi < 4294967296 → hi < v → CountIn lo hi s at None
+  count_high {lo} {hi} h l = record { number = Err Range; is = refl; there = number_wide m (omega arith) (is_high lo (hi + 1) Range v e (omega arith)) }
 
-  pub count_good : lo ≤ v → v ≤ hi → IsCount v e ≡ within_of lo hi v e
-  count_good h g = rw (← is_good lo (hi + 1) Range v e h (omega arith))
+  pub count_good : {lo hi : ℕ} → hi < 4294967296 → lo ≤ v → v ≤ hi → CountIn lo hi s at (Some (v, e))
+  count_good {lo} {hi} h l g = record { number = Ok (v, e); is = refl; there = number_wide m (omega arith) (is_good lo (hi + 1) Range v e l (omega arith)) }
 
-module _ {s : List ℕ} {at : ℕ} {r : Numeral} (m : NumeralAt s at r) where
-  pub count_is : {lo hi v e : ℕ} {a : Count} → hi < 4294967296 → r ≡ IsNumeral v e → a ≡ within_of lo hi v e → CountIn lo hi s at a
-  count_is {lo} {hi} {v} {e} h q d = record { number = NumberWithin lo (hi + 1) Range v e; is = d; there = number_wide m q (omega arith) refl }
+pub count_unread : {s : List ℕ} {at : ℕ} {g : Fault} (lo hi : ℕ) → NumeralAt s at (Err g) → CountIn lo hi s at None
+count_unread {g = g} lo hi m = record { number = Err g; is = refl; there = number_refused m lo (hi + 1) Range }
 
-  pub count_bad : {lo hi : ℕ} → r ≡ Bad → CountIn lo hi s at NotCount
-  count_bad {lo} {hi} q = record { number = NotNumber Misspelt; is = refl; there = number_none m lo (hi + 1) Range q }
+pub key_within : {key s : List ℕ} {at b : ℕ} → AfterKey key s at (Ok b) → b ≤ length s
+key_within m = m.within
 
-  pub count_over : {lo hi : ℕ} → r ≡ Over → CountIn lo hi s at NotCount
-  count_over {lo} {hi} q = record { number = NotNumber Ended; is = refl; there = number_over m lo (hi + 1) Range q }
+pub count_found : {lo hi : ℕ} {key s : List ℕ} {at b : ℕ} {a : Option (ℕ × ℕ)} → AfterKey key s at (Ok b) → CountIn lo hi s b a → CountAt lo hi key s at a
+count_found m u = record { number = u.number; is = u.is; there = number_found m u.there }
 
-module _ {key s : List ℕ} {at : ℕ} {r : Found} (m : AfterKey key s at r) where
-  pub key_within : {b : ℕ} → r ≡ At b → b ≤ length s
-  key_within q = rw q at m.within
-
-  pub count_found : {lo hi b : ℕ} {a : Count} → r ≡ At b → CountIn lo hi s b a → CountAt lo hi key s at a
-  count_found q u = record { number = u.number; is = u.is; there = number_found m q u.there }
-
-  pub count_differs : {lo hi : ℕ} → r ≡ Differs → CountAt lo hi key s at NotCount
-  count_differs {lo} {hi} q = record { number = NotNumber Form; is = refl; there = number_differs m lo (hi + 1) Range q }
-
-  pub count_broken : {lo hi : ℕ} → r ≡ Broken → CountAt lo hi key s at NotCount
-  count_broken {lo} {hi} q = record { number = NotNumber Ended; is = refl; there = number_broken m lo (hi + 1) Range q }
+pub count_unfound : {key s : List ℕ} {at : ℕ} {g : Fault} (lo hi : ℕ) → AfterKey key s at (Err g) → CountAt lo hi key s at None
+count_unfound {g = g} lo hi m = record { number = Err g; is = refl; there = number_unfound m lo (hi + 1) Range }
 
 -- ---- a line, number by number
 
-number_of : {r : Count} {v e : ℕ} (x : Number) → r ≡ count_of x → r ≡ IsCount v e → x ≡ IsNumber v e
-number_of (IsNumber v e) p q = cc
-number_of (NotNumber f) p q = no (cc)
+number_of : {v e : ℕ} (x : Answer ℕ) → ◌≡◌ {A = Option (ℕ × ℕ)} (Some (v, e)) (count_of x) → x ≡ Ok (v, e)
+number_of (Ok p) q = cc
+number_of (Err f) q = no (cc)
 
-fault_of : {r : Count} (x : Number) → r ≡ count_of x → r ≡ NotCount → (f : Fault) × (x ≡ NotNumber f)
-fault_of (IsNumber v e) p q = no (cc)
-fault_of (NotNumber f) p q = (f, refl)
+fault_of : (x : Answer ℕ) → None ≡ count_of x → (f : Fault) × (x ≡ Err f)
+fault_of (Ok p) q = no (cc)
+fault_of (Err f) q = (f, refl)
 
-module _ {lo hi : ℕ} {key s : List ℕ} {at : ℕ} {r : Count} (m : CountAt lo hi key s at r) where
-  pub count_within : {v e : ℕ} → r ≡ IsCount v e → e ≤ length s
-  count_within {v} {e} q = let h = rw (number_of m.number m.is q) at m.there.within in omega (arith, h.0)
+module _ {lo hi : ℕ} {key s : List ℕ} {at v e : ℕ} (m : CountAt lo hi key s at (Some (v, e))) where
+  pub count_within : e ≤ length s
+  count_within = let h = rw (number_of m.number m.is) at m.there.within in omega (arith, h.0)
 
-  pub count_least : {v e : ℕ} → r ≡ IsCount v e → lo ≤ v
-  count_least {v} {e} q = (rw (number_of m.number m.is q) at m.there.within).1
+  pub count_least : lo ≤ v
+  count_least = (rw (number_of m.number m.is) at m.there.within).1
 
-  pub count_most : {v e : ℕ} → r ≡ IsCount v e → v ≤ hi
-  count_most {v} {e} q = let h = rw (number_of m.number m.is q) at m.there.within in omega (arith, h.2)
+  pub count_most : v ≤ hi
+  count_most = let h = rw (number_of m.number m.is) at m.there.within in omega (arith, h.2)
 
   -- the number, and then the rest of its line
   module _ {next : ℕ → Line} where
-    pub count_then : {v e : ℕ} → r ≡ IsCount v e → {w : Vals (next v)} → Stands (next v) w s e → Stands (field key (from lo hi) next) (v, w) s at
+    pub count_then : {w : Vals (next v)} → Stands (next v) w s e → Stands (field key (from lo hi) next) (v, w) s at
     unfolding line
-    count_then q a = record { read = λ l. ((a.read l).0, rw (← m.there.same l, number_of m.number m.is q, (a.read l).1)) }
+    count_then a = record { read = λ l. ((a.read l).0, rw (← m.there.same l, number_of m.number m.is, (a.read l).1)) }
 
-    pub count_but : {v e : ℕ} → r ≡ IsCount v e → Fails (next v) s e → Fails (field key (from lo hi) next) s at
+    pub count_but : Fails (next v) s e → Fails (field key (from lo hi) next) s at
     unfolding line
-    count_but q a = record { unread = λ l. ((a.unread l).0, rw (← m.there.same l, number_of m.number m.is q, (a.unread l).1)) }
+    count_but a = record { unread = λ l. ((a.unread l).0, rw (← m.there.same l, number_of m.number m.is, (a.unread l).1)) }
 
-    fails : {f : Fault} → m.number ≡ NotNumber f → Fails (field key (from lo hi) next) s at
-    unfolding line
-    fails {f} e = record { unread = λ l. (f, rw (← m.there.same l, e)) }
-
-    pub count_not : r ≡ NotCount → Fails (field key (from lo hi) next) s at
-    count_not q = fails (fault_of m.number m.is q).1
-
-module _ {s : List ℕ} {at : ℕ} {r : LineEnd} (m : FeedAt s at r) where
-  pub feed_stands : {e : ℕ} → r ≡ Fed e → Stands end tt s at
+module _ {lo hi : ℕ} {key s : List ℕ} {at : ℕ} (m : CountAt lo hi key s at None) {next : ℕ → Line} where
+  fails : {f : Fault} → m.number ≡ Err f → Fails (field key (from lo hi) next) s at
   unfolding line
-  feed_stands {e} q = record { read = λ l. (drop e s, rw (← m.same l, q)) }
+  fails {f} e = record { unread = λ l. (f, rw (← m.there.same l, e)) }
 
-  pub feed_fails : {f : Fault} → r ≡ Unfed f → Fails end s at
-  unfolding line
-  feed_fails {f} q = record { unread = λ l. (f, rw (← m.same l, q)) }
+  pub count_not : Fails (field key (from lo hi) next) s at
+  count_not = fails (fault_of m.number m.is).1
+
+pub feed_stands : {s : List ℕ} {at e : ℕ} → FeedAt s at (Ok e) → Stands end tt s at
+unfolding line
+feed_stands {s} {at} {e} m = record { read = λ l. (drop e s, rw (← m.same l)) }
+
+pub feed_fails : {s : List ℕ} {at : ℕ} {f : Fault} → FeedAt s at (Err f) → Fails end s at
+unfolding line
+feed_fails {f = f} m = record { unread = λ l. (f, rw (← m.same l)) }
 
 -- ---- what is said
 
@@ -150,32 +126,6 @@ module _ {s : List ℕ} where
   pub refusal_unsaid : {r : ℕ} {l m : List ℕ} → Fails refusal_line s 0 → Put 124 l 0 (of_stop (line stopped_line 1 s)) m r → Put 124 l 0 (explained s) m r
   unfolding explained
   refusal_unsaid a p = rw (a.unread 1).1 p
-
--- what was found wrong
-module _ (s : List ℕ) {r : Wrong} where
-  pub refusal_found : RefusalOf s r → {n l : ℕ} → r ≡ IsWrong n l → RefusalIs s n l
-  refusal_found a q = rw q at a
-
-  pub refusal_low : RefusalOf s r → {n l : ℕ} → r ≡ IsWrong n l → 1 ≤ n
-  refusal_low a q = (refusal_found a q).low
-
-  pub refusal_high : RefusalOf s r → {n l : ℕ} → r ≡ IsWrong n l → n ≤ 20
-  refusal_high a q = (refusal_found a q).high
-
-  pub refusal_none : RefusalOf s r → r ≡ Nothing → Fails refusal_line s 0
-  refusal_none a q = rw q at a
-
-  pub stop_found : StopOf s r → {n k : ℕ} → r ≡ IsWrong n k → StopIs s n k
-  stop_found a q = rw q at a
-
-  pub stop_low : StopOf s r → {n k : ℕ} → r ≡ IsWrong n k → 1 ≤ n
-  stop_low a q = (stop_found a q).low
-
-  pub stop_high : StopOf s r → {n k : ℕ} → r ≡ IsWrong n k → n ≤ 20
-  stop_high a q = (stop_found a q).high
-
-  pub stop_none : StopOf s r → r ≡ Nothing → Fails stopped_line s 0
-  stop_none a q = rw q at a
 
 pub stop_is : {s : List ℕ} {u n k : ℕ} → Stands stopped_line (k, (u, (n, tt))) s 0 → 1 ≤ n → n ≤ 20 → StopIs s n k
 stop_is {u = u} a h g = record { used = u; stands = a; low = h; high = g }

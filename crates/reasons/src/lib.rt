@@ -6,97 +6,60 @@ ghost use Rattle.std.specs.Prelude.{◌≡◌, ◌++◌, ◌∷◌, [], ◌≤�
 ghost use Rattle.closing.specs.Reasons.{reason, place, reason_line, stop_line, stopped_line, of_stop, explained, written_line};
 ghost use Rattle.text.specs.Line.{line};
 ghost use Rattle.put.specs.Put.{Put};
-ghost use Rattle.reasons.specs.Answer.{within_of, CountIn, CountAt, RefusalOf, StopOf};
+ghost use Rattle.reasons.specs.Answer.{CountIn, CountAt, RefusalOf, StopOf};
 
-use numbers::Numeral;
 use put::put_bytes;
-use scan::{Ended, Found};
-
-// A number and the place after it, or none.
-#[derive(Clone, Copy)]
-enum Count {
-    Is(usize, usize),
-    Not,
-}
-
-// What was found wrong: a number that has words, with its line or with the steps completed.
-#[derive(Clone, Copy)]
-enum Wrong {
-    Is(usize, usize),
-    Nothing,
-}
 
 // ---- reading
 
-fn within(v: u64, e: usize, lo: u64, hi: u64) -> Count
-    ensures { result ≡ within_of lo hi v e }
-{
-    if v < lo {
-        return Count::Not;
-    }
-    if hi < v {
-        return Count::Not;
-    }
-    Count::Is(v as usize, e)
-}
-
-// The number from lo to hi at a place.
-fn count_in(s: &[u8], at: usize, lo: u64, hi: u64) -> Count
+// The number from lo to hi at a place, and the place after it.
+fn count_in(s: &[u8], at: usize, lo: u64, hi: u64) -> Option<(usize, usize)>
     requires { (at ≤ length s.now) × (hi < 4294967296) }
     ensures { CountIn lo hi s.now at result }
 {
-    match numbers::value_number(s, at) {
-        Numeral::Is(v, e) => within(v, e, lo, hi),
-        Numeral::Bad => Count::Not,
-        Numeral::Over => Count::Not,
+    let Ok((v, e)) = numbers::value_number(s, at) else {
+        return None;
+    };
+    if v < lo || hi < v {
+        return None;
     }
+    Some((v as usize, e))
 }
 
 // That behind a key.
-fn count_at(s: &[u8], at: usize, key: &[u8], lo: u64, hi: u64) -> Count
+fn count_at(s: &[u8], at: usize, key: &[u8], lo: u64, hi: u64) -> Option<(usize, usize)>
     requires { (at ≤ length s.now) × (hi < 4294967296) }
     ensures { CountAt lo hi key.now s.now at result }
 {
-    match scan::after(s, at, key) {
-        Found::At(b) => count_in(s, b, lo, hi),
-        Found::Differs => Count::Not,
-        Found::Broken => Count::Not,
-    }
+    let Ok(b) = scan::after(s, at, key) else {
+        return None;
+    };
+    count_in(s, b, lo, hi)
 }
 
 // `refused=N line=L`: the number and the line.
-fn refusal(s: &[u8]) -> Wrong
+fn refusal(s: &[u8]) -> Option<(usize, usize)>
     ensures { RefusalOf s.now result }
 {
-    let Count::Is(n, a) = count_at(s, 0, b"refused=", 1, 20) else {
-        return Wrong::Nothing;
+    let (n, a) = count_at(s, 0, b"refused=", 1, 20)?;
+    let (l, b) = count_at(s, a, b" line=", 0, 999999)?;
+    let Ok(_) = scan::feed(s, b) else {
+        return None;
     };
-    let Count::Is(l, b) = count_at(s, a, b" line=", 0, 999999) else {
-        return Wrong::Nothing;
-    };
-    let Ended::Is(_) = scan::feed(s, b) else {
-        return Wrong::Nothing;
-    };
-    Wrong::Is(n, l)
+    Some((n, l))
 }
 
 // `steps=S used=U stop=N`: the number and the steps.
-fn stop(s: &[u8]) -> Wrong
+fn stop(s: &[u8]) -> Option<(usize, usize)>
     ensures { StopOf s.now result }
 {
-    let Count::Is(k, a) = count_at(s, 0, b"steps=", 0, 999999) else {
-        return Wrong::Nothing;
+    let (k, a) = count_at(s, 0, b"steps=", 0, 999999)?;
+    let (_, b) = count_at(s, a, b" used=", 0, 999999)?;
+    let (n, d) = count_at(s, b, b" stop=", 1, 20)?;
+    let Ok(_) = scan::feed(s, d) else {
+        return None;
     };
-    let Count::Is(_, b) = count_at(s, a, b" used=", 0, 999999) else {
-        return Wrong::Nothing;
-    };
-    let Count::Is(n, d) = count_at(s, b, b" stop=", 1, 20) else {
-        return Wrong::Nothing;
-    };
-    let Ended::Is(_) = scan::feed(s, d) else {
-        return Wrong::Nothing;
-    };
-    Wrong::Is(n, k)
+    Some((n, k))
 }
 
 // ---- writing
@@ -255,8 +218,8 @@ fn explain_stop(printed: &[u8], out: &mut [u8]) -> usize
     ensures { Put 124 out.old 0 (of_stop (line stopped_line 1 printed.now)) out.new result }
 {
     match stop(printed) {
-        Wrong::Is(n, steps) => put_stop(out, n, steps),
-        Wrong::Nothing => 0,
+        Some((n, steps)) => put_stop(out, n, steps),
+        None => 0,
     }
 }
 
@@ -265,8 +228,8 @@ pub fn explain(printed: &[u8], out: &mut [u8]) -> usize
     ensures { Put 124 out.old 0 (explained printed.now) out.new result }
 {
     match refusal(printed) {
-        Wrong::Is(n, line) => put_refusal(out, n, line),
-        Wrong::Nothing => explain_stop(printed, out),
+        Some((n, line)) => put_refusal(out, n, line),
+        None => explain_stop(printed, out),
     }
 }
 

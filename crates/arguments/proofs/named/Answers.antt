@@ -1,13 +1,14 @@
-use Rattle.std.proofs.Common.{rules, arith}
-use Rattle.text.specs.Value.{as_var}
-use Rattle.arguments.specs.OperandLaws.{var_bad, by_number}
+use Rattle.std.proofs.Common.{◌≡◌, Some, None, Err, sym, ◌∙◌, arith}
+use Rattle.text.specs.declared.Fault.TheVariants.{Misspelt}
+use Rattle.arguments.specs.OperandLaws.{var_bad}
 use Rattle.operands.specs.OperandLaws.{judged_named}
 use Rattle.arguments.proofs.named.Goals as goal
 
--- src/lib.rt:75:9
-pub returns-in_default : goal.returns-in_default
-returns-in_default c = search (rules, var_bad)
+pub returns-in_err-x : goal.returns-in_err-x
+returns-in_err-x c =
+    let e : c.number.result ≡ None = grind arith in
+    let q : c.from_residual.result ≡ Err Misspelt = grind arith in
+    rw q (var_bad _ 0 0 c.number.ensures e)
 
--- src/lib.rt:71:1
 pub returns : goal.returns
-returns c = by_number _ {kind = as_var} (judged_named (omega arith) c.named_operand.ensures) c.number.ensures c.in-Good.is
+returns c = let e : c.number.result ≡ Some c.in_ok-x.x = grind arith in (judged_named (omega arith) c.named_operand.ensures).is _ (sym e ∙ c.number.ensures)

@@ -1,16 +1,12 @@
 -- The number behind a key, by what stands at the place.
-use Rattle.std.proofs.Common.{rules}
-use Rattle.reasons.specs.ReasonLaws.{key_within, count_found, count_differs, count_broken}
+use Rattle.reasons.specs.ReasonLaws.{key_within, count_found, count_unfound}
 use Rattle.reasons.proofs.count_at.Goals as goal
 
+pub returns-in_default : goal.returns-in_default
+returns-in_default c = count_unfound _ _ c.in_default.ensures
+
 pub count_in-requires : goal.count_in-requires
-count_in-requires c = search (rules, key_within)
+count_in-requires c = (key_within c.in-Ok.ensures, c.requires.1)
 
-pub returns-in-At : goal.returns-in-At
-returns-in-At c = search (rules, count_found)
-
-pub returns-in-Differs : goal.returns-in-Differs
-returns-in-Differs c = search (rules, count_differs)
-
-pub returns-in-Broken : goal.returns-in-Broken
-returns-in-Broken c = search (rules, count_broken)
+pub returns : goal.returns
+returns c = count_found c.in-Ok.ensures c.count_in.ensures
