@@ -1,7 +1,6 @@
 -- What bytes say as an operand, from what their digits say.
 use Rattle.std.specs.Prelude.{ℕ, suc, ◌-◌, ◌≤◌, ◌<◌, ◌≡◌, refl, List, [], ◌∷◌, length, take, drop, get_or}
-use Rattle.std.proofs.Common.{sym, ◌∙◌, arith, take_all, ne_eqb}
-use Rattle.std.proofs.Math.Option.{Option}
+use Rattle.std.proofs.Common.{arith, take_all, ne_eqb}
 use Rattle.table.specs.declared.Operand.{Operand}
 use Rattle.text.specs.declared.Fault.TheVariants.{Misspelt}
 use Rattle.text.specs.Value.{numeral, as_var, as_const, as_negative, said_operand, unsaid}

@@ -2,7 +2,7 @@
 use Rattle.std.specs.Prelude.{ℕ, zero, suc, ◌+◌, ◌≤◌, ◌<◌, ◌≡◌, refl, List, [], ◌∷◌, ◌++◌, length, get_or, drop, Option, Some, None, Ok, Err}
 use Rattle.std.proofs.Common.{arith}
 use Rattle.text.specs.declared.Fault.{Fault}
-use Rattle.text.specs.declared.Fault.TheVariants.{Form, Misspelt, Ended, Range}
+use Rattle.text.specs.declared.Fault.TheVariants.{Range}
 use Rattle.text.specs.Number.{bytes, digits}
 use Rattle.text.specs.Value.{from}
 use Rattle.text.proofs.ValueLaws.{no}
@@ -13,7 +13,7 @@ use Rattle.numbers.specs.Numerals.{NumeralAt}
 use Rattle.numbers.specs.ValueLaws.{is_low, is_high, is_good, number_wide, number_refused, number_found, number_unfound}
 use Rattle.put.specs.Put.{Put, PutField}
 use Rattle.put.specs.PutLaws.{put_after, put_more, field_then}
-use Rattle.reasons.specs.Answer.{count_of, CountIn, CountAt, Stands, Fails, RefusalIs, StopIs, RefusalOf, StopOf}
+use Rattle.reasons.specs.Answer.{count_of, CountIn, CountAt, Stands, Fails, RefusalIs, StopIs}
 
 -- ---- a number at a place, and behind a key
 

@@ -1,5 +1,4 @@
 -- The number at a place, by what the value there spells.
-use Rattle.std.proofs.Common.{arith}
 use Rattle.reasons.specs.ReasonLaws.{count_low, count_high, count_good, count_unread}
 use Rattle.reasons.proofs.count_in.Goals as goal
 use Rattle.reasons.proofs.count_in.Goals.{then-v-lo-via-then-v-lo, then-v-lo-via-else-v-lo+then-hi-v}

@@ -1,5 +1,5 @@
 -- The line `refused=N line=L`, number by number; where one is missing, no such line stands there.
-use Rattle.reasons.specs.ReasonLaws.{count_within, count_least, count_most, count_not, count_but, count_then, feed_fails, feed_stands}
+use Rattle.reasons.specs.ReasonLaws.{count_least, count_most, count_not, count_but, count_then, feed_fails, feed_stands}
 use Rattle.reasons.proofs.refusal.Goals as goal
 
 pub returns-in_err-n : goal.returns-in_err-n

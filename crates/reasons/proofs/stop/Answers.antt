@@ -1,5 +1,5 @@
 -- The line `steps=S used=U stop=N`, number by number; where one is missing, no such line stands there.
-use Rattle.reasons.specs.ReasonLaws.{count_within, count_least, count_most, count_not, count_but, count_then, feed_fails, feed_stands, stop_is}
+use Rattle.reasons.specs.ReasonLaws.{count_least, count_most, count_not, count_but, count_then, feed_fails, feed_stands, stop_is}
 use Rattle.reasons.proofs.stop.Goals as goal
 
 pub returns-in_err-k : goal.returns-in_err-k
