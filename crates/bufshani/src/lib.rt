@@ -13,7 +13,7 @@ ghost use Rattle.exploring.specs.Explore.{explore};
 ghost use Rattle.put.specs.Put.{Put};
 ghost use Rattle.text.specs.Structure.{table_fault};
 ghost use Rattle.faults.specs.FaultLaws.{judged};
-ghost use Rattle.bufshani.specs.Check.{number_of};
+ghost use Rattle.faults.specs.Checked.{number_of};
 
 use closing::Closing;
 use exploring::Exploring;

@@ -5,10 +5,11 @@
 ghost use Rattle.std.specs.Prelude.{◌≡◌};
 ghost use Rattle.text.specs.declared.Fault.TheVariants.{Unused};
 ghost use Rattle.text.specs.Value.{unless};
-ghost use Rattle.text.specs.Writer.{tidy};
+ghost use Rattle.text.specs.Writer.{tidy, fault};
 ghost use Rattle.text.specs.Structure.{table_fault};
 ghost use Rattle.checks.specs.Judging.{judged};
 ghost use Rattle.unused.specs.Unused.{Ranged};
+ghost use Rattle.faults.specs.Checked.{number_of};
 
 use table::Table;
 use text::Fault;
@@ -26,7 +27,8 @@ fn unused(t: Table) -> Result<(), Fault>
 
 // A table's first fault, faulty or not.
 pub fn fault(t: Table) -> Result<(), Fault>
-    ensures { result ≡ judged (table_fault t) }
+    ensures found { result ≡ judged (table_fault t) }
+    ensures number { number_of result ≡ fault t }
 {
     line_faults::lines(t)?;
     if let Err(late) = late::find(t) {

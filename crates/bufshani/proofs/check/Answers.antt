@@ -1,5 +1,4 @@
-use Rattle.bufshani.specs.Check.{check_number}
 use Rattle.bufshani.proofs.check.Goals as goal
 
 pub returns-clause-number : goal.returns-clause-number
-returns-clause-number c = check_number c.args.t c.fault.ensures
+returns-clause-number c = c.fault.ensures.number
