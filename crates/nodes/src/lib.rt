@@ -49,7 +49,7 @@ fn start_node(s: &[u8], at: usize, c: Scope) -> Result<(Node, usize), Fault>
     requires { (at ≤ length s.now) × Fits c }
     ensures { BodyAt (scope_in c) start s.now at result }
 {
-    let (to, e) = targets_end(s, at, 116, 111, !c.closed, c.nodes)?;
+    let (to, e) = targets_end(s, at, b't', b'o', !c.closed, c.nodes)?;
     Ok((Node::Start { to }, e))
 }
 
@@ -59,11 +59,11 @@ fn set_operands(s: &[u8], at: usize, c: Scope, var: u8, op: Op) -> Result<(Node,
     requires { (at ≤ length s.now) × Fits c }
     ensures { LineAt (set_line (scope_in c)) (set_node (scope_in c) var op) s.now at result }
 {
-    let a_field = operands::operand_field(s, at, 97, c.vars);
+    let a_field = operands::operand_field(s, at, b'a', c.vars);
     let (_, p) = a_field?;
-    let b_field = operands::operand_field(s, p, 98, c.vars);
+    let b_field = operands::operand_field(s, p, b'b', c.vars);
     let (_, q) = b_field?;
-    let (to, e) = targets_end(s, q, 116, 111, !c.closed, c.nodes)?;
+    let (to, e) = targets_end(s, q, b't', b'o', !c.closed, c.nodes)?;
     let (a, _) = a_field.unwrap();
     let (b, _) = b_field.unwrap();
     Ok((Node::Set { var, op, a, b, to }, e))
@@ -73,7 +73,17 @@ fn set_node(s: &[u8], at: usize, c: Scope) -> Result<(Node, usize), Fault>
     requires { (at ≤ length s.now) × Fits c }
     ensures { BodyAt (scope_in c) set_kind s.now at result }
 {
-    let (var, a) = numbers::number_word(s, at, 32, 118, 97, 114, 0, c.vars, Fault::Reference)?;
+    let (var, a) = numbers::number_word(
+        s,
+        at,
+        b' ',
+        b'v',
+        b'a',
+        b'r',
+        0,
+        c.vars,
+        Fault::Reference,
+    )?;
     let (op, b) = words::operation_field(s, a, false)?;
     set_operands(s, b, c, var, op)
 }
@@ -83,12 +93,14 @@ fn test_operands(s: &[u8], at: usize, c: Scope, op: Op) -> Result<(Node, usize),
     requires { (at ≤ length s.now) × Fits c }
     ensures { LineAt (test_line (scope_in c)) (test_node (scope_in c) op) s.now at result }
 {
-    let a_field = operands::operand_field(s, at, 97, c.vars);
+    let a_field = operands::operand_field(s, at, b'a', c.vars);
     let (_, p) = a_field?;
-    let b_field = operands::operand_field(s, p, 98, c.vars);
+    let b_field = operands::operand_field(s, p, b'b', c.vars);
     let (_, q) = b_field?;
-    let (yes, t) = lists::ascending_word(s, q, 32, 121, 101, 115, b"=", !c.closed, 1, c.nodes)?;
-    let (no, e) = targets_end(s, t, 110, 111, !c.closed, c.nodes)?;
+    let (yes, t) = lists::ascending_word(
+        s, q, b' ', b'y', b'e', b's', b"=", !c.closed, 1, c.nodes,
+    )?;
+    let (no, e) = targets_end(s, t, b'n', b'o', !c.closed, c.nodes)?;
     let (a, _) = a_field.unwrap();
     let (b, _) = b_field.unwrap();
     Ok((Node::Test { op, a, b, yes, no }, e))
@@ -106,8 +118,18 @@ fn read_node(s: &[u8], at: usize, c: Scope) -> Result<(Node, usize), Fault>
     requires { (at ≤ length s.now) × Fits c }
     ensures { BodyAt (scope_in c) read s.now at result }
 {
-    let (var, a) = numbers::number_word(s, at, 32, 118, 97, 114, 0, c.vars, Fault::Reference)?;
-    let (to, e) = targets_end(s, a, 116, 111, !c.closed, c.nodes)?;
+    let (var, a) = numbers::number_word(
+        s,
+        at,
+        b' ',
+        b'v',
+        b'a',
+        b'r',
+        0,
+        c.vars,
+        Fault::Reference,
+    )?;
+    let (to, e) = targets_end(s, a, b't', b'o', !c.closed, c.nodes)?;
     Ok((Node::Read { var, to }, e))
 }
 
@@ -117,7 +139,7 @@ fn call_node(s: &[u8], at: usize, c: Scope) -> Result<(Node, usize), Fault>
 {
     let (callee, a) = numbers::number_field(s, at, b" proc=", 0, c.procs, Fault::Reference)?;
     let (args, b) = lists::arguments_field(s, a, c.closed, c.vars)?;
-    let (to, e) = targets_end(s, b, 116, 111, !c.closed, c.nodes)?;
+    let (to, e) = targets_end(s, b, b't', b'o', !c.closed, c.nodes)?;
     Ok((Node::Call { callee, args, to }, e))
 }
 
@@ -126,7 +148,7 @@ fn wait_node(s: &[u8], at: usize, c: Scope) -> Result<(Node, usize), Fault>
     ensures { BodyAt (scope_in c) wait s.now at result }
 {
     let (sem, a) = numbers::number_field(s, at, b" sem=", 0, c.sems, Fault::Reference)?;
-    let (to, e) = targets_end(s, a, 116, 111, !c.closed, c.nodes)?;
+    let (to, e) = targets_end(s, a, b't', b'o', !c.closed, c.nodes)?;
     Ok((Node::Wait { sem, to }, e))
 }
 
@@ -135,7 +157,7 @@ fn signal_node(s: &[u8], at: usize, c: Scope) -> Result<(Node, usize), Fault>
     ensures { BodyAt (scope_in c) signal s.now at result }
 {
     let (sem, a) = numbers::number_field(s, at, b" sem=", 0, c.sems, Fault::Reference)?;
-    let (to, e) = targets_end(s, a, 116, 111, !c.closed, c.nodes)?;
+    let (to, e) = targets_end(s, a, b't', b'o', !c.closed, c.nodes)?;
     Ok((Node::Signal { sem, to }, e))
 }
 
@@ -145,7 +167,7 @@ fn send_node(s: &[u8], at: usize, c: Scope) -> Result<(Node, usize), Fault>
 {
     let (queue, a) = numbers::number_field(s, at, b" queue=", 0, c.queues, Fault::Reference)?;
     let (var, b) = operands::variable_field(s, a, c.closed, c.vars)?;
-    let (to, e) = targets_end(s, b, 116, 111, !c.closed, c.nodes)?;
+    let (to, e) = targets_end(s, b, b't', b'o', !c.closed, c.nodes)?;
     Ok((Node::Send { queue, var, to }, e))
 }
 
@@ -155,7 +177,7 @@ fn recv_node(s: &[u8], at: usize, c: Scope) -> Result<(Node, usize), Fault>
 {
     let (queue, a) = numbers::number_field(s, at, b" queue=", 0, c.queues, Fault::Reference)?;
     let (var, b) = operands::variable_field(s, a, c.closed, c.vars)?;
-    let (to, e) = targets_end(s, b, 116, 111, !c.closed, c.nodes)?;
+    let (to, e) = targets_end(s, b, b't', b'o', !c.closed, c.nodes)?;
     Ok((Node::Recv { queue, var, to }, e))
 }
 
@@ -164,7 +186,7 @@ fn assert_node(s: &[u8], at: usize, c: Scope) -> Result<(Node, usize), Fault>
     ensures { BodyAt (scope_in c) assert s.now at result }
 {
     let (var, a) = operands::variable_field(s, at, c.closed, c.vars)?;
-    let (to, e) = targets_end(s, a, 116, 111, !c.closed, c.nodes)?;
+    let (to, e) = targets_end(s, a, b't', b'o', !c.closed, c.nodes)?;
     Ok((Node::Assert { var, to }, e))
 }
 
@@ -173,7 +195,7 @@ fn out_node(s: &[u8], at: usize, c: Scope) -> Result<(Node, usize), Fault>
     ensures { BodyAt (scope_in c) out s.now at result }
 {
     let (var, a) = operands::variable_field(s, at, c.closed, c.vars)?;
-    let (to, e) = targets_end(s, a, 116, 111, !c.closed, c.nodes)?;
+    let (to, e) = targets_end(s, a, b't', b'o', !c.closed, c.nodes)?;
     Ok((Node::Out { var, to }, e))
 }
 
@@ -212,7 +234,17 @@ pub fn node_line(s: &[u8], at: usize, line: usize, c: Scope, lo: u64, below: u64
     ensures { NodeAt (scope_in c) lo below s.now at line result }
 {
     // The node goes into the line as it is read, with no copy on the way: so the faults are not handed on by `?`.
-    let (j, p) = match numbers::number_word(s, at, 110, 111, 100, 101, lo, below, Fault::Index) {
+    let (j, p) = match numbers::number_word(
+        s,
+        at,
+        b'n',
+        b'o',
+        b'd',
+        b'e',
+        lo,
+        below,
+        Fault::Index,
+    ) {
         Ok(number) => number,
         Err(f) => return Line::Refused(f, line),
     };

@@ -182,7 +182,7 @@ fn put_words(out: &mut [u8], at: usize, n: usize) -> usize
     ensures { Put 97 out.old at (reason n ++ (10 ∷ [])) out.new result }
 {
     let a = put_reason(out, at, n);
-    put::put_byte(out, a, 10)
+    put::put_byte(out, a, b'\n')
 }
 
 // `line L: ` or `step K: `.
@@ -238,7 +238,7 @@ fn put_written(out: &mut [u8], n: usize) -> usize
     ensures { Put 29 out.old 0 (written_line n) out.new result }
 {
     let a = put_fields::put_size(out, 0, b"written=", n);
-    put::put_byte(out, a, 10)
+    put::put_byte(out, a, b'\n')
 }
 
 fn say_written(rt: HostRuntime, n: usize) {

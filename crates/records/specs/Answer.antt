@@ -12,7 +12,7 @@ use Rattle.fields.specs.Answer.{Answer, LineAt}
 
 -- ---- the lines before the procedures
 
--- whether sends and receives can be traps, and the form
+-- the trap's number, and whether the form is closed
 abbrev pub form_of : Vals head_line → ℕ × Bool
 form_of w = (w.0, w.1.0)
 

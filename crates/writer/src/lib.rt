@@ -58,7 +58,7 @@ pub fn put_front(out: &mut [u8], f: Front) -> usize
     })
 }
 
-// A table's text, from the buffer's start. The procedures are gone through here, so that the compiler copies one at a time.
+// A table's text, from the buffer's start. Each procedure is handed on by itself, so that one is copied at a time.
 pub fn put_table(out: &mut [u8], t: Table) -> usize
     requires { Counts t }
     ensures { Put 65536 out.old 0 (text t) out.new result }
