@@ -114,15 +114,9 @@ pub lead_start : (v : ℕ) (s : List ℕ) (at : ℕ) → at ≤ length s → v �
 lead_start v s at h k = record { within = h; small = k; same = refl }
 
 module _ {first : ℕ} {s : List ℕ} {from v i : ℕ} (m : Leading first s from v i) where
-  pub lead_small : v ≤ 4294967296
-  lead_small = m.small
-
   pub lead_over : length s ≤ i → record { value = v; end = length s } ≡ lead_from first s from
   unfolding leading_digits
   lead_over h = let e : i ≡ length s = omega (arith, m.within) in rw e at (lead_none v s i m.small (rw (drop_of_length-le s h)) ∙ m.same)
-
-  pub lead_on : {r : Lead} → r ≡ lead_from v s i → r ≡ lead_from first s from
-  lead_on e = e ∙ m.same
 
   module _ (h : i < length s) {d : ℕ} (e : d ≡ digit_of (slice_index s i)) where
     pub lead_stop : 9 < d → record { value = v; end = i } ≡ lead_from first s from

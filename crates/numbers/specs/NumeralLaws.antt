@@ -4,11 +4,10 @@ use Rattle.std.proofs.Math.Path.{refl, sym, ap}
 use Rattle.std.specs.Option.{ok_or}
 use Rattle.std.proofs.lemmas.Option.{same_Some, some_pair_parts}
 use Rattle.std.proofs.Math.Logic.{inl, inr}
-use Rattle.std.proofs.Common.{◌∙◌, length-drop, drop-cons, get_or-take, get_or-drop, length-take-le, add-zero, add-one, Fits}
+use Rattle.std.proofs.Common.{◌∙◌, length-drop, drop-cons, get_or-take, get_or-drop, length-take-le, add-zero, add-one}
 use Rattle.std.proofs.Math.Bool.{true}
 use native.Mathlib.Omega.{arith}
 use Rattle.std.proofs.Math.ListN.{get_or}
-use Rattle.std.specs.Int.{w64}
 use borrow.Author.Tests.{le-leb, lt-leb, leb-true, eq-eqb, ne_eqb, eqb-true}
 use Rattle.text.specs.declared.Fault.{Fault}
 use Rattle.text.specs.declared.Fault.TheVariants.{Misspelt}
@@ -186,9 +185,6 @@ module _ (u : List ℕ) (at : ℕ) {v to : ℕ} (e : Some (v, to) ≡ short_of u
 
   pub short_within : to < length u
   short_within = short_is.within
-
-  pub short_after : length u < 18446744073709551616 → Fits w64 (to + 1)
-  short_after h = record { fits = omega (arith, short_is.within) }
 
   pub short_less : at < length u → length u - (to + 1) < length u - at
   short_less h = omega (arith, short_is.from)

@@ -1,13 +1,11 @@
 -- Laws of the readers of operands and variables: each says what a step of the code shows.
-use Rattle.std.specs.Prelude.{ℕ, zero, suc, ◌+◌, ◌-◌, ◌≤◌, ◌<◌, ◌≡◌, Some, None, Ok, Err, List, [], ◌∷◌, Bool, true, false, ℤ, pos, negsuc, ◌-ℤ◌, ltb, leb, eqb, length, drop, get_or}
+use Rattle.std.specs.Prelude.{ℕ, zero, suc, ◌+◌, ◌-◌, ◌≤◌, ◌<◌, ◌≡◌, Some, None, Ok, Err, List, [], ◌∷◌, Bool, true, false, ℤ, pos, negsuc, ltb, leb, eqb, length, drop, get_or}
 use Rattle.std.proofs.Math.Path.{refl}
 use Rattle.std.proofs.Math.Logic.{inl, inr}
-use Rattle.std.proofs.Common.{sym, ◌∙◌, ap, arith, zero-add, add-zero, add-one, drop_of_length-le, length-drop, drop-cons, drop-drop, to_z, of_z, SFits}
+use Rattle.std.proofs.Common.{sym, ◌∙◌, ap, arith, add-zero, add-one, drop_of_length-le, length-drop, drop-cons, drop-drop}
 use Rattle.std.proofs.Math.Option.{Option, none, some}
 use Rattle.std.proofs.Math.ListN.{take}
-use borrow.Author.Tests.{lt-ltb, le-ltb, le-leb, lt-leb, ne_eqb, eqb-true, eqb-false}
-use Rattle.std.specs.Int.{w32}
-use Rattle.std.proofs.lemmas.Int.{to_z_pos, to_z-of_z}
+use borrow.Author.Tests.{lt-ltb, le-ltb, lt-leb, ne_eqb, eqb-true, eqb-false}
 use Rattle.table.specs.Cases.{cases}
 use Rattle.table.specs.declared.Operand.{Operand}
 use Rattle.table.specs.declared.Operand.TheVariants.{Var, Const}
@@ -27,49 +25,16 @@ use Rattle.scan.specs.PlaceLaws.{count_more, value_ends, field_found, field_refu
 use Rattle.operands.specs.Answer.{OperandEnds, OperandWithin, operand_answer, OperandJudged, skip, operand_kind, Judged, value_as, OperandAs, OperandIn, OperandAt, VariableEnds, VariableSaid, VariableIn, VariableAt}
 use Rattle.numbers.specs.Answer.{mapped}
 
--- ---- signed numbers
-pub positive_is : (x : ℕ) → x ≤ 2147483647 → to_z w32 x ≡ pos x
-positive_is x h = to_z_pos w32 x (omega arith)
-
-minus_one : (x : ℕ) → negsuc 0 -ℤ pos x ≡ negsuc x
-minus_one zero = refl
-minus_one (suc x) = ap (λ (k : ℕ). negsuc (suc k)) (zero-add x)
-
-pub negative_fits : (x : ℕ) → 0 < x → x ≤ 2147483648 → SFits w32 (negsuc 0 -ℤ to_z w32 (x - 1))
-negative_fits x p h = rw (positive_is (x - 1) (omega arith), minus_one (x - 1)) (record { sfits = omega arith })
-
-pub negative_is : (x : ℕ) → 0 < x → x ≤ 2147483648 → to_z w32 (of_z w32 (negsuc 0 -ℤ to_z w32 (x - 1))) ≡ negsuc (x - 1)
-negative_is x p h = to_z-of_z w32 _ (negative_fits x p h) ∙ rw (positive_is (x - 1) (omega arith)) (minus_one (x - 1))
-
 -- ---- the answer for the number x behind `v`, behind `-` or alone
 module _ {n x : ℕ} (e : ℕ) where
-  pub named_good : x < n → Ok (Var x, e) ≡ operand_answer n (as_var (some x)) e
-  named_good l = rw (lt-ltb x n l)
-
-  pub named_high : n ≤ x → Err Reference ≡ operand_answer n (as_var (some x)) e
+  named_high : n ≤ x → Err Reference ≡ operand_answer n (as_var (some x)) e
   named_high l = rw (le-ltb x n l)
 
 module _ (n : ℕ) {x : ℕ} (e : ℕ) where
-  pub constant_good : {z : ℤ} → x ≤ 2147483647 → z ≡ pos x → Ok (Const (to_z w32 (of_z w32 z)), e) ≡ operand_answer n (as_const (some x)) e
-  constant_good l q = rw (q, positive_is x l, le-leb x 2147483647 l)
-
-  pub constant_high : 2147483647 < x → Err Range ≡ operand_answer n (as_const (some x)) e
+  constant_high : 2147483647 < x → Err Range ≡ operand_answer n (as_const (some x)) e
   constant_high l = rw (lt-leb x 2147483647 l)
 
-  pub negative_zero : x ≡ 0 → Err Misspelt ≡ operand_answer n (as_negative (some x)) e
-  negative_zero h = rw h
-
-  pub negative_good : {z : ℤ} → (x ≡ 0 → ⊥) → x ≤ 2147483648 → z ≡ negsuc (x - 1)
-      → Ok (Const (to_z w32 (of_z w32 z)), e) ≡ operand_answer n (as_negative (some x)) e
-  negative_good k l q =
-      let y : x ≡ suc (x - 1) = omega arith in
-      let f : SFits w32 (negsuc (x - 1)) = record { sfits = omega arith } in
-      rw (q, to_z-of_z w32 (negsuc (x - 1)) f) (less (x - 1) y (omega arith))
-    where
-      less : (k : ℕ) → x ≡ suc k → k ≤ 2147483647 → Ok (Const (negsuc k), e) ≡ operand_answer n (as_negative (some x)) e
-      less k y h = rw (y, le-leb k 2147483647 h)
-
-  pub negative_high : 2147483648 < x → Err Range ≡ operand_answer n (as_negative (some x)) e
+  negative_high : 2147483648 < x → Err Range ≡ operand_answer n (as_negative (some x)) e
   negative_high l = more (x - 1) (omega arith) (omega arith)
     where
       more : (k : ℕ) → x ≡ suc k → 2147483647 < k → Err Range ≡ operand_answer n (as_negative (some x)) e
@@ -245,20 +210,7 @@ module _ {s : List ℕ} {at : ℕ} {f : Fault} (m : NumeralAt s at (Err f)) wher
   pub named_refused : (n : ℕ) → OperandAs as_var n s at (Err f)
   named_refused n = as_refused m as_var n refl
 
--- where the digits begin
-pub from_within : (s : List ℕ) {at : ℕ} (b : ℕ) {from : ℕ} → at < length s → from ≡ at + skip b → from ≤ length s
-from_within s {at} b h k = cases (eqb b 118) (λ e. let z = rw e at k in omega arith) (λ e. cases (eqb b 45)
-    (λ f. let z = rw (e, f) at k in omega arith) (λ f. let z = rw (e, f) at k in omega arith))
-
-pub skip_named : (b at : ℕ) → b ≡ 118 → at + 1 ≡ at + skip b
-skip_named b at h = rw h
-
-pub skip_minus : (b at : ℕ) → b ≡ 45 → at + 1 ≡ at + skip b
-skip_minus b at h = rw h
-
-pub skip_none : (b at : ℕ) → (b ≡ 118 → ⊥) → (b ≡ 45 → ⊥) → at ≡ at + skip b
-skip_none b at h k = rw (ne_eqb b 118 h, ne_eqb b 45 k, add-zero at)
-
+-- no byte is left
 pub operand_none : (n : ℕ) {s : List ℕ} {at : ℕ} → length s ≤ at → OperandIn n s at (Err Ended)
 unfolding run
 operand_none n {s} h = record { same = λ l. rw (drop_of_length-le s h); within = tt }

@@ -11,20 +11,6 @@ ghost use Rattle.operands.specs.Answer.{operand_answer, skip, operand_kind, Oper
 use table::Operand;
 use text::Fault;
 
-fn negative(x: u64) -> i32
-    requires { (0 < x) × (x ≤ 2147483648) }
-    ensures { result ≡ negsuc (x - 1) }
-{
-    -1 - ((x - 1) as i32)
-}
-
-fn positive(x: u64) -> i32
-    requires { x ≤ 2147483647 }
-    ensures { result ≡ pos x }
-{
-    x as i32
-}
-
 // An operand that ends at e. A variable: the number x behind `v`.
 pub fn named_operand(x: u64, e: usize, vars: u64) -> Result<(Operand, usize), Fault>
     requires { vars ≤ 256 }
@@ -40,10 +26,9 @@ pub fn named_operand(x: u64, e: usize, vars: u64) -> Result<(Operand, usize), Fa
 pub fn constant_operand(x: u64, e: usize, vars: u64) -> Result<(Operand, usize), Fault>
     ensures { result ≡ operand_answer vars (as_const (some x)) e }
 {
-    if x <= 2147483647 {
-        Ok((Operand::Const(positive(x)), e))
-    } else {
-        Err(Fault::Range)
+    match i32::try_from(x) {
+        Ok(z) => Ok((Operand::Const(z), e)),
+        Err(_) => Err(Fault::Range),
     }
 }
 
@@ -55,7 +40,7 @@ pub fn negative_operand(x: u64, e: usize, vars: u64) -> Result<(Operand, usize),
         return Err(Fault::Misspelt);
     }
     if x <= 2147483648 {
-        Ok((Operand::Const(negative(x)), e))
+        Ok((Operand::Const(-(x as i64) as i32), e))
     } else {
         Err(Fault::Range)
     }
@@ -107,7 +92,7 @@ fn operand_at(s: &[u8], at: usize, vars: u64) -> Result<(Operand, usize), Fault>
     any_operand(b, x, e, vars)
 }
 
-// The place after an operand's key, whose name is one letter.
+// The place after an operand's key, whose name is one letter: tested without the loop of `scan::after`, for speed, where three bytes are left.
 fn after_name(s: &[u8], at: usize, name: u8) -> Result<usize, Fault>
     requires { at ≤ length s.now }
     ensures { AfterKey (32 ∷ name ∷ 61 ∷ []) s.now at result }

@@ -57,7 +57,7 @@ fn after_quad(s: &[u8], at: usize, a: u8, b: u8, c: u8, d: u8) -> Result<usize, 
     }
 }
 
-// A key of four bytes and the rest.
+// A key of four bytes, which the clause and its callers name one by one, and the rest.
 pub fn after_word(
     s: &[u8],
     at: usize,
