@@ -44,6 +44,7 @@ pub fn digit_run(t: &[u8]) -> Option<u64>
 }
 
 // The digits at a place, behind digits that say another number.
+// The place is part of the answer, so the loop is over places, here and in `digits_at`; an index from the first digit on would be added to it each time.
 fn further_digits(s: &[u8], from: usize, first: u64) -> Lead
     requires { (from ≤ length s.now) × (first ≤ 4294967296) }
     ensures { result ≡ lead_from first s.now from }

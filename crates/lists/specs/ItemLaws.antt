@@ -1,5 +1,5 @@
 -- Laws of a list's items: each says what a step of the code shows.
-use Rattle.std.specs.Prelude.{ℕ, suc, ◌+◌, ◌-◌, ◌^◌, ◌≤◌, ◌<◌, ◌≡◌, refl, Bool, true, false, ◌&&◌, List, [], ◌∷◌, ltb, leb, eqb, length, take, drop, Option, Some, None, Ok, Err, ok_or, cond}
+use Rattle.std.specs.Prelude.{ℕ, suc, ◌+◌, ◌-◌, ◌^◌, ◌≤◌, ◌<◌, ◌≡◌, refl, Bool, true, false, ◌&&◌, List, [], ◌∷◌, ltb, leb, eqb, length, take, drop, Option, Some, None, cond}
 use Rattle.std.proofs.Common.{sym, ◌∙◌, arith, length-drop, drop-drop, take_all, ltb-false}
 use Rattle.std.proofs.Math.Option.{none}
 use Rattle.std.specs.List.{position_or_len}
@@ -8,22 +8,12 @@ use Rattle.std.proofs.lemmas.Option.{same_Some}
 use borrow.Author.Tests.{lt-ltb, le-ltb}
 use Rattle.table.specs.Cases.{cases}
 use Rattle.table.specs.Mask.{pick}
-use Rattle.text.specs.declared.Fault.{Fault}
 use Rattle.text.specs.Number.{spelt, value}
 use Rattle.text.proofs.NumberLaws.{by_order}
 use Rattle.text.specs.Value.{numeral, split, each}
 use Rattle.digits.specs.Read.{number_of, capped}
 use Rattle.digits.specs.NumeralLaws.{spelt_good, numeral_bad}
 use Rattle.lists.specs.Items.{up_to, next_comma, CommaAt, more, bit_of, part, item_for, item_of}
-
--- ---- from what `ok_or` gives
-pub ok_some : {A : Type 0} (o : Option A) (f : Fault) {v : A} → Ok v ≡ ok_or o f → o ≡ Some v
-ok_some None f q = cc
-ok_some (Some v) f q = cc
-
-pub err_none : {A : Type 0} (o : Option A) (f : Fault) {g : Fault} → Err g ≡ ok_or o f → (o ≡ None) × (g ≡ f)
-err_none None f q = (refl, cc)
-err_none (Some v) f q = cc
 
 -- ---- up to the next comma
 up_short : (s : List ℕ) → up_to s ≤ length s

@@ -16,10 +16,10 @@ use Rattle.text.specs.Format.{elem, set_of}
 use Rattle.digits.specs.Read.{number_of}
 use Rattle.digits.specs.NumeralLaws.{spelt_bad, spelt_good}
 use Rattle.scan.specs.Place.{Answer, Within, AfterKey, ValueAt}
-use Rattle.scan.specs.PlaceLaws.{value_within, field_found, field_refused}
+use Rattle.scan.specs.PlaceLaws.{ok_some, err_none, value_within, field_found, field_refused}
 use Rattle.numbers.specs.Answer.{mapped}
 use Rattle.lists.specs.Items.{up_to, more, inside, bit_of}
-use Rattle.lists.specs.ItemLaws.{ok_some, err_none, split_first, bit_capped}
+use Rattle.lists.specs.ItemLaws.{split_first, bit_capped}
 use Rattle.lists.specs.Sets.{Ends, Judged, ValueIn, FieldAt, SetJudged, SetSaid, single_of}
 use Rattle.lists.specs.TotalLaws.{total, total_is, mask_none}
 use Rattle.lists.specs.SetLaws.{bit_inside}

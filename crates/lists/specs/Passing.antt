@@ -1,9 +1,11 @@
 -- What the readers of a call's variables answer.
-use Rattle.std.specs.Prelude.{ℕ, ◌+◌, min, Bool, List, ltb, eqb, Option as Maybe, Some, None}
+use Rattle.std.specs.Prelude.{ℕ, ◌+◌, min, Bool, List, ltb, eqb, Option as Maybe, Some, None, Result, Ok, Err}
 use Rattle.std.proofs.Math.Option.{Option, none, some}
 use Rattle.table.specs.Mask.{pick}
 use Rattle.table.specs.Table.{removed}
 use Rattle.table.specs.declared.Args.{Args}
+use Rattle.text.specs.declared.Fault.{Fault}
+use Rattle.text.specs.declared.Fault.TheVariants.{Misspelt}
 use Rattle.text.specs.Number.{bytes}
 use Rattle.text.specs.Value.{arguments, said_variable, said}
 use Rattle.text.specs.Format.{args_of}
@@ -13,21 +15,21 @@ use Rattle.lists.specs.Sets.{Judged, FieldAt}
 
 -- ---- one variable
 
--- the answer for what bytes say: a variable, or one that is not declared; none for what is misspelt
-abbrev pub argument_for : Bool → ℕ → Option (Option ℕ) → Maybe (Maybe ℕ)
-argument_for c n none = None
-argument_for c n (some none) = pick c (Some (Some removed)) None
-argument_for c n (some (some v)) = Some (pick (ltb v n) (Some v) None)
+-- the answer for what bytes say: a variable, None for one that is not declared, or the fault
+abbrev pub argument_for : Bool → ℕ → Option (Option ℕ) → Result (Maybe ℕ) Fault
+argument_for c n none = Err Misspelt
+argument_for c n (some none) = pick c (Ok (Some removed)) (Err Misspelt)
+argument_for c n (some (some v)) = Ok (pick (ltb v n) (Some v) None)
 
-unfoldable pub argument_of : Bool → ℕ → List ℕ → Maybe (Maybe ℕ)
+unfoldable pub argument_of : Bool → ℕ → List ℕ → Result (Maybe ℕ) Fault
 argument_of c n w = argument_for c n (said_variable w)
 
 -- the one from a place to the next comma, and where it ends
-abbrev pub ending : ℕ → Maybe (Maybe ℕ) → Maybe (Maybe ℕ × ℕ)
-ending to (Some v) = Some (v, to)
-ending to None = None
+abbrev pub ending : ℕ → Result (Maybe ℕ) Fault → Answer (Maybe ℕ)
+ending to (Ok v) = Ok (v, to)
+ending to (Err f) = Err f
 
-unfoldable pub argument_from : Bool → ℕ → List ℕ → ℕ → Maybe (Maybe ℕ × ℕ)
+unfoldable pub argument_from : Bool → ℕ → List ℕ → ℕ → Answer (Maybe ℕ)
 argument_from c n t from = ending (next_comma t from) (argument_of c n (part t from (next_comma t from)))
 
 -- ---- all of them

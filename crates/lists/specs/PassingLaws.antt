@@ -6,7 +6,6 @@ use Rattle.std.proofs.Math.Bool.{true, false}
 use Rattle.std.proofs.Math.Option.{Option, none, some}
 use Rattle.std.proofs.Math.ListN.{get_or-append, get_or-eq_default}
 use Rattle.std.proofs.Math.Seq.{get_or-append_seam}
-use Rattle.std.specs.Bool.{then_some}
 use borrow.Author.Tests.{lt-ltb, le-ltb, ne_eqb, eq-eqb}
 use Rattle.table.specs.Cases.{cases}
 use Rattle.table.specs.Mask.{pick}
@@ -23,39 +22,50 @@ use Rattle.digits.specs.NumeralLaws.{spelt_good, numeral_bad, numeral_good}
 use Rattle.numbers.specs.Answer.{mapped}
 use Rattle.scan.specs.Place.{Answer, answer_in}
 use Rattle.lists.specs.Items.{next_comma, CommaAt, more, part}
-use Rattle.lists.specs.ItemLaws.{ok_some, err_none, comma_split, comma_here}
+use Rattle.scan.specs.PlaceLaws.{ok_some, err_none}
+use Rattle.lists.specs.ItemLaws.{comma_split, comma_here}
 use Rattle.lists.specs.Passing.{argument_for, argument_of, ending, argument_from, pushed_of, with_of, PassedJudged, PassedSaid}
 
 -- ---- one variable
 module _ (c : Bool) (n : ℕ) (w : List ℕ) {x : Bool} (p : x ≡ same (bytes "-") w) where
-  pub argument_dash : {r : Maybe (Maybe ℕ)} → x ≡ true → r ≡ then_some c (Some 255) → r ≡ argument_of c n w
-  unfolding argument_of
-  argument_dash h q = rw (q, ← p, h) (cases c (λ e. rw e) (λ e. rw e))
+  module _ (h : x ≡ true) where
+    pub argument_removed : c ≡ true → Ok (Some 255) ≡ argument_of c n w
+    unfolding argument_of
+    argument_removed k = rw (← p, h, k)
+
+    pub argument_open : c ≡ false → Err Misspelt ≡ argument_of c n w
+    unfolding argument_of
+    argument_open k = rw (← p, h, k)
 
   module _ (h : x ≡ false) where
-    pub argument_bad : None ≡ number_of w → None ≡ argument_of c n w
+    pub argument_bad : {o : Maybe ℕ} {f : Fault} → o ≡ number_of w → Err f ≡ ok_or o Misspelt → Err f ≡ argument_of c n w
     unfolding argument_of
-    argument_bad q = rw (← p, h, numeral_bad w q refl)
+    argument_bad {o} d q =
+        let z = err_none o Misspelt q in
+        rw (z.1, ← p, h, numeral_bad w (sym z.0 ∙ d) refl)
 
-    module _ {v : ℕ} (q : Some v ≡ number_of w) (u : n ≤ 256) where
-      pub argument_is : v < n → Some (Some v) ≡ argument_of c n w
+    module _ {o : Maybe ℕ} {v : ℕ} (d : o ≡ number_of w) (k : Ok v ≡ ok_or o Misspelt) (u : n ≤ 256) where
+      number : Some v ≡ number_of w
+      number = sym (ok_some o Misspelt k) ∙ d
+
+      pub argument_is : v < n → Ok (Some v) ≡ argument_of c n w
       unfolding argument_of
       argument_is l =
-          let z : value w ≡ v = omega (arith, (spelt_good w q refl).1) in
-          rw (← p, h, numeral_good w q refl, z, lt-ltb v n l)
+          let z : value w ≡ v = omega (arith, (spelt_good w number refl).1) in
+          rw (← p, h, numeral_good w number refl, z, lt-ltb v n l)
 
-      pub argument_outside : n ≤ v → Some None ≡ argument_of c n w
+      pub argument_outside : n ≤ v → Ok None ≡ argument_of c n w
       unfolding argument_of
-      argument_outside l = rw (← p, h, numeral_good w q refl, le-ltb (value w) n (omega (arith, (spelt_good w q refl).1)))
+      argument_outside l = rw (← p, h, numeral_good w number refl, le-ltb (value w) n (omega (arith, (spelt_good w number refl).1)))
 
 module _ (c : Bool) (n : ℕ) {t : List ℕ} {from to : ℕ} (m : CommaAt t from to) where
-  pub argument_part : {v : Maybe ℕ} → Some v ≡ argument_of c n (part t from to) → Some (v, to) ≡ argument_from c n t from
+  pub argument_part : {v : Maybe ℕ} → Ok v ≡ argument_of c n (part t from to) → Ok (v, to) ≡ argument_from c n t from
   unfolding argument_from
   argument_part q = rw (← m.same, ← q)
 
-  pub argument_none : None ≡ argument_of c n (part t from to) → None ≡ argument_from c n t from
+  pub argument_fault : {f : Fault} → Err f ≡ argument_of c n (part t from to) → Err f ≡ argument_from c n t from
   unfolding argument_from
-  argument_none q = rw (← m.same, ← q)
+  argument_fault q = rw (← m.same, ← q)
 
 -- ---- what a variable says of those from a place on
 abbrev pub is_declared : ℕ → Option ℕ → Bool
@@ -81,11 +91,11 @@ abbrev pub spells : Bool → Option (List (Option ℕ)) → Bool
 spells c none = false
 spells c (some xs) = c || none_removed xs
 
-abbrev pub FirstIs : Bool → ℕ → List ℕ → ℕ → Maybe (Maybe ℕ × ℕ) → Type 0
-FirstIs c n t from (Some (v, to)) = First c n t from to v
-FirstIs c n t from None = spells c (each said_variable (split (drop from t))) ≡ false
+abbrev pub FirstIs : Bool → ℕ → List ℕ → ℕ → Answer (Maybe ℕ) → Type 0
+FirstIs c n t from (Ok (v, to)) = First c n t from to v
+FirstIs c n t from (Err f) = (f ≡ Misspelt) × (spells c (each said_variable (split (drop from t))) ≡ false)
 
-pub record ArgumentAt (c : Bool) (n : ℕ) (t : List ℕ) (from : ℕ) (r : Maybe (Maybe ℕ × ℕ)) : Type 0 where
+pub record ArgumentAt (c : Bool) (n : ℕ) (t : List ℕ) (from : ℕ) (r : Answer (Maybe ℕ)) : Type 0 where
   pub is : FirstIs c n t from r
 
 removed_open : (o : Option (List (Option ℕ))) → spells false (followed (some none) o) ≡ false
@@ -97,17 +107,17 @@ or_true : (b : Bool) → b || true ≡ true
 or_true true = refl
 or_true false = refl
 
-pub argument_read : (c : Bool) (n : ℕ) (t : List ℕ) (from : ℕ) {r : Maybe (Maybe ℕ × ℕ)} → r ≡ argument_from c n t from → from ≤ length t → ArgumentAt c n t from r
+pub argument_read : (c : Bool) (n : ℕ) (t : List ℕ) (from : ℕ) {r : Answer (Maybe ℕ)} → r ≡ argument_from c n t from → from ≤ length t → ArgumentAt c n t from r
 unfolding argument_from argument_of each every
 argument_read c n t from q h = rw q (go c (next_comma t from) (comma_here t from h) (said_variable (part t from (next_comma t from))) refl)
   where
-    is : (c : Bool) {to : ℕ} → CommaAt t from to → (v : Maybe ℕ) → Argued c n (part t from to) v → ArgumentAt c n t from (Some (v, to))
+    is : (c : Bool) {to : ℕ} → CommaAt t from to → (v : Maybe ℕ) → Argued c n (part t from to) v → ArgumentAt c n t from (Ok (v, to))
     is c m v a = record { is = record { from_on = m.from_on; within = m.within; splits = comma_split m; argued = a } }
 
     go : (c : Bool) (to : ℕ) → CommaAt t from to → (o : Option (Option ℕ)) → said_variable (part t from to) ≡ o → ArgumentAt c n t from (ending to (argument_for c n o))
-    go c to m none e = record { is = rw (comma_split m, e) }
+    go c to m none e = record { is = (refl, rw (comma_split m, e)) }
     go true to m (some none) e = is true m (Some 255) (record { name = none; says = e; allowed = refl; known = refl })
-    go false to m (some none) e = record { is = rw (comma_split m, e) (removed_open (each said_variable (more t to))) }
+    go false to m (some none) e = record { is = (refl, rw (comma_split m, e) (removed_open (each said_variable (more t to)))) }
     go c to m (some (some v)) e = is c m (pick (ltb v n) (Some v) None) (record { name = some v; says = e; allowed = or_true c; known = refl })
 
 -- ---- one variable more
@@ -194,19 +204,16 @@ pub record Going (c : Bool) (n e : ℕ) (t : List ℕ) (from : ℕ) (m : Maybe A
 pub going_start : (c : Bool) (n e : ℕ) (t : List ℕ) {a : Args} → a ≡ args_of [] → Going c n e t 0 (Some a)
 going_start c n e t h = record { within_text = omega arith; rest = λ l s. rw h (whole_said c n e (each said_variable (split t)) l s) }
 
-module _ {c : Bool} {n e : ℕ} {t : List ℕ} {from : ℕ} {m : Maybe Args} (g : Going c n e t from m) {r : Maybe (Maybe ℕ × ℕ)} (a : r ≡ argument_from c n t from) where
-  here : ArgumentAt c n t from r
-  here = argument_read c n t from a g.within_text
-
-  pub going_stops : {f : Fault} → Err f ≡ ok_or r Misspelt → PassedJudged c n (each said_variable (split t)) e (Err f)
+module _ {c : Bool} {n e : ℕ} {t : List ℕ} {from : ℕ} {m : Maybe Args} (g : Going c n e t from m) where
+  pub going_stops : {f : Fault} → Err f ≡ argument_from c n t from → PassedJudged c n (each said_variable (split t)) e (Err f)
   going_stops q =
-      let z = err_none r Misspelt q in
-      let d = finish_refuses c n e m (each said_variable (split (drop from t))) (rw (z.0) at here.is) in
-      record { same = λ l s. rw (z.1) (sym (ap (answer_in l s) d) ∙ g.rest l s); ends = tt }
+      let z = (argument_read c n t from q g.within_text).is in
+      let d = finish_refuses c n e m (each said_variable (split (drop from t))) z.1 in
+      record { same = λ l s. rw (z.0) (sym (ap (answer_in l s) d) ∙ g.rest l s); ends = tt }
 
-  module _ {v : Maybe ℕ} {to : ℕ} (q : Ok (v, to) ≡ ok_or r Misspelt) {b : Maybe Args} (x : b ≡ with_of m v) where
+  module _ {v : Maybe ℕ} {to : ℕ} (q : Ok (v, to) ≡ argument_from c n t from) {b : Maybe Args} (x : b ≡ with_of m v) where
     first : First c n t from to v
-    first = rw (ok_some r Misspelt q) at here.is
+    first = (argument_read c n t from q g.within_text).is
 
     next : finish c n e m (each said_variable (split (drop from t))) ≡ finish c n e b (each said_variable (more t to))
     unfolding each

@@ -19,7 +19,8 @@ use Rattle.text.specs.Format.{set_of}
 use Rattle.numbers.specs.Answer.{mapped}
 use Rattle.scan.specs.Place.{Answer, answer_in}
 use Rattle.lists.specs.Items.{more, inside, bit_of, part, item_of}
-use Rattle.lists.specs.ItemLaws.{err_none, Itemized, ItemAt, item_next}
+use Rattle.scan.specs.PlaceLaws.{err_none}
+use Rattle.lists.specs.ItemLaws.{Itemized, ItemAt, item_next}
 use Rattle.lists.specs.Sets.{SetJudged}
 use Rattle.lists.specs.TotalLaws.{total, total_first, within_first, total_is}
 

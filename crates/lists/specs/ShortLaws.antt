@@ -15,7 +15,7 @@ use Rattle.text.proofs.NumberLaws.{by_order, all_head, all_tail, spelt_all}
 use Rattle.text.specs.Value.{ascending, same}
 use Rattle.text.specs.Format.{set_of}
 use Rattle.text.specs.Line.{run, stops}
-use Rattle.scan.specs.PlaceLaws.{count_more, count_none, Running, running_start, running_digits, run_turn, value_ends}
+use Rattle.scan.specs.PlaceLaws.{count_none, count_within, Running, running_start, running_digits, run_turn, value_ends}
 use Rattle.numbers.specs.Numerals.{short_of}
 use Rattle.numbers.specs.NumeralLaws.{Spelt, short_few, short_is, short_numeral}
 use Rattle.scan.specs.Place.{Answer}
@@ -35,11 +35,6 @@ digits_up (suc k) (b ∷ s) h a =
     let d = all_head b (take k s) a in
     rw (ne_eqb b 44 (λ q. omega arith)) (ap suc (digits_up k s (omega arith) (all_tail b (take k s) a)) ∙ omega arith)
 
-run_short : (s : List ℕ) → run s ≤ length s
-unfolding run
-run_short [] = omega arith
-run_short (b ∷ s) = cases (stops b) (λ e. rw (count_none b s e) (omega arith)) (λ e. rw (count_more b s e) (omega (arith, run_short s)))
-
 drop_take : (k r : ℕ) (s : List ℕ) → drop k (take r s) ≡ take (r - k) (drop k s)
 drop_take zero r s = let e : r - 0 ≡ r = omega arith in rw e
 drop_take (suc k) zero s = let e : 0 - suc k ≡ 0 = omega arith in rw e
@@ -51,7 +46,7 @@ abbrev whole : List ℕ → List ℕ
 whole u = take (run u) u
 
 whole_length : (u : List ℕ) → length (whole u) ≡ run u
-whole_length u = length-take-le (run u) u (run_short u)
+whole_length u = length-take-le (run u) u (count_within u)
 
 whole_part : (u : List ℕ) (f to : ℕ) → to ≤ run u → part (whole u) f to ≡ part u f to
 whole_part u f to h = rw (drop_take f (run u) u) (take-take (to - f) (run u - f) (drop f u) (omega arith))

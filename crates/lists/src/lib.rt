@@ -51,7 +51,7 @@ fn item_at(t: &[u8], from: usize, lo: u64, below: u64) -> Option<(u32, usize)>
 // ---- lists that ascend
 
 // Items with commas between, each above the one before: spelling and order come before any item's range.
-// The loop goes from comma to comma, by steps that are no count. `within` stands beside `mask`, a sum to which an item outside adds nothing.
+// The loop goes from comma to comma, by steps that are no count. `within` says that no item so far is outside; such an item adds 0 to `mask`, so the sum does not tell.
 fn rising(t: &[u8], e: usize, lo: u64, below: u64) -> Result<(u32, usize), Fault>
     requires { below ≤ 32 }
     ensures { SetJudged false lo below (each numeral (split t.now)) e result }
@@ -229,30 +229,33 @@ pub fn ascending_word(
 
 // ---- a call's variables
 
-// One of a call's variables, none for one that is not declared; or it is misspelt.
-fn argument_value(w: &[u8], closed: bool, vars: u64) -> Option<Option<u8>>
+// One of a call's variables; None is one that is not declared, which is no fault until every item is spelt.
+fn argument_value(w: &[u8], closed: bool, vars: u64) -> Result<Option<u8>, Fault>
     requires { vars ≤ 256 }
     ensures { result ≡ argument_of closed vars w.now }
 {
     if scan::is_word(w, b"-") {
-        return closed.then_some(Some(table::REMOVED));
+        if closed {
+            return Ok(Some(table::REMOVED));
+        }
+        return Err(Fault::Misspelt);
     }
-    let v = digits::number(w)?;
+    let v = digits::number(w).ok_or(Fault::Misspelt)?;
     if v < vars {
-        Some(Some(v as u8))
+        Ok(Some(v as u8))
     } else {
-        Some(None)
+        Ok(None)
     }
 }
 
 // The variable from a place to the next comma, and where it ends.
-fn argument_at(t: &[u8], from: usize, closed: bool, vars: u64) -> Option<(Option<u8>, usize)>
+fn argument_at(t: &[u8], from: usize, closed: bool, vars: u64) -> Result<(Option<u8>, usize), Fault>
     requires { (from ≤ length t.now) × (vars ≤ 256) }
     ensures { result ≡ argument_from closed vars t.now from }
 {
     let to = comma(t, from);
     let v = argument_value(&t[from..to], closed, vars)?;
-    Some((v, to))
+    Ok((v, to))
 }
 
 // One variable more; the count is 5 for any above 4.
@@ -282,7 +285,7 @@ fn no_args() -> Args
 }
 
 // The variables so far and one more; none if any of them is not declared.
-fn with(args: Option<Args>, v: Option<u8>) -> Option<Args>
+fn with_variable(args: Option<Args>, v: Option<u8>) -> Option<Args>
     ensures { result ≡ with_of args v }
 {
     match (args, v) {
@@ -300,8 +303,8 @@ fn passing(t: &[u8], e: usize, closed: bool, vars: u64) -> Result<(Args, usize),
     let mut args = Some(no_args());
     let mut from = 0;
     loop {
-        let (v, to) = argument_at(t, from, closed, vars).ok_or(Fault::Misspelt)?;
-        args = with(args, v);
+        let (v, to) = argument_at(t, from, closed, vars)?;
+        args = with_variable(args, v);
         if t.len() <= to {
             let a = args.ok_or(Fault::Reference)?;
             return Ok((a, e));

@@ -1,5 +1,5 @@
 -- Laws of the readers of operands and variables: each says what a step of the code shows.
-use Rattle.std.specs.Prelude.{ℕ, zero, suc, ◌+◌, ◌-◌, ◌≤◌, ◌<◌, ◌≡◌, Some, None, Ok, Err, List, [], ◌∷◌, Bool, true, false, ℤ, pos, negsuc, ltb, leb, eqb, length, drop, get_or}
+use Rattle.std.specs.Prelude.{ℕ, zero, suc, ◌+◌, ◌-◌, ◌≤◌, ◌<◌, ◌≡◌, Option as Maybe, Some, None, Ok, Err, ok_or, List, [], ◌∷◌, Bool, true, false, ℤ, pos, negsuc, ltb, leb, eqb, length, drop, get_or}
 use Rattle.std.proofs.Math.Path.{refl}
 use Rattle.std.proofs.Math.Logic.{inl, inr}
 use Rattle.std.proofs.Common.{sym, ◌∙◌, ap, arith, add-zero, add-one, drop_of_length-le, length-drop, drop-cons, drop-drop}
@@ -21,7 +21,7 @@ use Rattle.digits.specs.NumeralLaws.{spelt_good, numeral_bad, numeral_good}
 use Rattle.scan.specs.Place.{Answer, Within, AfterKey, RunEnd, ValueAt}
 use Rattle.numbers.specs.Numerals.{NumeralTo, NumeralFault, NumeralAt, short_value_of}
 use Rattle.numbers.specs.NumeralLaws.{short_whole}
-use Rattle.scan.specs.PlaceLaws.{count_more, value_ends, field_found, field_refused}
+use Rattle.scan.specs.PlaceLaws.{err_none, count_more, value_ends, field_found, field_refused}
 use Rattle.operands.specs.Answer.{OperandEnds, OperandWithin, operand_answer, OperandJudged, skip, operand_kind, Judged, value_as, OperandAs, OperandIn, OperandAt, VariableEnds, VariableSaid, VariableIn, VariableAt}
 use Rattle.numbers.specs.Answer.{mapped}
 
@@ -234,9 +234,13 @@ module _ (c : Bool) (n : ℕ) (t : List ℕ) (e : ℕ) {x : Bool} (p : x ≡ sam
   removed_not h k = record { same = λ l s. rw (← p, h, k); ends = tt }
 
 -- and one that is not
-pub variable_bad : {t : List ℕ} → None ≡ number_of t → {c x : Bool} {n e : ℕ} → x ≡ same (bytes "-") t → x ≡ false → VariableSaid c n t e (Err Misspelt)
+pub variable_bad : (c : Bool) (n : ℕ) (t : List ℕ) (e : ℕ) {w : Maybe ℕ} {f : Fault} {x : Bool}
+    → w ≡ number_of t → Err f ≡ ok_or w Misspelt → x ≡ same (bytes "-") t → x ≡ false → VariableSaid c n t e (Err f)
 unfolding said unsaid
-variable_bad {t} d p h = record { same = λ l s. rw (← p, h, numeral_bad t d refl); ends = tt }
+variable_bad c n t e {w} d q p h =
+    let z = err_none w Misspelt q in
+    let b : None ≡ number_of t = sym z.0 ∙ d in
+    record { same = λ l s. rw (z.1, ← p, h, numeral_bad t b refl); ends = tt }
 
 module _ {t : List ℕ} {v : ℕ} (d : Some v ≡ number_of t) {c x : Bool} {n e : ℕ} (p : x ≡ same (bytes "-") t) (h : x ≡ false) (u : n ≤ 256) where
   pub variable_good : v < n → VariableSaid c n t e (Ok (v, e))

@@ -128,9 +128,7 @@ fn variable_value(t: &[u8], e: usize, closed: bool, vars: u64) -> Result<(u8, us
         }
         return Err(Fault::Misspelt);
     }
-    let Some(v) = digits::number(t) else {
-        return Err(Fault::Misspelt);
-    };
+    let v = digits::number(t).ok_or(Fault::Misspelt)?;
     if v < vars {
         Ok((v as u8, e))
     } else {

@@ -1,6 +1,9 @@
 -- Laws of keys and places: each says what a step of the code shows.
-use Rattle.std.specs.Prelude.{ℕ, zero, suc, ◌+◌, ◌-◌, ◌*◌, ◌≤◌, ◌<◌, ◌≡◌, ◌⊎◌, refl, List, [], ◌∷◌, ◌++◌, Result, Ok, Err, true, false, eqb, take, drop, get_or, ltb}
-use Rattle.std.proofs.Common.{sym, ◌∙◌, ap, add-zero, zero-add, drop_of_length-le}
+use Rattle.std.specs.Prelude.{ℕ, zero, suc, ◌+◌, ◌-◌, ◌*◌, ◌≤◌, ◌<◌, ◌≡◌, ◌⊎◌, refl, List, [], ◌∷◌, ◌++◌, Result, Ok, Err, Option, Some, None, ok_or, true, false, eqb, take, drop, get_or, ltb, cond}
+use Rattle.std.proofs.Common.{sym, ◌∙◌, ap, add-zero, zero-add, drop_of_length-le, take_all}
+use Rattle.std.specs.List.{position_or_len}
+use Rattle.std.proofs.lemmas.List.Recursion.{is_position_or_len}
+use Rattle.std.proofs.lemmas.Option.{same_Some}
 use Rattle.std.proofs.Math.Logic.{inl, inr}
 use native.Mathlib.Omega.{arith}
 use Rattle.std.proofs.Math.Numerals.{add-one}
@@ -16,6 +19,15 @@ use Rattle.text.proofs.NumberLaws.{by_order, all_head, all_tail}
 use Rattle.text.specs.Value.{ValueKind}
 use Rattle.text.specs.Line.{Parser, took, refused, After, at as stands, differs, broken, after, after_key, run as count, stops, value_of, field_of}
 use Rattle.scan.specs.Place.{keyed, AfterKey, quad_number, Bytes, QuadAt, RunEnd, value_token, token_after, key_token, ValueAt, TokenAt, FeedAt}
+
+-- ---- from what `ok_or` gives
+pub ok_some : {A : Type 0} (o : Option A) (f : Fault) {v : A} → Ok v ≡ ok_or o f → o ≡ Some v
+ok_some None f q = cc
+ok_some (Some v) f q = cc
+
+pub err_none : {A : Type 0} (o : Option A) (f : Fault) {g : Fault} → Err g ≡ ok_or o f → (o ≡ None) × (g ≡ f)
+err_none None f q = (refl, cc)
+err_none (Some v) f q = cc
 
 -- ---- what stands behind a key, by what its reader answers
 keyed_ok : (a : After) {t : List ℕ} → Ok t ≡ keyed a → stands t ≡ a
@@ -212,20 +224,47 @@ running_digits {s} {at} {from} {to} m l h a =
     record { from = omega (arith, m.from); within = h; same = omega (arith, d, m.same) }
 
 module _ {s : List ℕ} {at i : ℕ} (m : Running s at i) where
-  run_none : count (drop i s) ≡ 0 → RunEnd s at i
-  run_none e = record { same = omega (arith, m.same); from = m.from; within = m.within }
-
   pub run_stops : i < length s → stops (get_or s i 0) ≡ true → RunEnd s at i
-  run_stops h e = run_none (rw (drop-cons s i 0 h) (count_none (get_or s i 0) (drop (suc i) s) e))
-
-  pub run_over : length s ≤ i → RunEnd s at (length s)
-  unfolding count
-  run_over h = let e : i ≡ length s = omega (arith, m.within) in rw e at (run_none (rw (drop_of_length-le s h)))
+  run_stops h e =
+      let z : count (drop i s) ≡ 0 = rw (drop-cons s i 0 h) (count_none (get_or s i 0) (drop (suc i) s) e) in
+      record { same = omega (arith, z, m.same); from = m.from; within = m.within }
 
   pub run_turn : i < length s → stops (get_or s i 0) ≡ false → Running s at (i + 1)
   run_turn h g =
       let e : count (drop i s) ≡ count (drop (i + 1) s) + 1 = rw (add-one (count (drop (i + 1) s)), add-one i, drop-cons s i 0 h) (count_more (get_or s i 0) (drop (suc i) s) g) in
       record { from = omega arith; within = omega arith; same = omega (arith, m.same) }
+
+-- where a stop is looked for finds what is said
+count_position : (s : List ℕ) → count s ≡ position_or_len stops s
+unfolding count
+count_position s = is_position_or_len count stops refl (λ x xs. cases (stops x) (λ e. rw e (count_none x xs e)) (λ e. rw e (omega (arith, count_more x xs e)))) s
+
+pub count_within : (s : List ℕ) → count s ≤ length s
+unfolding count
+count_within [] = omega arith
+count_within (b ∷ s) = cases (stops b) (λ e. rw (count_none b s e) (omega arith)) (λ e. rw (count_more b s e) (omega (arith, count_within s)))
+
+module _ (s : List ℕ) (at : ℕ) (h : at ≤ length s) {u : List ℕ} (w : u ≡ take (length s - at) (drop at s)) {r : Option ℕ}
+    (q : r ≡ cond (ltb (position_or_len stops u) (length u)) (Some (position_or_len stops u)) None) where
+  found : r ≡ cond (ltb (count (drop at s)) (length (drop at s))) (Some (count (drop at s))) None
+  found =
+      let e : u ≡ drop at s = w ∙ take_all (length s - at) (drop at s) (simp length-drop (omega arith)) in
+      rw (count_position (drop at s)) (rw e at q)
+
+  pub run_some : {n : ℕ} → r ≡ Some n → RunEnd s at (at + n)
+  run_some {n} k = cases (ltb (count (drop at s)) (length (drop at s)))
+      (λ l.
+      let f : ◌≡◌ {A = Option ℕ} (Some n) (Some (count (drop at s))) = sym k ∙ (rw l at found) in
+      let e = same_Some n (count (drop at s)) f in
+      record { same = omega (arith, e); from = omega arith; within = omega (arith, e, count_within (drop at s), length-drop at s) })
+      (λ l. absurd (let f : ◌≡◌ {A = Option ℕ} (Some n) None = sym k ∙ (rw l at found) in cc))
+
+  pub run_none : r ≡ None → RunEnd s at (length s)
+  run_none k = cases (ltb (count (drop at s)) (length (drop at s)))
+      (λ l. absurd (let f : ◌≡◌ {A = Option ℕ} None (Some (count (drop at s))) = sym k ∙ (rw l at found) in cc))
+      (λ l.
+      let d = ltb-false (count (drop at s)) (length (drop at s)) l in
+      record { same = omega (arith, d, count_within (drop at s), length-drop at s); from = h; within = omega arith })
 
 -- ---- a value, and a key and a value
 module _ {s : List ℕ} {b e : ℕ} (u : RunEnd s b e) where

@@ -79,12 +79,10 @@ pub fn run(s: &[u8], at: usize) -> usize
     requires { at ≤ length s.now }
     ensures { RunEnd s.now at result }
 {
-    for i in at..s.len() {
-        if stops(s[i]) {
-            return i;
-        }
+    match s[at..].iter().position(|b| stops(*b)) {
+        Some(n) => at + n,
+        None => s.len(),
     }
-    s.len()
 }
 
 // The value at a place: where it begins and ends. One that the text's end breaks off is an early end.
@@ -124,6 +122,7 @@ pub fn stops(b: u8) -> bool
     b == b' ' || b == b'\n'
 }
 
+// Whether bytes are a word: `==`, with a clause that says it as text's `same`, which the laws of words and values cite.
 pub fn is_word(t: &[u8], word: &[u8]) -> bool
     ensures { result ≡ same word.now t.now }
 {

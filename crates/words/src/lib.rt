@@ -41,7 +41,7 @@ pub fn choice_field(
 
 // ---- the kinds of nodes
 
-// Tests one after the other, here and for operations: a table of words would be built at each call.
+// Tests one after the other, here and for operations: in the arm of a byte-string pattern the check knows the length alone, not the word.
 fn kind_named(t: &[u8]) -> Option<NodeKind>
     ensures { result ≡ told (named kind_word kinds t.now) }
 {

@@ -1,7 +1,8 @@
 use Rattle.std.proofs.Common.{rules, arith}
 use Rattle.text.specs.declared.Fault.TheVariants.{Misspelt}
 use Rattle.lists.specs.SetLaws.{item_less, item_from, item_to, item_spelt, first_bad, rising_start, rising_end, rising_outside, rising_bad, rising_order, rising_fits, rising_turn}
-use Rattle.lists.specs.ItemLaws.{ok_some, item_read, item_next}
+use Rattle.lists.specs.ItemLaws.{item_read, item_next}
+use Rattle.scan.specs.PlaceLaws.{ok_some}
 use Rattle.lists.proofs.rising.Goals as goal
 
 pub returns-in_err-b : goal.returns-in_err-b
