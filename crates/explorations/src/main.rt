@@ -17,9 +17,8 @@ fn answer_next(
     second: &mut [u8],
     text: &mut [u8],
 ) -> Option<()> {
-    // a word that is missing or too long is empty
-    let a = parts::next(rt.stdin(), first).unwrap_or(0);
-    let b = parts::next(rt.stdin(), second).unwrap_or(0);
+    let a = parts::word(rt.stdin(), first);
+    let b = parts::word(rt.stdin(), second);
     let n = parts::next(rt.stdin(), text).ok()?;
     print(rt, &first[..a], &second[..b], &text[..n]);
     Some(())

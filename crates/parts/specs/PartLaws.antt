@@ -1,11 +1,13 @@
 -- A part, as the code reads it: a law for each return.
 use Rattle.std.specs.Prelude.{ℕ, ◌+◌, ◌≤◌, ◌<◌, ◌≡◌, refl, Bool, true, false, cond, List, ◌++◌, eqb, length, take, drop, Ok, Err}
+use Rattle.std.specs.declared.result.Result.{Result}
 use Rattle.std.proofs.Common.{◌∙◌, arith, length-take-le, drop_at, le-leb, eq-eqb, ne_eqb}
 use Rattle.std.proofs.Math.Option.{some}
 use Rattle.std.proofs.Math.Seq.{length_front}
 use Rattle.std.proofs.lemmas.Bool.{lt-leb}
+use Rattle.parts.specs.declared.Missing.{Missing}
 use Rattle.parts.specs.declared.Missing.TheVariants.{Long, Cut}
-use Rattle.parts.specs.Parts.{digit_of, size_of, PartOf, Next}
+use Rattle.parts.specs.Parts.{digit_of, size_of, read_of, PartOf, Next, Word}
 
 -- ---- five digits
 
@@ -20,7 +22,7 @@ too_long h l {k} e g = record {
   header = some h;
   part = rw (← e) (record { read = 0; most = omega arith; answer = rw (lt-leb k (length l) g); behind = refl });
   lengths = refl;
-  within = tt;
+  within = omega arith;
 }
 
 -- m is what the first k bytes became
@@ -37,7 +39,10 @@ module _ (h l m : List ℕ) {k j : ℕ} (e : k ≡ size_of h) (g : k ≤ length 
   })
 
   pub cut : j < k → Next l (m ++ drop k l) (Err (Cut k j))
-  cut f = record { header = some h; part = read_in false (ne_eqb j k (λ (q : j ≡ k). omega arith)); lengths = length_front l m k same; within = tt }
+  cut f = record { header = some h; part = read_in false (ne_eqb j k (λ (q : j ≡ k). omega arith)); lengths = length_front l m k same; within = omega (arith, long, length_front l m k same) }
 
   pub whole : k ≤ j → Next l (m ++ drop k l) (Ok k)
   whole f = record { header = some h; part = read_in true (eq-eqb j k (omega (arith, long))); lengths = length_front l m k same; within = omega (arith, length_front l m k same) }
+
+pub word_is : {l m : List ℕ} {r : Result ℕ Missing} {n : ℕ} → Next l m r → n ≡ read_of r → Word l m n
+word_is {r = r} p e = record { part = r; next = p; read = e; within = rw (← e) at p.within }

@@ -1,5 +1,5 @@
 -- A part of standard input, read into a buffer.
-use Rattle.std.specs.Prelude.{ℕ, ◌+◌, ◌*◌, ◌%◌, ◌≤◌, ◌≡◌, cond, List, eqb, leb, length, drop, get_or, Ok, Err, IfOk}
+use Rattle.std.specs.Prelude.{ℕ, ◌+◌, ◌*◌, ◌%◌, ◌≤◌, ◌≡◌, cond, List, eqb, leb, length, drop, get_or, Ok, Err}
 use Rattle.std.specs.declared.result.Result.{Result}
 use Rattle.std.proofs.Math.Option.{Option, none, some}
 use Rattle.parts.specs.declared.Missing.{Missing}
@@ -24,6 +24,13 @@ taken n k = cond (leb k n) k 0
 abbrev pub answer_of : ℕ → ℕ → ℕ → Result ℕ Missing
 answer_of n k j = cond (leb k n) (cond (eqb j k) (Ok k) (Err (Cut k j))) (Err (Long k))
 
+-- how many bytes were read of a part
+abbrev pub read_of : Result ℕ Missing → ℕ
+read_of (Ok n) = n
+read_of (Err Ended) = 0
+read_of (Err (Long k)) = 0
+read_of (Err (Cut k n)) = n
+
 -- No contract can say what standard input gives, so this is free: `read`, the count of the bytes read, up to what the part takes; and those bytes of the
 -- buffer that the part takes. All else is fixed
 pub record PartOf (k : ℕ) (before after : List ℕ) (r : Result ℕ Missing) : Type 0 where
@@ -42,5 +49,12 @@ pub record Next (before after : List ℕ) (r : Result ℕ Missing) : Type 0 wher
   pub header : Option (List ℕ)
   pub part : PartBehind header before after r
   pub lengths : length after ≡ length before
-  -- so a whole part lies in the buffer
-  pub within : IfOk r (λ n. n ≤ length after)
+  -- so what was read lies in the buffer
+  pub within : read_of r ≤ length after
+
+-- n bytes were read of the next part
+pub record Word (before after : List ℕ) (n : ℕ) : Type 0 where
+  pub part : Result ℕ Missing
+  pub next : Next before after part
+  pub read : n ≡ read_of part
+  pub within : n ≤ length after

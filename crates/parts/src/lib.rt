@@ -3,7 +3,7 @@
 #![tactic(auto)]
 
 ghost use Rattle.std.specs.Prelude.{◌≡◌};
-ghost use Rattle.parts.specs.Parts.{digit_of, size_of, Next};
+ghost use Rattle.parts.specs.Parts.{digit_of, size_of, Next, Word};
 
 use std::io::{Print, Stdin, Stdout};
 
@@ -49,6 +49,16 @@ pub fn next(mut input: Stdin, buffer: &mut [u8]) -> Result<usize, Missing>
         return Err(Missing::Cut(said, len));
     }
     Ok(said)
+}
+
+// Reads the next part, and answers how many bytes were read of it: all of them, those there of one cut short, none of one too long or missing.
+pub fn word(input: Stdin, buffer: &mut [u8]) -> usize
+    ensures { Word buffer.old buffer.new result }
+{
+    match next(input, buffer) {
+        Ok(n) | Err(Missing::Cut(_, n)) => n,
+        Err(_) => 0,
+    }
 }
 
 // Prints the first n bytes of a buffer, if it has as many.

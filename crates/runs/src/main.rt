@@ -34,11 +34,10 @@ fn answer_next(
     fourth: &mut [u8],
     text: &mut [u8],
 ) -> Option<()> {
-    // a word that is missing or too long is empty
-    let a = parts::next(input, first).unwrap_or(0);
-    let b = parts::next(input, second).unwrap_or(0);
-    let c = parts::next(input, third).unwrap_or(0);
-    let d = parts::next(input, fourth).unwrap_or(0);
+    let a = parts::word(input, first);
+    let b = parts::word(input, second);
+    let c = parts::word(input, third);
+    let d = parts::word(input, fourth);
     let n = parts::next(input, text).ok()?;
     print(
         to,
