@@ -125,6 +125,17 @@ fn refused(f: Fault, line: usize) -> Reading
     }
 }
 
+// The same where no procedure is read: the table is made in the answer's place.
+fn unread(r: Refusal) -> Reading
+    ensures { result ≡ reading (bad r.fault r.line) }
+{
+    Reading {
+        number: codes::number(r.fault),
+        line: r.line,
+        table: no_table(),
+    }
+}
+
 // Any bytes: the table, or the number and line of the first fault with a table all 0. The table is filled in its place, late faults
 // are looked for procedure by procedure, and a refusal has a local of its own, so that the table is copied once only, into the answer:
 // so faults are not handed on by `?` from a function that fills the table.
@@ -133,10 +144,7 @@ pub fn read(s: &[u8]) -> Reading
 {
     let (front, start) = match front_of(s) {
         Ok(read) => read,
-        Err(r) => {
-            let bad = refused(r.fault, r.line);
-            return bad;
-        }
+        Err(r) => return unread(r),
     };
     let counts = front.counts;
     let objects = front.objects;
