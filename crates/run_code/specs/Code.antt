@@ -11,7 +11,7 @@ use Rattle.table.specs.declared.Node.TheVariants.{Absent, Start, Set, Test, Read
 use Rattle.table.specs.declared.Queue.{Queue}
 use Rattle.table.specs.declared.Proc.{Proc}
 use Rattle.table.specs.declared.Table.{Table}
-use Rattle.run_code.specs.Numbered.{operation, op_number}
+use Rattle.values.specs.Numbered.{operation, op_number}
 use Rattle.tosses.specs.Tosses.{straight_of}
 use Rattle.run_code.specs.declared.Decoded.{Decoded}
 use Rattle.run_code.specs.Ready.{Placed}

@@ -14,7 +14,7 @@ use Rattle.table.specs.declared.Node.TheVariants.{Absent, Start, Set, Test, Read
 use Rattle.table.specs.declared.Queue.{Queue}
 use Rattle.table.specs.declared.Table.{Table}
 use Rattle.text.specs.Right.{OperandIn}
-use Rattle.run_code.specs.Numbered.{operation, op_number, operation_of}
+use Rattle.values.specs.Numbered.{operation, op_number, operation_of}
 use Rattle.tosses.specs.Tosses.{one_kept, straight_of}
 use Rattle.run_code.specs.Ready.{Placed}
 use Rattle.run_code.specs.Code.{var_of, const_of, bytes_of, consts_of, words_of, byte, operand_of, node_of, caps_of}

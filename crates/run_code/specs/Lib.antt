@@ -1,4 +1,3 @@
-pub mod Numbered
 pub mod Ready
 pub mod ReadyLaws
 pub mod Code

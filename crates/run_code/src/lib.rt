@@ -6,11 +6,12 @@
 ghost use Rattle.std.specs.Prelude.{◌≡◌, ℕ, ◌<◌, ◌≤◌, get_or};
 ghost use Rattle.table.specs.Mask.{pick};
 ghost use Rattle.table.specs.Table.{node_in};
-ghost use Rattle.run_code.specs.Numbered.{operation, op_number};
+ghost use Rattle.values.specs.Numbered.{op_number};
 ghost use Rattle.run_code.specs.Ready.{Placed, Ready};
 ghost use Rattle.run_code.specs.Code.{var_of, const_of, rows_of, decoded_of, bytes_of, words_of, queue_caps, Coded, Worded, takes_of, no_code, no_words, Laid, Room};
 
 use table::{Node, Op, Operand, Proc, Queue, Table};
+pub use values::operation;
 
 // A node's row of bytes and its row of words.
 #[derive(Clone, Copy)]
@@ -19,7 +20,7 @@ pub struct Decoded {
     pub words: [u32; 4],
 }
 
-#[tactic(auto, unfolding(crate::specs::Numbered::op_number))]
+#[tactic(auto, unfolding(values::specs::Numbered::op_number))]
 fn op_number(o: Op) -> u8
     ensures { result ≡ op_number o }
 {
@@ -32,23 +33,6 @@ fn op_number(o: Op) -> u8
         Op::Shr => 5,
         Op::Lt => 6,
         Op::Eq => 7,
-    }
-}
-
-// The operation that a number stands for.
-#[tactic(auto, unfolding(crate::specs::Numbered::operation))]
-pub fn operation(n: u8) -> Op
-    ensures { result ≡ operation n }
-{
-    match n {
-        0 => Op::Add,
-        1 => Op::Sub,
-        2 => Op::And,
-        3 => Op::Or,
-        4 => Op::Xor,
-        5 => Op::Shr,
-        6 => Op::Lt,
-        _ => Op::Eq,
     }
 }
 

@@ -8,7 +8,7 @@ use Rattle.table.specs.Table.{parts, removed, arc_to}
 use Rattle.table.specs.Values.{apply, holds}
 use Rattle.table.specs.declared.Node.{Node}
 use Rattle.machine.specs.Step.{operand_in}
-use Rattle.run_code.specs.Numbered.{operation}
+use Rattle.values.specs.Numbered.{operation}
 use Rattle.run_code.specs.Code.{byte, operand_of, node_of}
 use Rattle.run_code.specs.CodeLaws.{is_set, is_test, is_read}
 use Rattle.run_step.specs.Effects.{sem_of, len_of, stuck_of, goes_to, read_to, pass_of}

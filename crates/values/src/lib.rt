@@ -6,6 +6,7 @@ ghost use Rattle.std.specs.Prelude.{◌≡◌, ◌+ℤ◌, ◌-ℤ◌, bit_and, 
 ghost use Rattle.std.specs.Int.{w32};
 ghost use Rattle.std.proofs.Common.{of_z, to_z};
 ghost use Rattle.table.specs.Values.{wrap, on_bits, shr, truth, eq_z, apply};
+ghost use Rattle.values.specs.Numbered.{operation};
 
 use table::Op;
 
@@ -72,8 +73,9 @@ pub fn eq(a: i32, b: i32) -> i32
     i32::from(a == b)
 }
 
+// What an operation gives for two values.
 #[tactic(auto, using(crate::proofs::Signed::signed), unfolding(table::specs::Values::apply))]
-pub fn apply(op: Op, a: i32, b: i32) -> i32
+pub fn compute(op: Op, a: i32, b: i32) -> i32
     ensures { result ≡ apply op a b }
 {
     match op {
@@ -86,4 +88,28 @@ pub fn apply(op: Op, a: i32, b: i32) -> i32
         Op::Lt => lt(a, b),
         Op::Eq => eq(a, b),
     }
+}
+
+// The operation that a number stands for.
+#[tactic(auto, unfolding(crate::specs::Numbered::operation))]
+pub fn operation(n: u8) -> Op
+    ensures { result ≡ operation n }
+{
+    match n {
+        0 => Op::Add,
+        1 => Op::Sub,
+        2 => Op::And,
+        3 => Op::Or,
+        4 => Op::Xor,
+        5 => Op::Shr,
+        6 => Op::Lt,
+        _ => Op::Eq,
+    }
+}
+
+// The operation by its number.
+pub fn apply(op: u8, a: i32, b: i32) -> i32
+    ensures { result ≡ apply (operation op) a b }
+{
+    compute(operation(op), a, b)
 }
