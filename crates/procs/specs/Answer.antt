@@ -1,7 +1,8 @@
 -- What the readers of procedures answer.
-use Rattle.std.specs.Prelude.{ℕ, zero, suc, ◌+◌, ◌≤◌, ◌≡◌, Bool, true, false, List, ltb, length, drop, Result, Ok, Err, IfOk, MatchResult}
+use Rattle.std.specs.Prelude.{ℕ, zero, suc, ◌+◌, ◌≤◌, ◌≡◌, Bool, true, false, List, ltb, length, drop, Result, Ok, Err, IfOk, IfErr, MatchResult}
 use Rattle.table.specs.Mask.{pick}
 use Rattle.table.specs.declared.Slot.{Slot}
+use Rattle.table.specs.Table.{no_slots}
 use Rattle.table.specs.declared.Proc.{Proc}
 use Rattle.text.specs.Number.{bytes}
 use Rattle.text.specs.Line.{Outcome, took, refused, Parser}
@@ -43,10 +44,11 @@ abbrev pub slots_in : List ℕ → List Slot → Result Reached Refusal → Outc
 slots_in s l (Ok a) = took l a.line (drop a.at s)
 slots_in s l (Err x) = refused x.fault x.line
 
--- the node lines of a procedure
+-- the node lines of a procedure; beside a refusal the slots are all 0
 pub record SlotsAt (c : Judged) (closed : Bool) (s : List ℕ) (at line : ℕ) (l : List Slot) (r : Result Reached Refusal) : Type 0 where
   pub same : slots_in s l r ≡ nodes_of c closed line (drop at s)
   pub within : IfOk r (λ a. a.at ≤ length s)
+  pub blank : IfErr r (λ x. l ≡ no_slots)
   pub lines : MatchResult r (λ a. a.line ≤ line + 32) (λ x. x.line ≤ line + 32)
 
 -- ---- procedures

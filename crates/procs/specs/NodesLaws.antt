@@ -212,6 +212,7 @@ module _ {c : Judged} {closed : Bool} {s : List ℕ} {at line : ℕ} {acc : List
   nodes_end e = record {
     same = from_end closed next o (sym due ∙ e);
     within = o.place;
+    blank = tt;
     lines = omega (arith, o.lines, o.count, o.few);
   }
 
@@ -223,12 +224,13 @@ module _ {c : Judged} {closed : Bool} {s : List ℕ} {at line : ℕ} {acc : List
     nodes_below = omega (arith, within, o.few)
 
     module _ {r : Line} (m : NodeAt c next n s p l r) where
-      pub nodes_stop : {y : Refusal} → r ≡ NotNode y.fault y.line → SlotsAt c closed s at line acc (Err y)
-      nodes_stop {y} q =
+      pub nodes_stop : {y : Refusal} {z : List Slot} → r ≡ NotNode y.fault y.line → z ≡ no_slots → SlotsAt c closed s at line z (Err y)
+      nodes_stop {y} q k =
           let z : y.line ≡ l = node_line_lem m q in
           record {
             same = rw z (from_refused closed next o (sym due ∙ e) (rw b at m) q);
             within = tt;
+            blank = k;
             lines = omega (arith, o.lines, o.count, o.few);
           }
 

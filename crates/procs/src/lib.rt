@@ -83,7 +83,8 @@ fn below(closed: bool, next: u64, n: u64) -> u64
 }
 
 // In open form n lines whose numbers count up from 0; in closed form the first line's number is 0, and numbers ascend strictly.
-// The slots are filled in their place, and `next_node` is called here alone, so that the compiler writes the line reader out in this loop.
+// The slots are filled in their place, and are all 0 again beside a refusal. `next_node` is called here alone, so that the compiler writes
+// the line reader out in this loop.
 fn node_rows(
     s: &[u8],
     at: usize,
@@ -101,6 +102,7 @@ fn node_rows(
     while due(s, p, c.closed, next, n) {
         let row = line_reader::next_node(s, p, l, c, next, below(c.closed, next, n));
         let Line::Node(node, j, e) = row else {
+            *slots = [Slot { node: Node::Absent }; 32];
             return Err(refusal(row));
         };
         let k = j as usize;
