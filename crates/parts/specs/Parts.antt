@@ -39,6 +39,13 @@ pub record PartOf (k : ℕ) (before after : List ℕ) (r : Result ℕ Missing) :
   pub answer : r ≡ answer_of (length before) k read
   pub behind : drop (taken (length before) k) after ≡ drop (taken (length before) k) before
 
+-- what is answered and left in the buffer where a part of k bytes is read
+pub record Bytes (k : ℕ) (before after : List ℕ) (r : Result ℕ Missing) : Type 0 where
+  pub part : PartOf k before after r
+  pub lengths : length after ≡ length before
+  -- so what was read lies in the buffer
+  pub within : read_of r ≤ length after
+
 -- standard input ends before the five bytes, or they say the part's length
 abbrev pub PartBehind : Option (List ℕ) → List ℕ → List ℕ → Result ℕ Missing → Type 0
 PartBehind none before after r = (r ≡ Err Ended) × (after ≡ before)

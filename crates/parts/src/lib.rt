@@ -3,7 +3,7 @@
 #![tactic(auto)]
 
 ghost use Rattle.std.specs.Prelude.{◌≡◌};
-ghost use Rattle.parts.specs.Parts.{digit_of, size_of, Next, Word};
+ghost use Rattle.parts.specs.Parts.{digit_of, size_of, Bytes, Next, Word};
 
 use std::io::{Print, Stdin, Stdout};
 
@@ -32,6 +32,20 @@ fn size(h: [u8; 5]) -> usize
     digit(h[0]) * 10000 + digit(h[1]) * 1000 + digit(h[2]) * 100 + digit(h[3]) * 10 + digit(h[4])
 }
 
+// Reads a part of n bytes to the start of a buffer, and answers n.
+fn bytes(mut input: Stdin, n: usize, buffer: &mut [u8]) -> Result<usize, Missing>
+    ensures { Bytes n buffer.old buffer.new result }
+{
+    if buffer.len() < n {
+        return Err(Missing::Long(n));
+    }
+    let (len, _) = console::fill(&mut input, &mut buffer[..n]);
+    if len < n {
+        return Err(Missing::Cut(n, len));
+    }
+    Ok(n)
+}
+
 // Reads the next part to the start of a buffer, and answers its length.
 pub fn next(mut input: Stdin, buffer: &mut [u8]) -> Result<usize, Missing>
     ensures { Next buffer.old buffer.new result }
@@ -40,15 +54,7 @@ pub fn next(mut input: Stdin, buffer: &mut [u8]) -> Result<usize, Missing>
     if console::fill(&mut input, &mut h).0 < 5 {
         return Err(Missing::Ended);
     }
-    let said = size(h);
-    if buffer.len() < said {
-        return Err(Missing::Long(said));
-    }
-    let (len, _) = console::fill(&mut input, &mut buffer[..said]);
-    if len < said {
-        return Err(Missing::Cut(said, len));
-    }
-    Ok(said)
+    bytes(input, size(h), buffer)
 }
 
 // Reads the next part, and answers how many bytes were read of it: all of them, those there of one cut short, none of one too long or missing.
