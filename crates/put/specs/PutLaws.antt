@@ -1,6 +1,6 @@
 -- Laws of writing: one piece after another, a field, a line.
-use Rattle.std.specs.Prelude.{ℕ, ◌+◌, ◌-◌, ◌/◌, ◌%◌, ◌≤◌, ◌<◌, ◌≡◌, refl, List, [], ◌∷◌, ◌++◌, length, take, drop}
-use Rattle.std.proofs.Common.{sym, ◌∙◌, ap, append_assoc, arith, length-append, take-append-drop, take_at, length-take-le}
+use Rattle.std.specs.Prelude.{ℕ, ◌+◌, ◌-◌, ◌/◌, ◌%◌, ◌≤◌, ◌<◌, ◌≡◌, refl, List, [], ◌∷◌, ◌++◌, length, set, get_or, take, drop}
+use Rattle.std.proofs.Common.{sym, ◌∙◌, ap, append_assoc, arith, add-one, length-append, take-append-drop, take-suc, take_at, length-take-le}
 use Rattle.std.proofs.lemmas.List.Edits.{sets, sets-eq}
 use Rattle.std.proofs.Math.Seq.{length-sets, set_out}
 use Rattle.table.specs.Places.{sets_append, sets_out}
@@ -46,6 +46,19 @@ put_cut {l} {m} {t} {at} {k} {r} h g a =
     let e : at + length (take n t) ≡ length l = omega (arith, length-take-le n t (omega arith)) in
     let b : sets l at t ≡ sets l at (take n t) = ap (sets l at) (sym (take-append-drop n t)) ∙ sets_append (take n t) (drop n t) l at ∙ sets_out (drop n t) (sets l at (take n t)) (at + length (take n t)) (omega (arith, length-sets l at (take n t))) in
     record { few = omega arith; bytes = a.bytes ∙ sym b; same = a.same; next = refl }
+
+-- ---- a text, byte by byte
+
+-- the first i bytes of t stand at their place
+pub record Copying (l : List ℕ) (at : ℕ) (t m : List ℕ) (i : ℕ) : Type 0 where
+  pub within : i ≤ length t
+  pub so_far : m ≡ sets l at (take i t)
+
+pub copying_turn : {l t m : List ℕ} {at i : ℕ} → Copying l at t m i → i < length t → Copying l at t (set m (at + i) (get_or t i 0)) (i + 1)
+copying_turn {l} {t} {m} {at} {i} a h = record {
+  within = omega arith;
+  so_far = rw (add-one i, take-suc t i 0 h, sets_append (take i t) (get_or t i 0 ∷ []) l at, ← a.so_far, length-take-le i t (omega arith));
+}
 
 -- ---- small numbers
 
