@@ -4,7 +4,7 @@ use Rattle.std.proofs.lemmas.Result.{err_from_is_err_and}
 use Rattle.std.proofs.Math.Path.{refl}
 use Rattle.std.proofs.Common.{sym, ◌∙◌, ap, subst, arith, lt-ltb, le-ltb, drop_of_length-le, drop-cons}
 use Rattle.std.proofs.Math.ListN.{drop}
-use Rattle.table.specs.Table.{no_table, no_task, no_sem, no_queue, no_proc, outside, proc_at}
+use Rattle.table.specs.Table.{no_table, no_slot, no_task, no_sem, no_queue, no_proc, outside, proc_at}
 use Rattle.table.specs.declared.Proc.{Proc}
 use Rattle.table.specs.declared.Table.{Table}
 use Rattle.text.specs.declared.Fault.{Fault}
@@ -66,6 +66,32 @@ blank_is i p = rw p (λ ι. record {
   queue = replicate 8 no_queue;
   proc = replicate 8 no_proc;
 })
+
+-- made of slots that are stored into
+pub blank_made : (j : ℕ) → ◌≡◌ {A = Table} (record {
+  trap = 0;
+  closed = false;
+  tasks = 0;
+  procs = 0;
+  sems = 0;
+  queues = 0;
+  task = replicate 4 no_task;
+  sem = replicate 8 no_sem;
+  queue = replicate 8 no_queue;
+  proc = replicate 8 (record { params = 0; vars = 0; nodes = 0; drop = 0; slots = set (replicate 32 no_slot) j no_slot });
+}) no_table
+blank_made j = λ ι. record {
+  trap = 0;
+  closed = false;
+  tasks = 0;
+  procs = 0;
+  sems = 0;
+  queues = 0;
+  task = replicate 4 no_task;
+  sem = replicate 8 no_sem;
+  queue = replicate 8 no_queue;
+  proc = replicate 8 (record { params = 0; vars = 0; nodes = 0; drop = 0; slots = set_blank 32 j no_slot ι });
+}
 
 -- ---- tasks, semaphores and queues
 module _ (closed : Bool) (x : Counts) {s : List ℕ} {at line : ℕ} where

@@ -15,12 +15,14 @@ use rows::{Reached, Refusal};
 use table::{Node, Proc, Queue, Sem, Slot, Table, Task};
 use text::{Fault, Reading};
 
-// A table all 0.
-pub fn no_table() -> Table
+// A table all 0, for any k. It is stored into at two computed places: so it is made and copied in one piece and not slot by slot.
+fn blank_table(k: usize) -> Table
     ensures { result ≡ no_table }
 {
-    let slots = [Slot { node: Node::Absent }; 32];
-    Table {
+    let mut slots = [Slot { node: Node::Absent }; 32];
+    let j = k % 32;
+    slots[j] = Slot { node: Node::Absent };
+    let mut table = Table {
         trap: 0,
         closed: false,
         tasks: 0,
@@ -40,7 +42,17 @@ pub fn no_table() -> Table
             drop: 0,
             slots,
         }; 8],
-    }
+    };
+    let i = k % 4;
+    table.task[i] = Task { top: 0 };
+    table
+}
+
+// A table all 0.
+pub fn no_table() -> Table
+    ensures { result ≡ no_table }
+{
+    blank_table(0)
 }
 
 // The tasks, semaphores and queues.
@@ -111,28 +123,14 @@ fn front_of(s: &[u8]) -> Result<(Front, Reached), Refusal>
     front_rows(s)
 }
 
-// The answer where a fault was found. The table is stored into at a computed place: it is then copied in one piece and not slot by slot.
+// The answer where a fault was found.
 fn refused(f: Fault, line: usize) -> Reading
     ensures { result ≡ reading (bad f line) }
 {
-    let mut table = no_table();
-    let i = line % 4;
-    table.task[i] = Task { top: 0 };
     Reading {
         number: codes::number(f),
         line,
-        table,
-    }
-}
-
-// The same where no procedure is read: the table is made in the answer's place.
-fn unread(r: Refusal) -> Reading
-    ensures { result ≡ reading (bad r.fault r.line) }
-{
-    Reading {
-        number: codes::number(r.fault),
-        line: r.line,
-        table: no_table(),
+        table: blank_table(line),
     }
 }
 
@@ -144,7 +142,10 @@ pub fn read(s: &[u8]) -> Reading
 {
     let (front, start) = match front_of(s) {
         Ok(read) => read,
-        Err(r) => return unread(r),
+        Err(r) => {
+            let bad = refused(r.fault, r.line);
+            return bad;
+        }
     };
     let counts = front.counts;
     let objects = front.objects;

@@ -3,7 +3,7 @@ use Rattle.reader.specs.ReaderLaws.{filled_turn, read_row, read_more, read_task,
 use Rattle.reader.proofs.read.Goals as goal
 
 pub returns-in-Err-proc_row : goal.returns-in-Err-proc_row
-returns-in-Err-proc_row c = read_row c.in-Ok.ensures c.loop-i.invariant c.loop-i-test.true c.in-Err-proc_row.ensures c.refused-bad.ensures
+returns-in-Err-proc_row c = read_row c.in-Ok.ensures c.loop-i.invariant c.loop-i-test.true c.in-Err-proc_row.ensures c.refused-bad-in-Err-proc_row.ensures
 
 pub loop-i-preserved : goal.loop-i-preserved
 loop-i-preserved c = filled_turn c.loop-i.invariant c.loop-i-test.true c.in-Ok-proc_row.ensures
