@@ -6,6 +6,7 @@ use Rattle.std.proofs.Common.{sym, ◌∙◌, ap, subst, arith, lt-ltb, le-ltb, 
 use Rattle.std.proofs.Math.ListN.{drop}
 use Rattle.table.specs.Table.{no_table, no_slot, no_task, no_sem, no_queue, no_proc, outside, proc_at}
 use Rattle.table.specs.declared.Proc.{Proc}
+use Rattle.table.specs.declared.Slot.{Slot}
 use Rattle.table.specs.declared.Table.{Table}
 use Rattle.text.specs.declared.Fault.{Fault}
 use Rattle.text.specs.declared.Fault.TheVariants.{Long, Ended}
@@ -67,8 +68,9 @@ blank_is i p = rw p (λ ι. record {
   proc = replicate 8 no_proc;
 })
 
--- made of slots that are stored into
-pub blank_made : (j : ℕ) → ◌≡◌ {A = Table} (record {
+-- made of the slots l
+abbrev pub blank_with : List Slot → Table
+blank_with l = record {
   trap = 0;
   closed = false;
   tasks = 0;
@@ -78,20 +80,12 @@ pub blank_made : (j : ℕ) → ◌≡◌ {A = Table} (record {
   task = replicate 4 no_task;
   sem = replicate 8 no_sem;
   queue = replicate 8 no_queue;
-  proc = replicate 8 (record { params = 0; vars = 0; nodes = 0; drop = 0; slots = set (replicate 32 no_slot) j no_slot });
-}) no_table
-blank_made j = λ ι. record {
-  trap = 0;
-  closed = false;
-  tasks = 0;
-  procs = 0;
-  sems = 0;
-  queues = 0;
-  task = replicate 4 no_task;
-  sem = replicate 8 no_sem;
-  queue = replicate 8 no_queue;
-  proc = replicate 8 (record { params = 0; vars = 0; nodes = 0; drop = 0; slots = set_blank 32 j no_slot ι });
+  proc = replicate 8 (record { params = 0; vars = 0; nodes = 0; drop = 0; slots = l });
 }
+
+-- slots that are stored into
+pub blank_made : (j : ℕ) → blank_with (set (replicate 32 no_slot) j no_slot) ≡ no_table
+blank_made j = ap blank_with (set_blank 32 j no_slot)
 
 -- ---- tasks, semaphores and queues
 module _ (closed : Bool) (x : Counts) {s : List ℕ} {at line : ℕ} where
